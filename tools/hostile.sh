@@ -624,7 +624,7 @@ try '8,000 fields that clash: check' 5000000 \
     'lines 0 wide.cue:1:1: warning: no document is an instance of #A: nothing may stand under its key "a0"' 'check wide.cue'
 # Each of the 50 faults that are told is mended, and the rest read again.
 { printf '#A: {'; listed 4000 'a%d: {x: 1} & {y: 1}' ', '; printf '}'; } > wide.cue
-try '4,000 fields whose structs are joined: check' 20000000 'holds 2 wide.cue:1:10: error 11: this struct is joined with others' 'check wide.cue'
+try '4,000 fields whose structs are joined: check' 20000000 'holds 2 wide.cue:1:10: error 11: `--profile wide` puts these structs together' 'check wide.cue'
 # Comparisons and documents: an answer, or 17 where a limit is met.
 awk 'BEGIN {
     for (i = 0; i < 999; i++) print "#A" i ": {x: null | #A" i + 1 "}"
@@ -827,6 +827,12 @@ stack=8192
     printf '#P: {#B, #C, #D}\n'
 } > wide.cue
 try 'wide: 64,000 alternatives of three definitions: widen' 0 'error 14' 'widen --profile=wide wide.cue'
+{ printf '#P: '; listed 20000 '{a%d: int}' ' & '; printf '\n'; } > wide.cue
+try 'wide: 20,000 operands put together: widen' 0 'shows a19999: int' 'widen --profile=wide wide.cue'
+{ printf '#P: '; listed 40 '({a%d: int} | {b: int})' ' & '; printf '\n'; } > wide.cue
+try 'wide: 40 operands of two alternatives: widen' 0 'error 14' 'widen --profile=wide wide.cue'
+{ printf '#B: {k: int}\n#P: #B & '; listed 9000 '{a%d: int}' ' & '; printf '\n'; } > wide.cue
+try 'wide: 9,000 operands beside a reference: widen' 0 'error 11 at 22' 'widen --profile=wide wide.cue'
 {
     for name in B C; do printf '#%s: ' $name; listed 70 '{%d: int}' ' | ' | sed "s/{/{$name/g"; printf '\n'; done
     printf '#P: {#B, #C}\n'
@@ -842,7 +848,7 @@ try 'wide: 25,000 literals of one label: widen' 0 'shows a: >0' 'widen --profile
 { printf '#A: {'; many 12000 '{a: #B}, {a: #C}, '; printf '}\n#B: int\n#C: int\n'; } > wide.cue
 try 'wide: 24,000 references of one label: widen' 0 'error 11 at 18' 'widen --profile=wide wide.cue'
 { printf '#A: {'; many 20000 '{a: {}}, '; printf '}\n'; } > wide.cue
-try 'wide: 20,000 structs of one label: widen' 0 'error 11 at 18' 'widen --profile=wide wide.cue'
+try 'wide: 20,000 structs of one label: widen' 0 'error 11 at 9' 'widen --profile=wide wide.cue'
 { printf '#A: {'; listed 20000 '{a%d: {}}' ', '; printf '}\n'; } > wide.cue
 try 'wide: 20,000 structs of other labels: widen' 0 'shows a19999: {}' 'widen --profile=wide wide.cue'
 { printf '#B: {z: int}\n#A: {'; many 50000 '#B, '; printf '}\n'; } > wide.cue

@@ -17,7 +17,8 @@ A fault is a number and a place in the package as it is. Two runs have to tell 8
 The definitions are those at the top of the files, hidden ones among them; those inside of others are parts of these. A definition is taken
 where `export` accepts it as the root of a file that has its declarations, and those of all that it refers to, directly or by others; names
 in comments and texts are no references, and imports and the names of packages are left out. It is asked without further words and with
-`--profile wide`: that has to take what is taken without it, and just those that `taken` names, where there is that file.
+`--profile wide`: that has to take what is taken without it, and just those that `taken` names, where there is that file. Each is asked once
+more by itself, where the definitions that it refers to are structs with any keys, `{...}`: so are the forms of its own text counted alone.
 """
 from __future__ import annotations
 
@@ -38,8 +39,18 @@ NO_NAMES = re.compile(r'//[^\n]*|"(?:[^"\\\n]|\\.)*"')
 # A bracket, or a name that is declared where no bracket is open.
 AT_TOP = re.compile(r"(?P<opens>[{(\[])|(?P<closes>[})\]])|(?:^|,)[ \t]*(?P<name>_?#?[A-Za-z_]\w*)[ \t]*:", re.M)
 IS_DEFINITION = re.compile(r"_?#\w+")
-# How the two lists of definitions in `taken` begin, and the words of each.
-PROFILES = {"default": [], "wide": ["--profile", "wide"]}
+
+
+class Asked(NamedTuple):
+    """How definitions are asked: with which words, and whether each is by itself."""
+
+    words: list[str]
+    is_alone: bool
+
+
+# How the lists of definitions in `taken` begin, and how the definitions of each are asked.
+WIDE = ["--profile", "wide"]
+LISTS = {"default": Asked([], False), "wide": Asked(WIDE, False), "default-alone": Asked([], True), "wide-alone": Asked(WIDE, True)}
 
 
 class Change(NamedTuple):
@@ -265,18 +276,23 @@ class Written:
     def definitions(self) -> list[str]:
         return [name for name in self.declared if IS_DEFINITION.fullmatch(name)]
 
-    def reached(self, root: str) -> list[str]:
-        """The root and the names that it refers to, directly or by others."""
+    def named_in(self, name: str) -> list[str]:
+        """The other names that are declared and stand in the declarations of a name."""
+        text = without_texts("\n".join(self.declared[name]))
+        return [it for it in self.declared if it != name and re.search(rf"(?<![\w#]){re.escape(it)}(?!\w)", text)]
+
+    def source_of(self, root: str, is_alone: bool) -> str:
+        """The declarations of a definition with those of what it refers to, directly or by others, or with a struct for each of these."""
         found = [root]
         for name in found:
-            text = without_texts("\n".join(self.declared[name]))
-            found += [it for it in self.declared if it not in found and re.search(rf"(?<![\w#]){re.escape(it)}(?!\w)", text)]
-        return found
+            found += [it for it in self.named_in(name) if it not in found and not (is_alone and name != root)]
+        lines = [declared for name in (found[:1] if is_alone else found) for declared in self.declared[name]]
+        return "".join(f"{it}\n" for it in lines + [f"{name}: {{...}}" for name in found[1:] if is_alone])
 
-    def is_taken(self, program: str, root: str, words: list[str]) -> bool:
-        """Whether `export` accepts the definition with what it refers to."""
-        source = "".join(f"{declared}\n" for name in self.reached(root) for declared in self.declared[name])
-        run = [program, "export", "--root", root, *words]
+    def is_taken(self, program: str, root: str, asked: Asked) -> bool:
+        """Whether `export` accepts the definition."""
+        source = self.source_of(root, asked.is_alone)
+        run = [program, "export", "--root", root, *asked.words]
         ran = subprocess.run(run, input=source, capture_output=True, encoding="utf-8", timeout=int(os.environ.get("PATIENCE", 20)))
         if ran.returncode not in (0, 2):
             raise Wrong(f"export of {root} ended with status {ran.returncode} and said {ran.stderr!r}")
@@ -284,24 +300,25 @@ class Written:
 
 
 class Taken(NamedTuple):
-    """The definitions of a package, those of them that are taken by each profile, and what is wrong with that."""
+    """The definitions of a package, those of them that are taken for each list, and what is wrong with that."""
 
     definitions: list[str]
-    by_profile: dict[str, list[str]]
+    lists: dict[str, list[str]]
     wrong: list[str]
 
 
 def taken_of(program: str, folder: Path) -> Taken:
     written = Written(folder)
     definitions = written.definitions()
-    by_profile = {profile: [it for it in definitions if written.is_taken(program, it, words)] for profile, words in PROFILES.items()}
-    wrong = [f"{it} is taken without `--profile wide` alone" for it in by_profile["default"] if it not in by_profile["wide"]]
+    lists = {name: [it for it in definitions if written.is_taken(program, it, asked)] for name, asked in LISTS.items()}
+    pairs = [("default", "wide"), ("default-alone", "wide-alone")]
+    wrong = [f"{it} is taken without `--profile wide` alone" for less, more in pairs for it in lists[less] if it not in lists[more]]
     named = folder / "taken"
     for line in named.read_text(encoding="utf-8").splitlines() if named.exists() else []:
-        profile, *names = line.split()
-        if sorted(names) != sorted(by_profile[profile]):
-            wrong.append(f"the {profile} profile takes {' '.join(by_profile[profile])}, and has to take {' '.join(names)}")
-    return Taken(definitions, by_profile, wrong)
+        name, *wanted = line.split()
+        if sorted(wanted) != sorted(lists[name]):
+            wrong.append(f"of the list {name} are taken {' '.join(lists[name])}, and have to be {' '.join(wanted)}")
+    return Taken(definitions, lists, wrong)
 
 
 class Measured(NamedTuple):
@@ -365,7 +382,7 @@ def count_faults(program: str, folders: list[Path]) -> tuple[int, int]:
 def count_definitions(program: str, folders: list[Path]) -> tuple[int, int]:
     """How many definitions are answered well, and how many things are wrong."""
     many = failed = 0
-    sums = dict.fromkeys(PROFILES, 0)
+    sums = dict.fromkeys(LISTS, 0)
     for folder in folders:
         try:
             taken = taken_of(program, folder)
@@ -376,15 +393,16 @@ def count_definitions(program: str, folders: list[Path]) -> tuple[int, int]:
         many, failed = many + len(taken.definitions), failed + len(taken.wrong)
         for it in taken.wrong:
             print(f"{folder.name}: {it}")
-        for profile, names in taken.by_profile.items():
-            sums[profile] += len(names)
-        print(f"{folder.name}: {said_of(len(taken.definitions), {profile: len(names) for profile, names in taken.by_profile.items()})}")
+        counts = {name: len(found) for name, found in taken.lists.items()}
+        sums = {name: sums[name] + count for name, count in counts.items()}
+        print(f"{folder.name}: {said_of(len(taken.definitions), counts)}")
     print(f"all: {said_of(many, sums)}")
     return many, failed + (many == 0)
 
 
 def said_of(many: int, taken: dict[str, int]) -> str:
-    return f"{many} definitions, {taken['default']} of them taken as they were first written, {taken['wide']} with `--profile wide`"
+    whole = f"{taken['default']} of them taken as they were first written, {taken['wide']} with `--profile wide`"
+    return f"{many} definitions, {whole}; by themselves {taken['default-alone']} and {taken['wide-alone']}"
 
 
 def main(program: str, folders: list[Path]) -> int:

@@ -14,8 +14,8 @@
   file for each declaration. Where the model refuses, the program has to. Where it doesn't, `widen --profile wide` has to say of the
   package what `widen` says of the one that the model means: the number of the same refusal, or a text that is read as the same package;
   `export` writes the same schemas, to the byte, and `vet` judges documents as the model does. The program has to refuse by 11 where the
-  model uses a rule that it doesn't take: `&` or a mark in what is embedded, two values of a label that an embedding brings together,
-  literals that are joined. `check` has to tell the same number first.
+  model uses a rule that it doesn't take: `&` with a reference or a mark in what is embedded, two values of a label that an embedding
+  brings together, values of a label and bodies of a definition that are joined. `check` has to tell the same number first.
 
 Numbers are compared in the order of the program's conditions: what can't be embedded (9, 11), then what an embedding brings together
 (11) or too many nodes with it (14), then marks (5), then the package that is meant, where 9 and 10 come before 11. They aren't told
@@ -39,7 +39,7 @@ from pathlib import Path
 
 sys.path.insert(0, str(Path(__file__).resolve().parent))
 from profile_of_cue import Package, admits, is_instance, parsed, text  # noqa: E402
-from widening import MOST_NODES, Alternative, Quoted, Refused, Widening, WideReader, breaks_opening, is_plain, parts, spelled, widened  # noqa: E402
+from widening import MOST_NODES, Alternative, Quoted, Refused, Widening, WideReader, asks_joining, breaks_opening, holds_shut, is_plain, is_shut, parts, spelled, widened  # noqa: E402
 
 ROWS = Path(__file__).resolve().parent / "widening.rows"
 LABELS = ["a", "b", "c"]
@@ -318,7 +318,7 @@ class Sources:
         if form < 0.77:
             return self.disjunction(depth)
         if form < 0.84:
-            return " & ".join(self.operand(depth) for _ in range(2))
+            return " & ".join(self.operand(depth) for _ in range(2)) if self.chance.random() < 0.4 else self.joined(depth - 1)
         if form < 0.95:
             return self.listing(depth)
         return f"({self.value(depth - 1)})"
@@ -349,6 +349,13 @@ class Sources:
     def declaration(self, depth: int) -> str:
         return self.embedded(depth - 1) if self.chance.random() < self.embedded_share else self.field(depth)
 
+    def joined(self, depth: int) -> str:
+        """Literals and disjunctions of literals, joined by `&`."""
+        operands = [self.struct(depth) for _ in range(self.chance.randint(2, 3))]
+        if self.chance.random() < 0.3:
+            operands.append(f"({self.struct(depth)} | {self.struct(depth)})")
+        return " & ".join(operands)
+
     def embedded(self, depth: int) -> str:
         """A definition, a literal, a disjunction or parentheses; a few that can't be embedded, or can't be so far."""
         form = self.chance.random()
@@ -358,8 +365,10 @@ class Sources:
             return self.struct(depth)
         if form < 0.89:
             return " | ".join(self.embedded(depth - 1) for _ in range(self.chance.randint(2, 3)))
-        if form < 0.97:
+        if form < 0.94:
             return f"({self.embedded(depth - 1)})"
+        if form < 0.97:
+            return self.joined(depth - 1)
         if form < 0.985:
             return f"{self.name()} & {self.struct(depth)}"
         return self.chance.choice([f"*{{}} | {self.struct(depth)}", "int", '"x"', "[...int]", f"{self.struct(depth)} | 1"])
@@ -384,7 +393,8 @@ class Sources:
         """The body of a definition: where there are embeddings most are literals and disjunctions of such."""
         form = self.chance.random()
         if self.has_embeddings:
-            return self.value(3) if form < 0.05 else self.struct(3) if name == "#P" or form < 0.8 else f"{self.struct(2)} | {self.struct(2)}"
+            one = self.struct(3) if name == "#P" or form < 0.8 else f"{self.struct(2)} | {self.struct(2)}"
+            return self.value(3) if form < 0.05 else self.joined(2) if form < 0.15 else one
         return self.value(3) if form < 0.3 else self.struct(3) if name == "#P" else self.disjunction(3)
 
     def further_body(self, name: str) -> str:
@@ -423,9 +433,9 @@ class Reading(WideReader):
         self.has_wrong_mark = True
 
 
-# What the model has and the program doesn't take yet. The program refuses the first three by 11 before it looks at marks, and the last
+# What the model has and the program doesn't take yet: the last one where it is no `&`. The program refuses the first three by 11 before it looks at marks, and the last
 # one where it looks whether literals are opened.
-EMBEDDED_CONJUNCTION = "`&` that is embedded"
+EMBEDDED_CONJUNCTION = "`&` with a reference that is embedded"
 EMBEDDED_MARK = "a mark in what is embedded"
 TWO_VALUES = "two values of a label that an embedding brings together"
 JOINED = "literals that are joined"
@@ -448,9 +458,18 @@ class Taken(Widening):
 
     def alternatives(self, it: tuple, copied: frozenset, before: Alternative, reaching: tuple, embedded: bool, brought: tuple = ()) -> list[Alternative] | None:
         found = super().alternatives(it, copied, before, reaching, embedded, brought)
-        if found is not None and embedded and it[0] in ("and", "marked"):
-            self.beyond.add(EMBEDDED_CONJUNCTION if it[0] == "and" else EMBEDDED_MARK)
+        if found is not None and embedded and it[0] == "marked":
+            self.beyond.add(EMBEDDED_MARK)
+        if found is not None and embedded and it[0] == "and" and any(is_shut(part) for part in it[1]):
+            self.beyond.add(EMBEDDED_CONJUNCTION)
         return found
+
+    def conjunction(self, operands: list[tuple], copied: frozenset, brought: tuple) -> tuple:
+        """The program joins operands of `&` where none of them is plain or has a mark."""
+        is_taken = asks_joining(operands) and not any(is_shut(it) or is_plain(it) or has_mark(it) for it in operands)
+        if is_taken and all(self.alternatives(it, copied, Alternative((), False, frozenset()), (), False) is not None for it in operands):
+            return Widening.joined(self, [(it, copied, brought) for it in operands], [])
+        return super().conjunction(operands, copied, brought)
 
     def joined(self, operands: list[tuple], meant: list[tuple]) -> tuple:
         self.beyond.add(JOINED)
@@ -464,14 +483,20 @@ class Taken(Widening):
 
 
 def brings_together(one: Alternative) -> bool:
-    """Two declarations of one label hold literals or references that aren't the same one reference; `[string]` is of every label."""
+    """Two declarations of one label hold literals or references, and one a reference, that isn't the same in both; `[string]` is of every
+    label, and not told apart so far."""
     held = [it for it in one.declarations if not is_plain(it.value)]
     for place, it in enumerate(held):
         for other in held[:place]:
-            is_same = it.value[0] == "ref" and it.value == other.value
-            if "[string]" in (it.mark, other.mark) or it.label == other.label and not is_same:
+            is_apart = (holds_shut(it.value) or holds_shut(other.value)) and not (it.value[0] == "ref" and it.value == other.value)
+            if "[string]" in (it.mark, other.mark) or it.label == other.label and is_apart:
                 return True
     return False
+
+
+def has_mark(it: tuple) -> bool:
+    """A mark stands in an operand, in parentheses or not."""
+    return it[0] == "marked" or it[0] in ("or", "and") and any(has_mark(part) for part in it[1])
 
 
 def references(it: tuple) -> set[str]:

@@ -9,7 +9,8 @@ are tried before code stands on them.
   each embedded expression, and is open where one of them is. A name has one choice in a join, and its declarations stand once, at the
   first place.
 - Where the opening rule refuses a conjunction, the values of a label or the bodies of a definition, the operands are joined in the same
-  way, if each that isn't plain is put together from literals that nothing has closed: no reference and no `close`.
+  way, if each that isn't plain is put together from literals that nothing has closed: no reference and no `close`. Of a conjunction this is
+  asked as it is written, where a literal that embeds something doesn't end with `...`.
 - A field may be missing where its value has a default, which is one marked operand of its disjunction.
 - Refused are: by 5 a mark elsewhere, a second one, and a default beside another declaration that may be absent; by 10 a name that would
   name a field of the literal that it is joined into; by 11 an embedded expression without alternatives, as a definition in itself, what
@@ -178,11 +179,11 @@ def parts(it: tuple) -> list[tuple]:
 
 
 def is_shut(it: tuple) -> bool:
-    """A reference or `close(..)`, or what holds one through `&`, `|` and the embeddings of a literal."""
+    """A reference or `close(..)`, or what holds one through `&` and `|`, or in what a literal embeds at any depth."""
     if it[0] in ("ref", "close"):
         return True
     if it[0] == "struct":
-        return any(is_shut(value) for _label, mark, value in it[1] if mark == "embed")
+        return any(holds_shut(value) for _label, mark, value in it[1] if mark == "embed")
     return it[0] in ("and", "or", "marked") and any(is_shut(part) for part in parts(it))
 
 
@@ -194,6 +195,17 @@ def holds_shut(it: tuple) -> bool:
 def are_opened(it: tuple) -> bool:
     """Each struct literal in it ends with `...`."""
     return (it[0] != "struct" or it[2]) and all(are_opened(part) for part in parts(it))
+
+
+def stays_open(it: tuple) -> bool:
+    """Each struct literal in it ends with `...` as it is written, and embeds nothing."""
+    is_open = it[0] != "struct" or it[2] and all(mark != "embed" for _label, mark, _value in it[1])
+    return is_open and all(stays_open(part) for part in parts(it))
+
+
+def asks_joining(operands: list[tuple]) -> bool:
+    """Several operands of `&` hold a literal or a reference, and not each literal stays open."""
+    return sum(not is_plain(it) for it in operands) > 1 and not all(stays_open(it) for it in operands)
 
 
 def breaks_opening(values: list[tuple]) -> bool:
@@ -408,9 +420,14 @@ class Widening:
     def conjunction(self, operands: list[tuple], copied: frozenset, brought: tuple) -> tuple:
         """A conjunction of what is shut stays: whether it narrows a definition is seen where all is meant."""
         meant = [self.stands_for(it, copied, brought) for it in operands]
-        if not breaks_opening(meant) or any(is_shut(it) for it in operands):
+        if not asks_joining(operands) or any(is_shut(it) for it in operands):
             return ("and", meant)
-        return self.joined([(it, copied, brought) for it in operands], meant)
+        try:
+            return self.joined([(it, copied, brought) for it in operands], meant)
+        except Refused:
+            if breaks_opening(meant):
+                raise
+            return ("and", meant)
 
     def joined(self, operands: list[tuple], meant: list[tuple]) -> tuple:
         """Operands that the opening rule refuses, joined: refused where one of them that isn't plain is shut or has no alternatives."""

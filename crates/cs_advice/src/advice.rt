@@ -3,7 +3,7 @@ use crate::bases::put_not_opened;
 use crate::labels::{field_without, label_over, labels_inside, text_between};
 use crate::names::{put_field_reference, put_unknown};
 use crate::text::{put_around, put_filled, put_tokens};
-use cs_forms::{Form, Found, flaw_of_embedding, said_of_form, said_of_shown};
+use cs_forms::{Form, Found, closed_around, flaw_of_embedding, said_of_form, said_of_shown};
 use cs_grammar::{Sort, Token};
 use cs_sources::{Near, Source, declared_in, end_of, follows_label, separates};
 use cs_text::Written;
@@ -44,6 +44,7 @@ pub fn put_advice(
         Form::EmbeddedStruct => put_embedded_struct(text, near),
         Form::FieldReference => put_field_reference(text, near),
         Form::NotOpened => put_not_opened(text, sources, near),
+        Form::ClosedOperand => put_closed_operand(text, said, near),
         Form::UnknownName | Form::UnknownDefinition => put_unknown(text, shown, said, sources),
         Form::StrayCharacter => text.push_str(said_of_shown(found.form, shown)),
         form => put_around(text, said, shown, said_of_shown(form, shown)),
@@ -192,8 +193,22 @@ fn shown_of_flaw<'a>(
         return Ok(None);
     };
     let shown = source.whole().between(flaw.from, flaw.to).text();
-    let is_shown = !shown.is_empty() && shown.len() <= MOST_SHOWN && !shown.contains('\n');
-    Ok(is_shown.then_some(shown))
+    Ok(is_shown(shown).then_some(shown))
+}
+
+/// Whether a text is shown: it is short and on one line.
+fn is_shown(text: &str) -> bool {
+    !text.is_empty() && text.len() <= MOST_SHOWN && !text.contains('\n')
+}
+
+/// Puts that a definition closed what a struct is joined with: the operand, or its reference alone where that is long.
+fn put_closed_operand(text: &mut String, said: &str, near: Near<'_, '_>) -> Written {
+    let shown = match closed_around(near) {
+        Some((operand, _)) if is_shown(operand.text()) => operand.text(),
+        Some((_, reference)) => reference.here().text,
+        None => "..",
+    };
+    put_filled(text, said, &[shown])
 }
 
 /// Puts what is wrong where something is embedded.

@@ -154,7 +154,7 @@ fn faulty<'a>(
     ensures { IfOk result (λ f. f.checked ≡ Checked.Faulty) }
 {
     let mut lines = String::new(alloc);
-    let sources = sources_of(alloc, named)?;
+    let sources = sources_of(alloc, profile, named)?;
     for fault in faults {
         put_finding(alloc, &mut lines, fault, profile, root, schema, &sources)?;
     }
@@ -169,7 +169,7 @@ fn unfaulty(alloc: Global, package: &Guarded, named: &[Named<'_>]) -> Result<Fin
     let warnings = warned(alloc, package)?;
     let (mut checked, mut lines) = (Checked::Well, String::new(alloc));
     if !warnings.is_empty() {
-        let sources = sources_of(alloc, named)?;
+        let sources = sources_of(alloc, Profile::Wide, named)?;
         let declared = declared_in(alloc, &sources)?;
         for warning in &warnings {
             put_warning(package, warning, &declared, &mut lines)?;

@@ -38,7 +38,7 @@ fn add_source(
         text: text.as_bytes(),
         line: 1,
     };
-    let source = Source::new(alloc, named, 0)?;
+    let source = Source::new(alloc, Profile::Wide, named, 0)?;
     let mut texts = texts_of(alloc, text, &source)?.into_iter();
     for definition in &file.definitions {
         let text = texts.next().flatten();

@@ -20,6 +20,8 @@ pub(crate) fn notes_of_value(
         Expr::And(operands) => notes.all_of = notes_of_each(alloc, operands, texts)?,
         Expr::Or(operands) => notes.any_of = notes_of_each(alloc, operands, texts)?,
         Expr::Paren(inside) => return notes_of_value(alloc, inside, texts),
+        // Nothing but its parentheses is left of `close` where it is widened.
+        Expr::Wide(Wide::Shut { value, .. }) => return notes_of_value(alloc, value, texts),
         // A mark of a default is dropped where it is widened.
         Expr::Wide(Wide::Marked { value, .. }) => return notes_of_value(alloc, value, texts),
         Expr::Wide(Wide::Merged { declarations, .. }) => {

@@ -4,7 +4,7 @@ use Rattle.std.specs.List.{AllByRecursion}
 use Rattle.cs_grammar.specs.declared.ast.FieldMark.{FieldMark}
 use Rattle.cs_grammar.specs.declared.ast.FieldMark.TheVariants.{Regular, Optional, Required, Every}
 use Rattle.cs_grammar.specs.DefaultForms.{IsDefault, AreDefault, AreDefaultFields, IsDefaultEnd, IsDefaultFile}
-use Rattle.cs_grammar.specs.Tree.{Label, Tree, atom, named, reference, conjunction, disjunction, paren, struct, list, wide, marked, merged, Trees, none, more, Fields, no_field, field, End, closed, any, each, body, DefinitionTree, definition, FileTree, file}
+use Rattle.cs_grammar.specs.Tree.{Label, Tree, atom, named, reference, conjunction, disjunction, paren, struct, list, wide, marked, merged, shut, Trees, none, more, Fields, no_field, field, End, closed, any, each, body, DefinitionTree, definition, FileTree, file}
 use Rattle.cs_grammar.specs.Written.{Place, by_itself, of_bar, of_amp, IsWrittenLabel, AreTwo, IsWritten, AreWritten, AreWrittenFields, IsWrittenEnd, IsWrittenDefinition, IsWrittenFile}
 use Rattle.cs_defaults.specs.Leading.{leading, has_default}
 use Rattle.cs_defaults.specs.Unmarked.{optional_if, unmarked, unmarked_each, unmarked_fields, unmarked_end, unmarked_definition, unmarked_file}
@@ -22,6 +22,7 @@ module _ (has : List ℕ → Bool) where
     default (list es end) = (default_each es, default_end end)
     default (wide (marked o e)) = default e
     default (wide (merged o ds opened)) = tt
+    default (wide (shut o e)) = default e
 
     default_each : (es : Trees) → AreDefault (unmarked_each has es)
     default_each none = tt
@@ -69,6 +70,7 @@ module _ (has : List ℕ → Bool) where
     written p (list es end) h = (written_each by_itself es h.0, written_end end h.1)
     written p (wide (marked o e)) h = written p e h
     written p (wide (merged o ds opened)) h = tt
+    written p (wide (shut o e)) h = written by_itself e h
 
     written_each : (p : Place) (es : Trees) → AreWritten p es → AreWritten p (unmarked_each has es)
     written_each p none h = tt

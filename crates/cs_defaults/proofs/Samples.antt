@@ -3,7 +3,7 @@ use Rattle.std.proofs.Common.{◌≡◌, ℕ, false, List, [], ◌∷◌, pos, c
 use Rattle.cs_grammar.specs.Atom as atoms
 use Rattle.cs_grammar.specs.Atom.{integer, text, not_text, bound, null}
 use Rattle.cs_grammar.specs.Spells.{every_label}
-use Rattle.cs_grammar.specs.Tree.{Label, Tree, atom, named, reference, conjunction, disjunction, paren, struct, list, wide, marked, merged, declared, embedded, no_declaration, none, more, Fields, no_field, field, closed, definition, FileTree, file}
+use Rattle.cs_grammar.specs.Tree.{Label, Tree, atom, named, reference, conjunction, disjunction, paren, struct, list, wide, marked, merged, shut, declared, embedded, no_declaration, none, more, Fields, no_field, field, closed, definition, FileTree, file}
 use Rattle.cs_grammar.specs.declared.ast.FieldMark.{FieldMark}
 use Rattle.cs_grammar.specs.declared.ast.FieldMark.TheVariants.{Regular, Optional, Required, Every}
 use Rattle.cs_defaults.specs.Widened.{mark_faults, IsUnmarked}
@@ -107,3 +107,7 @@ reference_beside = refl
 -- `{#B, x: int}`: the literal, which has an embedding
 embedding : mark_faults (only (wide (merged 4 (embedded 5 (reference (codes "B") 6) (declared (label (codes "x")) Regular int no_declaration)) false))) ≡ (0, 4) ∷ []
 embedding = refl
+
+-- `close(*1 | int)`: the mark, as `close` is no value of its own
+called : mark_faults (only (wide (shut 4 (or (star 10 (number 1)) int)))) ≡ (0, 10) ∷ []
+called = refl

@@ -1,6 +1,6 @@
 -- Which values have a default (CUE, default values; that a definition hands its default on where it has one body alone is an own rule).
 use Rattle.std.specs.Prelude.{ℕ, zero, suc, Bool, true, false, List, [], ◌∷◌, if◌then◌else◌}
-use Rattle.cs_grammar.specs.Tree.{Tree, atom, named, reference, conjunction, disjunction, paren, struct, list, wide, marked, merged, Trees, none, more, DefinitionTree, bodies}
+use Rattle.cs_grammar.specs.Tree.{Tree, atom, named, reference, conjunction, disjunction, paren, struct, list, wide, marked, merged, shut, Trees, none, more, DefinitionTree, bodies}
 
 -- how a value comes to a default: not at all, by its own mark, or by a definition that it refers to, each with its place
 pub data Leading : Type 0 where
@@ -12,6 +12,7 @@ pub data Leading : Type 0 where
 abbrev pub or_behind : Tree → Leading → Leading
 or_behind (wide (marked o e)) behind = by_mark o
 or_behind (wide (merged o ds opened)) behind = behind
+or_behind (wide (shut o e)) behind = behind
 or_behind (atom a) behind = behind
 or_behind (named s o) behind = behind
 or_behind (reference s o) behind = behind
@@ -35,7 +36,9 @@ leading (disjunction es) = first_mark es
 leading (paren e) = leading e
 leading (struct o fs opened) = nowhere
 leading (list es end) = nowhere
-leading (wide w) = nowhere
+leading (wide (marked o e)) = nowhere
+leading (wide (merged o ds opened)) = nowhere
+leading (wide (shut o e)) = leading e
 
 -- a definition with one body leads where that one does, and every other one nowhere
 abbrev pub leading_of : List Tree → Leading

@@ -2,7 +2,7 @@
 -- a definition, an element of a list or all keys, parentheses aside, one operand may be marked, and it is a literal.
 use Rattle.std.specs.Prelude.{ℕ, Bool, true, false, ◌&&◌, not, List, [], ◌∷◌, ◌++◌, if◌then◌else◌}
 use Rattle.cs_grammar.specs.Atom.{Atom, top, bottom, null, boolean, integer, text, bound, not_integer, not_text, not_null}
-use Rattle.cs_grammar.specs.Tree.{Tree, atom, named, reference, conjunction, disjunction, paren, struct, list, wide, marked, merged, Trees, none, more, Fields, no_field, field, End, closed, any, each}
+use Rattle.cs_grammar.specs.Tree.{Tree, atom, named, reference, conjunction, disjunction, paren, struct, list, wide, marked, merged, shut, Trees, none, more, Fields, no_field, field, End, closed, any, each}
 
 abbrev pub is_literal_atom : Atom → Bool
 is_literal_atom null = true
@@ -53,6 +53,7 @@ is_marked (struct o fs opened) = false
 is_marked (list es end) = false
 is_marked (wide (marked o e)) = true
 is_marked (wide (merged o ds opened)) = false
+is_marked (wide (shut o e)) = false
 
 -- a literal that is marked
 abbrev pub is_default : Tree → Bool
@@ -66,6 +67,7 @@ is_default (struct o fs opened) = false
 is_default (list es end) = false
 is_default (wide (marked o e)) = is_literal e
 is_default (wide (merged o ds opened)) = false
+is_default (wide (shut o e)) = false
 
 -- where the marks at fault are, in order of the text, in an expression that is a whole value or isn't; a literal with embeddings is one of them,
 -- as files come here without these
@@ -81,6 +83,7 @@ abbrev mutual
   misplaced whole (list es end) = misplaced_each true es ++ misplaced_end end
   misplaced whole (wide (marked o e)) = o ∷ misplaced false e
   misplaced whole (wide (merged o ds opened)) = o ∷ []
+  misplaced whole (wide (shut o e)) = misplaced false e
 
   pub misplaced_each : Bool → Trees → List ℕ
   misplaced_each whole none = []

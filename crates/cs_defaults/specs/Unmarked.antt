@@ -3,7 +3,7 @@
 use Rattle.std.specs.Prelude.{ℕ, Bool, true, false, List, map}
 use Rattle.cs_grammar.specs.declared.ast.FieldMark.{FieldMark}
 use Rattle.cs_grammar.specs.declared.ast.FieldMark.TheVariants.{Regular, Optional, Required, Every}
-use Rattle.cs_grammar.specs.Tree.{Tree, atom, named, reference, conjunction, disjunction, paren, struct, list, wide, marked, merged, bottom, Trees, none, more, Fields, no_field, field, End, closed, any, each, DefinitionTree, definition, FileTree, file, package_name, definitions}
+use Rattle.cs_grammar.specs.Tree.{Tree, atom, named, reference, conjunction, disjunction, paren, struct, list, wide, marked, merged, shut, bottom, Trees, none, more, Fields, no_field, field, End, closed, any, each, DefinitionTree, definition, FileTree, file, package_name, definitions}
 use Rattle.cs_defaults.specs.Leading.{leading, has_default}
 
 abbrev pub optional_if : Bool → FieldMark → FieldMark
@@ -27,6 +27,7 @@ abbrev mutual
   unmarked has (wide (marked o e)) = unmarked has e
   -- never asked for: a literal with embeddings is at fault
   unmarked has (wide (merged o ds opened)) = atom bottom
+  unmarked has (wide (shut o e)) = paren (unmarked has e)
 
   pub unmarked_each : (List ℕ → Bool) → Trees → Trees
   unmarked_each has none = none

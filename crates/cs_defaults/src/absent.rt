@@ -111,7 +111,9 @@ impl Clashes<'_, '_> {
                 self.check_each(front)?;
                 self.check_end(end)
             }
-            Expr::Wide(Wide::Marked { value, .. }) => self.check(value),
+            Expr::Wide(Wide::Marked { value, .. } | Wide::Shut { value, .. }) => {
+                self.check(value)
+            }
             Expr::Top
             | Expr::Bottom
             | Expr::Null

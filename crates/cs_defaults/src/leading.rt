@@ -32,6 +32,7 @@ pub(crate) fn leading(expr: &Expr) -> Lead<'_>
     match expr {
         Expr::Or(operands) => first_mark(operands),
         Expr::Paren(inside) => leading(inside),
+        Expr::Wide(Wide::Shut { value, .. }) => leading(value),
         Expr::Reference { text, at } => Lead::To {
             name: text,
             at: *at,
@@ -50,7 +51,7 @@ pub(crate) fn leading(expr: &Expr) -> Lead<'_>
         | Expr::And(_)
         | Expr::Struct { .. }
         | Expr::List { .. }
-        | Expr::Wide(_) => Lead::Nowhere,
+        | Expr::Wide(Wide::Marked { .. } | Wide::Merged { .. }) => Lead::Nowhere,
     }
 }
 

@@ -79,7 +79,7 @@ fn is_default(expr: &Expr) -> bool
         | Expr::Paren(_)
         | Expr::Struct { .. }
         | Expr::List { .. }
-        | Expr::Wide(Wide::Merged { .. }) => false,
+        | Expr::Wide(Wide::Merged { .. } | Wide::Shut { .. }) => false,
     }
 }
 
@@ -98,6 +98,7 @@ pub(crate) fn check_marks(expr: &Expr, is_whole: bool) -> Result<(), usize>
             check_end(end)
         }
         Expr::Wide(Wide::Marked { at, .. } | Wide::Merged { at, .. }) => Err(*at),
+        Expr::Wide(Wide::Shut { value, .. }) => check_marks(value, false),
         Expr::Top
         | Expr::Bottom
         | Expr::Null

@@ -86,6 +86,10 @@ impl Unmarking<'_, '_> {
             Wide::Marked { value, .. } => self.unmarked(value),
             // Never asked for: a literal with embeddings is at fault.
             Wide::Merged { .. } => Ok(Expr::Bottom),
+            Wide::Shut { value, .. } => {
+                let value = self.unmarked(value)?;
+                Ok(Expr::Paren(Box::new(self.alloc, value)?))
+            }
         }
     }
 

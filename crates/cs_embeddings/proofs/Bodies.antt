@@ -1,5 +1,5 @@
 -- Definitions one after another: the table of their bodies, and the list of their names.
-use Rattle.std.proofs.Common.{◌≡◌, ℕ, ◌+◌, ◌<◌, Bool, true, false, ◌||◌, cond, List, [], ◌∷◌, ◌++◌, Option, Some, None, map, filter, take, drop, length, get_or, refl, sym, ap, ap₂, ◌∙◌, subst, not, string_bytes, Vec, Global, add-one, zero, suc, arith}
+use Rattle.std.proofs.Common.{◌≡◌, ℕ, ◌+◌, ◌<◌, Bool, true, false, ◌||◌, cond, List, [], ◌∷◌, ◌++◌, Option, Some, None, map, filter, take, length, get_or, refl, sym, ap, ap₂, ◌∙◌, subst, not, string_bytes, Vec, Global, add-one, zero, suc, arith}
 use Rattle.std.proofs.Math.Seq.{take-suc}
 use Rattle.std.specs.Borrow.{Bor}
 use Rattle.std.specs.BTreeMap.{BTreeMap, get_by}

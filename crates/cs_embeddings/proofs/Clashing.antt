@@ -1,5 +1,5 @@
 -- What the table of declarations so far tells of the next one.
-use Rattle.std.proofs.Common.{◌≡◌, ℕ, suc, ◌+◌, ◌<◌, Bool, true, false, ◌||◌, ◌&&◌, not, cond, List, [], ◌∷◌, ◌++◌, Option, Some, None, is_some, unwrap_or, map, take, drop, length, get_or, refl, sym, ap, ap₂, ◌∙◌, subst, add-one}
+use Rattle.std.proofs.Common.{◌≡◌, ℕ, ◌+◌, ◌<◌, Bool, true, false, ◌||◌, ◌&&◌, not, cond, List, [], ◌∷◌, ◌++◌, Option, Some, None, is_some, unwrap_or, map, take, drop, length, get_or, refl, sym, ap, ap₂, ◌∙◌, subst}
 use Rattle.std.specs.Borrow.{Bor}
 use Rattle.std.specs.BTreeMap.{BTreeMap, get_by}
 use Rattle.std.specs.Cmp.Lexicographic.{slice_cmp}
@@ -15,8 +15,10 @@ use Rattle.cs_grammar.specs.Tree.{Tree, atom, named, reference, conjunction, dis
 use Rattle.cs_grammar.specs.View.{expr_view}
 use Rattle.cs_grammar.specs.declared.ast.Expr.{Expr}
 use Rattle.cs_embeddings.specs.Alternatives.{Brought}
-use Rattle.cs_embeddings.specs.Clashes.{is_every, is_plain, is_same_reference, differ, held, holds, is_some_place, place_in, clashes_behind}
+use Rattle.cs_embeddings.specs.Clashes.{is_every, is_plain, is_same_reference, are_apart, differ, held, is_some_place, place_in, clashes_behind}
 use Rattle.cs_embeddings.specs.ClashTable.{is_nothing, is_other, TellsFirst, TellsSeen}
+use Rattle.cs_embeddings.specs.Held.{holds}
+use Rattle.cs_embeddings.specs.Shut.{is_shut}
 use Rattle.cs_embeddings.specs.Views.{brought_view}
 use Rattle.cs_embeddings.specs.declared.alternatives.Brought as rust
 use Rattle.cs_embeddings.specs.declared.clashes.Seen.{Seen}
@@ -50,6 +52,37 @@ same_euclid (struct o1 fs1 b1) d x h k = cc
 same_euclid (list es1 end1) d x h k = cc
 same_euclid (wide w1) d x h k = cc
 
+-- a reference is shut
+same_shut : (e f : Tree) → is_same_reference e f ≡ true → is_shut true e ≡ true
+same_shut (reference s o) f h = refl
+same_shut (atom a) f h = cc
+same_shut (named s o) f h = cc
+same_shut (conjunction es) f h = cc
+same_shut (disjunction es) f h = cc
+same_shut (paren e) f h = cc
+same_shut (struct o fs b) f h = cc
+same_shut (list es end) f h = cc
+same_shut (wide w) f h = cc
+
+-- what isn't apart from f isn't apart from one another
+apart_alike : (f d x : Tree) → are_apart f d ≡ false → are_apart f x ≡ false → are_apart d x ≡ false
+apart_alike f d x = by (is_shut true f) (is_shut true d) (is_shut true x) (is_same_reference f d) (is_same_reference f x) (is_same_reference d x) (same_shut f d) (same_shut f x) (same_euclid f d x)
+  where
+    by : (f d x fd fx dx : Bool) → (fd ≡ true → f ≡ true) → (fx ≡ true → f ≡ true) → (fd ≡ true → fx ≡ true → dx ≡ true)
+        → ((f || d) && not fd) ≡ false → ((f || x) && not fx) ≡ false → ((d || x) && not dx) ≡ false
+    by true d x true true dx p q r h k = ap (λ b. (d || x) && not b) (r refl refl) ∙ nothing_and (d || x)
+      where
+        nothing_and : (b : Bool) → (b && false) ≡ false
+        nothing_and true = refl
+        nothing_and false = refl
+    by true d x true false dx p q r h k = cc
+    by true d x false fx dx p q r h k = cc
+    by false d x true fx dx p q r h k = absurd (let g : false ≡ true = p refl in cc)
+    by false d x false true dx p q r h k = absurd (let g : false ≡ true = q refl in cc)
+    by false true x false false dx p q r h k = cc
+    by false false true false false dx p q r h k = cc
+    by false false false false false dx p q r h k = refl
+
 or_nothing : (b : Bool) → (b || false) ≡ b
 or_nothing true = refl
 or_nothing false = refl
@@ -69,14 +102,14 @@ first_true a b c h = or_right a (b || c) (or_left b c h)
 
 every_differ : (before : List Brought) (d : Brought) → is_every d.mark ≡ true → not (is_nothing before) ≡ list_any (λ c. differ c d) before
 every_differ [] d h = refl
-every_differ (c ∷ cs) d h = sym (or_left (differ c d) (list_any (λ c. differ c d) cs) (first_true (is_every c.mark) (is_every d.mark) (bytes_eq c.label.text d.label.text && not (is_same_reference c.value d.value)) h))
+every_differ (c ∷ cs) d h = sym (or_left (differ c d) (list_any (λ c. differ c d) cs) (first_true (is_every c.mark) (is_every d.mark) (bytes_eq c.label.text d.label.text && are_apart c.value d.value) h))
 
 some_every : (before : List Brought) (d : Brought) → list_any (λ c. is_every c.mark) before ≡ true → list_any (λ c. differ c d) before ≡ true
 some_every [] d h = cc
 some_every (c ∷ cs) d h = by (is_every c.mark) (some_every cs d) h
   where
     other : Bool
-    other = is_every d.mark || (bytes_eq c.label.text d.label.text && not (is_same_reference c.value d.value))
+    other = is_every d.mark || (bytes_eq c.label.text d.label.text && are_apart c.value d.value)
 
     by : (b : Bool) → (list_any (λ (c : Brought). is_every c.mark) cs ≡ true → list_any (λ (c : Brought). differ c d) cs ≡ true) → (b || list_any (λ (c : Brought). is_every c.mark) cs) ≡ true → ((b || other) || list_any (λ (c : Brought). differ c d) cs) ≡ true
     by true later k = refl
@@ -92,13 +125,13 @@ other_none : (s : List ℕ) (e : Tree) (before : List Brought) → list_any (λ 
 other_none s e [] h = refl
 other_none s e (c ∷ cs) h =
     let p = or_parts (bytes_eq c.label.text s) (list_any (λ (d : Brought). bytes_eq d.label.text s) cs) h in
-    ap₂ (λ a b. (a && not (is_same_reference c.value e)) || b) p.0 (other_none s e cs p.1)
+    ap₂ (λ a b. (a && are_apart c.value e) || b) p.0 (other_none s e cs p.1)
 
 -- another label
 first_kept : (o : Option (Bor Expr)) (t : List ℕ) (before : List Brought) (d : Brought) → bytes_eq d.label.text t ≡ false → TellsFirst o t before → TellsFirst o t (before ++ d ∷ [])
 first_kept None t before d other told = any_push (λ c. bytes_eq c.label.text t) before d ∙ ap₂ (λ a b. a || b) told other
 first_kept (Some first) t before d other told = λ x.
-    any_push (is_other t x) before d ∙ ap (λ b. list_any (is_other t x) before || (b && not (is_same_reference d.value x))) other ∙ or_nothing (list_any (is_other t x) before) ∙ told x
+    any_push (is_other t x) before d ∙ ap (λ b. list_any (is_other t x) before || (b && are_apart d.value x)) other ∙ or_nothing (list_any (is_other t x) before) ∙ told x
 
 abbrev pub Firsts : Type 0
 Firsts = BTreeMap (Bor (List ℕ)) (Bor Expr)
@@ -121,7 +154,7 @@ module _ (seen : Seen) (before : List Brought) (told : TellsSeen seen before) (d
   differs_some h = sym (some_every before d (sym told.every ∙ h))
 
   module _ (s : List ℕ) (label : d.label.text ≡ s) (one : is_every d.mark ≡ false) where
-    pub differs_first : (first : Bor Expr) → seen.has_every ≡ false → first_at s seen.firsts ≡ Some first → not (is_same_reference (expr_view first.now) d.value) ≡ list_any (λ c. differ c d) before
+    pub differs_first : (first : Bor Expr) → seen.has_every ≡ false → first_at s seen.firsts ≡ Some first → are_apart (expr_view first.now) d.value ≡ list_any (λ c. differ c d) before
     differs_first first none is =
         sym (no_every before d s label (sym told.every ∙ none) one ∙ first_told (first_at s seen.firsts) first s before is (told.firsts none s) d.value)
 
@@ -142,37 +175,30 @@ module _ (seen : Seen) (before : List Brought) (told : TellsSeen seen before) (d
       firsts = λ h t. subst (λ o. TellsFirst o t (before ++ d ∷ [])) (sym (puts t)) (by h t (bytes_eq s t) refl);
     }
       where
-        here : seen.has_every ≡ false → (x : Tree) → list_any (is_other s x) (before ++ d ∷ []) ≡ not (is_same_reference (expr_view e.now) x)
+        here : seen.has_every ≡ false → (x : Tree) → list_any (is_other s x) (before ++ d ∷ []) ≡ are_apart (expr_view e.now) x
         here h x =
             any_push (is_other s x) before d
-            ∙ ap₂ (λ a b. a || (b && not (is_same_reference d.value x))) (other_none s x before (none_told (first_at s seen.firsts) s before none (told.firsts h s))) ((bytes_eq-Decides d.label.text s).1 label)
-            ∙ ap (λ y. not (is_same_reference y x)) (sym is)
+            ∙ ap₂ (λ a b. a || (b && are_apart d.value x)) (other_none s x before (none_told (first_at s seen.firsts) s before none (told.firsts h s))) ((bytes_eq-Decides d.label.text s).1 label)
+            ∙ ap (λ y. are_apart y x) (sym is)
 
         by : seen.has_every ≡ false → (t : List ℕ) (b : Bool) → bytes_eq s t ≡ b → TellsFirst (cond b (Some e) (first_at t seen.firsts)) t (before ++ d ∷ [])
         by h t true f = subst (λ u. TellsFirst (Some e) u (before ++ d ∷ [])) ((bytes_eq-Decides s t).0 f) (here h)
         by h t false f = first_kept (first_at t seen.firsts) t before d (ap (λ u. bytes_eq u t) label ∙ f) (told.firsts h t)
 
-    -- one more of its label, which is the same reference
+    -- one more of its label, which is not apart from the first
     pub add_again : list_any (λ c. differ c d) before ≡ false → is_some (first_at s seen.firsts) ≡ true
         → TellsSeen (record { firsts = seen.firsts; is_empty = false; has_every = seen.has_every }) (before ++ d ∷ [])
     add_again alone there = record { empty = sym (something before d); every = every_kept; firsts = λ h t. by h t (bytes_eq s t) refl }
       where
-        same : (first : Bor Expr) → seen.has_every ≡ false → first_at s seen.firsts ≡ Some first → is_same_reference (expr_view first.now) d.value ≡ true
-        same first h is = from_not (is_same_reference (expr_view first.now) d.value) (differs_first first h is ∙ alone)
-          where
-            from_not : (b : Bool) → not b ≡ false → b ≡ true
-            from_not true k = refl
-            from_not false k = cc
-
-        joined : (first : Bor Expr) → seen.has_every ≡ false → first_at s seen.firsts ≡ Some first → (x : Tree) → list_any (is_other s x) (before ++ d ∷ []) ≡ not (is_same_reference (expr_view first.now) x)
+        joined : (first : Bor Expr) → seen.has_every ≡ false → first_at s seen.firsts ≡ Some first → (x : Tree) → list_any (is_other s x) (before ++ d ∷ []) ≡ are_apart (expr_view first.now) x
         joined first h is x =
             any_push (is_other s x) before d
-            ∙ ap₂ (λ a b. a || (b && not (is_same_reference d.value x))) (first_told (first_at s seen.firsts) first s before is (told.firsts h s) x) ((bytes_eq-Decides d.label.text s).1 label)
-            ∙ merge (is_same_reference (expr_view first.now) x) refl
+            ∙ ap₂ (λ a b. a || (b && are_apart d.value x)) (first_told (first_at s seen.firsts) first s before is (told.firsts h s) x) ((bytes_eq-Decides d.label.text s).1 label)
+            ∙ merge (are_apart (expr_view first.now) x) refl
           where
-            merge : (b : Bool) → is_same_reference (expr_view first.now) x ≡ b → (not b || not (is_same_reference d.value x)) ≡ not b
-            merge true k = ap not (same_euclid (expr_view first.now) d.value x (same first h is) k)
-            merge false k = refl
+            merge : (b : Bool) → are_apart (expr_view first.now) x ≡ b → (b || are_apart d.value x) ≡ b
+            merge true k = refl
+            merge false k = apart_alike (expr_view first.now) d.value x (differs_first first h is ∙ alone) k
 
         at_label : seen.has_every ≡ false → (o : Option (Bor Expr)) → first_at s seen.firsts ≡ o → is_some o ≡ true → TellsFirst o s (before ++ d ∷ [])
         at_label h None is k = cc

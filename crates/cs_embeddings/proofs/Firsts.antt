@@ -1,14 +1,14 @@
 -- What the parts of a list find, one after another, and what is the first of it.
-use Rattle.std.proofs.Common.{◌≡◌, ℕ, suc, ◌+◌, ◌<◌, ◌≤◌, Bool, true, false, cond, List, [], ◌∷◌, ◌++◌, Some, Result, subst, map, drop, length, get_or, slice_get, refl, sym, ap, ◌∙◌}
+use Rattle.std.proofs.Common.{◌≡◌, ℕ, ◌+◌, ◌<◌, ◌≤◌, List, [], ◌∷◌, ◌++◌, Some, Result, subst, map, drop, length, get_or, slice_get, refl, sym, ap, ◌∙◌}
 use Rattle.std.proofs.lemmas.List.{map-append, append_assoc}
-use Rattle.cs_grammar.specs.View.{expr_view, exprs_view, field_view, fields_view, SeenDeclaration, field_seen, embedding_seen, declaration_view, declarations_view, declarations_of}
-use Rattle.cs_grammar.specs.Tree.{DefinitionTree, Tree}
+use Rattle.cs_grammar.specs.View.{expr_view, exprs_view, fields_view, SeenDeclaration, field_seen, embedding_seen, declaration_view, declarations_view, declarations_of}
+use Rattle.cs_grammar.specs.Tree.{DefinitionTree}
 use Rattle.cs_grammar.specs.declared.ast.Declaration.{Declaration}
 use Rattle.cs_grammar.specs.declared.ast.Expr.{Expr}
 use Rattle.cs_grammar.specs.declared.ast.Field.{Field}
 use Rattle.cs_grammar.proofs.Views.{view-value}
 use Rattle.cs_embeddings.specs.Checks.{flaws_seen, Finds}
-use Rattle.cs_embeddings.specs.Flaws.{Flaw, unknown, unknown_in, unknown_each, flaws, flaws_here, flaws_fields, flaws_declarations}
+use Rattle.cs_embeddings.specs.Flaws.{unknown, unknown_in, unknown_each, flaws, flaws_here, flaws_fields, flaws_declarations}
 use Rattle.cs_embeddings.proofs.Walks.{at_place, drop_all}
 
 -- the first of the first part

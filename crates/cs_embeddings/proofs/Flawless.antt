@@ -1,7 +1,7 @@
 -- Where nothing is at fault, each expression that is embedded can be embedded.
-use Rattle.std.proofs.Common.{◌≡◌, ℕ, suc, ◌+◌, Bool, true, false, ◌&&◌, List, [], ◌∷◌, ◌++◌, map, refl, sym, ap, ap₂, ◌∙◌, cond}
+use Rattle.std.proofs.Common.{◌≡◌, ℕ, suc, Bool, true, false, ◌&&◌, List, [], ◌∷◌, ◌++◌, map, refl, cond}
 use Rattle.std.specs.List.{AllByRecursion, flat_map}
-use Rattle.cs_grammar.specs.Tree.{Tree, atom, named, reference, conjunction, disjunction, paren, struct, list, wide, marked, merged, Declarations, no_declaration, declared, embedded, Trees, none, more, Fields, no_field, field, End, closed, any, each, DefinitionTree, body, FileTree, definitions}
+use Rattle.cs_grammar.specs.Tree.{Tree, atom, named, reference, conjunction, disjunction, paren, struct, list, wide, marked, merged, shut, Declarations, no_declaration, declared, embedded, Trees, none, more, Fields, no_field, field, End, closed, any, each, DefinitionTree, body, FileTree, definitions}
 use Rattle.cs_embeddings.specs.Alternatives.{most_steps}
 use Rattle.cs_embeddings.specs.Checks.{AreWell}
 use Rattle.cs_embeddings.specs.Embedded.{can_be_embedded, embeds_well, embed_well, fields_embed_well, declarations_embed_well, end_embeds_well}
@@ -44,6 +44,7 @@ module _ (ds : List DefinitionTree) where
     flawless_well (list es end) h = both_true (embed_well can es) (end_embeds_well can end) (flawless_each es (first_empty (flaws_each ds es) (flaws_end ds end) h)) (flawless_end end (second_empty (flaws_each ds es) (flaws_end ds end) h))
     flawless_well (wide (marked o e)) h = flawless_well e h
     flawless_well (wide (merged o cs b)) h = flawless_declarations cs h
+    flawless_well (wide (shut o e)) h = flawless_well e h
 
     pub flawless_each : (es : Trees) → flaws_each ds es ≡ [] → embed_well can es ≡ true
     flawless_each none h = refl

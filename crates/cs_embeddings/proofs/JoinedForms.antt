@@ -1,18 +1,29 @@
 -- What each form of an expression stands for, from what its parts stand for.
-use Rattle.std.proofs.Common.{◌≡◌, ℕ, suc, ◌+◌, ◌≤◌, Bool, true, false, List, ◌++◌, sym, ap, ap₂, ◌∙◌, subst, arith}
-use Rattle.std.proofs.lemmas.Bool.{and_parts}
+use Rattle.std.proofs.Common.{◌≡◌, ℕ, suc, ◌+◌, ◌≤◌, Bool, true, false, not, ◌&&◌, List, ◌++◌, Result, sym, ap, ap₂, ◌∙◌, subst, arith}
+use Rattle.std.proofs.lemmas.Bool.{and_parts, cond-true, cond-false}
+use Rattle.std.specs.List.{flat_map}
 use Rattle.cs_grammar.specs.Height.{height, height_all, height_fields, height_end}
 use Rattle.cs_grammar.specs.Tree.{Tree, Trees, Fields, End, conjunction, disjunction, struct, list, wide, marked, DefinitionTree}
 use Rattle.cs_embeddings.proofs.Marked.{well_behind, marks_joined, marks_high, marks_large, marks_clashes}
 use Rattle.cs_embeddings.proofs.Parts.{no_room_left, no_room_right, no_room_inside, made_inside}
 use Rattle.cs_embeddings.specs.Alternatives.{at, most_steps}
-use Rattle.cs_embeddings.specs.Clashes.{clashes_with, clashes_each, clashes_fields, clashes_end, clashes_value}
+use Rattle.cs_embeddings.specs.Clashes.{clashes_with, clashes_each, clashes_fields, clashes_end, clashes_of, clashes_value}
 use Rattle.cs_embeddings.specs.Embedded.{can_be_embedded, embeds_well, embed_well, fields_embed_well, end_embeds_well}
-use Rattle.cs_embeddings.specs.Joined.{joined_with, joined_each, joined_fields, joined_end, joined_value}
-use Rattle.cs_embeddings.specs.Made.{IsNoRoom, IsMade, IsBelow, behind_marks, with_marks}
+use Rattle.cs_embeddings.specs.Joined.{joined_with, joined_each, joined_fields, joined_end, joined_value, one_of}
+use Rattle.cs_embeddings.specs.Held.{first_place}
+use Rattle.cs_embeddings.specs.United.{are_several, unites, united}
+use Rattle.cs_embeddings.specs.Shut.{are_open}
+use Rattle.cs_grammar.specs.declared.ast.Expr.{Expr}
+use Rattle.cs_embeddings.specs.Made.{IsNoRoom, IsMade, Makes, IsBelow, behind_marks, with_marks}
 use Rattle.cs_embeddings.specs.Size.{size, sizes, size_fields, size_end}
 use Rattle.cs_embeddings.specs.declared.fault.EmbeddingFault.{EmbeddingFault}
 use Rattle.cs_embeddings.specs.declared.joined.Room.{Room}
+
+-- operands that are put together can be embedded
+pub united_can : (ds : List DefinitionTree) (es : Trees) → unites ds es ≡ true → can_be_embedded ds most_steps (conjunction es) ≡ true
+united_can ds es h =
+    let can = can_be_embedded ds most_steps (conjunction es) in
+    (and_parts (not (are_open es)) can (and_parts (are_several es) (not (are_open es) && can) h).1).1
 
 module _ (ds : List DefinitionTree) (n : ℕ) where
   abbrev pub inner : Tree → Bool
@@ -72,6 +83,42 @@ module _ (ds : List DefinitionTree) (n : ℕ) where
   FieldsMade room nodes rest x fs = IsMade room.levels nodes rest (height_fields (fields_meant room fs)) (size_fields (fields_meant room fs)) x
       (fields_meant room fs) (fields_found room fs)
 
+  -- operands of `&` that stay, and those that are put together
+  staying_meant : (room : Room) (es : Trees) → unites ds es ≡ false
+      → meant room (conjunction es) ≡ conjunction (joined_each ds (joined_value ds n) false room.place es)
+  staying_meant room es stay = cond-false (unites ds es) _ _ stay
+
+  staying_found : (room : Room) (es : Trees) → unites ds es ≡ false → found room (conjunction es) ≡ each_found room es
+  staying_found room es stay = cond-false (unites ds es) _ _ stay
+
+  united_meant : (room : Room) (es : Trees) → unites ds es ≡ true
+      → meant room (conjunction es) ≡ one_of (joined_value ds n) room.is_whole (at room.place (first_place es)) (united ds room.place es)
+  united_meant room es unite = cond-true (unites ds es) _ _ unite
+
+  united_found : (room : Room) (es : Trees) → unites ds es ≡ true
+      → found room (conjunction es) ≡ flat_map (clashes_of (clashes_value ds n) false) (united ds room.place es)
+  united_found room es unite = cond-true (unites ds es) _ _ unite
+
+  module _ (room : Room) (es : Trees) (unite : unites ds es ≡ true) where
+    abbrev united_one : Tree
+    united_one = one_of (joined_value ds n) room.is_whole (at room.place (first_place es)) (united ds room.place es)
+
+    abbrev united_clashes : List ℕ
+    united_clashes = flat_map (clashes_of (clashes_value ds n) false) (united ds room.place es)
+
+    pub united_unmade : (e : EmbeddingFault) (file nodes : ℕ) → IsNoRoom e file room.levels nodes (height united_one) (size united_one) united_clashes
+        → IsUnmade e file room nodes (conjunction es)
+    united_unmade e file nodes h =
+        let t = meant room (conjunction es) in
+        subst (λ cs. IsNoRoom e file room.levels nodes (height t) (size t) cs) (sym (united_found room es unite))
+        (subst (λ u. IsNoRoom e file room.levels nodes (height u) (size u) united_clashes) (sym (united_meant room es unite)) h)
+
+    pub united_makes : (r : Result Expr EmbeddingFault) (file nodes rest : ℕ) → Makes r file room.levels nodes rest united_one united_clashes
+        → Makes r file room.levels nodes rest (meant room (conjunction es)) (found room (conjunction es))
+    united_makes r file nodes rest h =
+        subst (Makes r file room.levels nodes rest (meant room (conjunction es))) (sym (united_found room es unite))
+        (subst (λ u. Makes r file room.levels nodes rest u united_clashes) (sym (united_meant room es unite)) h)
+
   -- the room for the parts
   module _ (room inside : Room) (nodes mid : ℕ) (goes : IsBelow room inside × (suc mid ≡ nodes)) (deep : room.levels ≤ n) where
     abbrev parts : Bool → Room
@@ -94,8 +141,12 @@ module _ (ds : List DefinitionTree) (n : ℕ) where
         operands_unmade well = no_room_inside e file room.levels inside.levels nodes mid _ _ _ goes.0.levels goes.1
             (at_parts false r set (λ q. EachUnmade e file q mid es) (each well))
 
-        pub and_unmade : t ≡ conjunction es → IsUnmade e file room nodes t
-        and_unmade is = subst (IsUnmade e file room nodes) (sym is) (operands_unmade (subst (λ u. embeds_well inner u ≡ true) is embeds))
+        pub and_unmade : t ≡ conjunction es → unites ds es ≡ false → IsUnmade e file room nodes t
+        and_unmade is stay =
+            let h = operands_unmade (subst (λ u. embeds_well inner u ≡ true) is embeds) in
+            subst (IsUnmade e file room nodes) (sym is)
+            (subst (λ cs. IsNoRoom e file room.levels nodes (height (meant room (conjunction es))) (size (meant room (conjunction es))) cs) (sym (staying_found room es stay))
+            (subst (λ u. IsNoRoom e file room.levels nodes (height u) (size u) (each_found room es)) (sym (staying_meant room es stay)) h))
 
         pub or_unmade : t ≡ disjunction es → IsUnmade e file room nodes t
         or_unmade is = subst (IsUnmade e file room nodes) (sym is) (operands_unmade (subst (λ u. embeds_well inner u ≡ true) is embeds))
@@ -104,10 +155,14 @@ module _ (ds : List DefinitionTree) (n : ℕ) where
         operands_made : embed_well inner es ≡ true → EachMade (parts false) mid rest x es
         operands_made well = at_parts false r set (λ q. EachMade q mid rest x es) (each well)
 
-        pub and_made : t ≡ conjunction es → y ≡ conjunction x → IsMadeOf room nodes rest y t
-        and_made is made = subst (IsMadeOf room nodes rest y) (sym is)
-            (made_inside room.levels inside.levels goes.0.levels mid rest _ _ x _ _ conjunction y made nodes goes.1
-            (operands_made (subst (λ u. embeds_well inner u ≡ true) is embeds)))
+        pub and_made : t ≡ conjunction es → unites ds es ≡ false → y ≡ conjunction x → IsMadeOf room nodes rest y t
+        and_made is stay made =
+            let h = made_inside room.levels inside.levels goes.0.levels mid rest _ _ x _ _ conjunction y made nodes goes.1
+            (operands_made (subst (λ u. embeds_well inner u ≡ true) is embeds)) in
+            subst (IsMadeOf room nodes rest y) (sym is)
+            (subst (λ cs. IsMade room.levels nodes rest (height (meant room (conjunction es))) (size (meant room (conjunction es))) y (meant room (conjunction es)) cs)
+            (sym (staying_found room es stay))
+            (subst (λ u. IsMade room.levels nodes rest (height u) (size u) y u (each_found room es)) (sym (staying_meant room es stay)) h))
 
         pub or_made : t ≡ disjunction es → y ≡ disjunction x → IsMadeOf room nodes rest y t
         or_made is made = subst (IsMadeOf room nodes rest y) (sym is)

@@ -188,12 +188,12 @@ module _ (value : Option ℕ → Tree → Tree) (inner : Option ℕ → Tree →
         (flat_map (λ d. inner d.place d.value) (map brought_view bs))
     brought_unmade e file h = rw (brought_high bs, brought_large bs, clashes_brought bs) h
 
-  module _ (o : ℕ) where
+  module _ (o : ℕ) (embeds : Bool) where
     abbrev pub own_literal : rust.Alternative → Tree
     own_literal a = literal_of value o (alternative_view a)
 
     abbrev pub literal_clashes : rust.Alternative → List ℕ
-    literal_clashes a = clashes_of inner (alternative_view a)
+    literal_clashes a = clashes_of inner embeds (alternative_view a)
 
     abbrev pub AreLiterals : ℕ → ℕ → ℕ → List rust.Alternative → List Expr → Type 0
     AreLiterals levels nodes rest xs ys = AreMade expr_view own_literal (λ a. height (own_literal a))
@@ -211,14 +211,14 @@ module _ (value : Option ℕ → Tree → Tree) (inner : Option ℕ → Tree →
     literal_large [] = refl
     literal_large (a ∷ xs) = ap (λ s. size (own_literal a) + s) (literal_large xs)
 
-    clashes_literals : (xs : List rust.Alternative) → flat_map (clashes_of inner) (alternatives_view xs) ≡ flat_map literal_clashes xs
+    clashes_literals : (xs : List rust.Alternative) → flat_map (clashes_of inner embeds) (alternatives_view xs) ≡ flat_map literal_clashes xs
     clashes_literals [] = refl
     clashes_literals (a ∷ xs) = ap (λ os. literal_clashes a ++ os) (clashes_literals xs)
 
     module _ (xs : List rust.Alternative) (levels nodes : ℕ) where
       pub literals_made : (rest : ℕ) (ys : List Expr) → AreLiterals levels nodes rest xs ys
           → let meant = literals_of value o (alternatives_view xs) in IsMade levels nodes rest (height_all meant) (sizes meant) (exprs_view ys) meant
-          (flat_map (clashes_of inner) (alternatives_view xs))
+          (flat_map (clashes_of inner embeds) (alternatives_view xs))
       literals_made rest ys h = record {
         made = ap trees_of h.made ∙ literal_trees xs;
         low = rw (literal_high xs) h.low;
@@ -229,5 +229,5 @@ module _ (value : Option ℕ → Tree → Tree) (inner : Option ℕ → Tree →
       pub literals_unmade : (e : EmbeddingFault) (file : ℕ)
           → IsNoRoom e file levels nodes (highest (λ a. height (own_literal a)) xs) (total (λ a. size (own_literal a)) xs) (flat_map literal_clashes xs)
           → let meant = literals_of value o (alternatives_view xs) in IsNoRoom e file levels nodes (height_all meant) (sizes meant)
-          (flat_map (clashes_of inner) (alternatives_view xs))
+          (flat_map (clashes_of inner embeds) (alternatives_view xs))
       literals_unmade e file h = rw (literal_high xs, literal_large xs, clashes_literals xs) h

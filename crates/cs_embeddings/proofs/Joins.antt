@@ -1,34 +1,36 @@
 -- What joining does to each form of expression, and to each declaration, body or operand in turn.
-use Rattle.std.proofs.Common.{◌≡◌, ℕ, zero, suc, ◌+◌, ◌<◌, ◌≤◌, Bool, true, false, List, [], ◌∷◌, ◌++◌, map, length, get_or, drop, Option, Some, refl, sym, ap, ap₂, ◌∙◌, subst, arith}
+use Rattle.std.proofs.Common.{◌≡◌, ℕ, zero, suc, ◌+◌, ◌<◌, ◌≤◌, Bool, true, false, not, List, [], ◌∷◌, ◌++◌, map, length, get_or, drop, Option, Some, refl, sym, ap, ap₂, ◌∙◌, subst, arith}
 use Rattle.std.proofs.lemmas.Bool.{and_parts, both_ways, cond-true, cond-false}
 use Rattle.std.proofs.lemmas.List.{drop_more}
 use Rattle.std.specs.Borrow.{Bor}
 use Rattle.std.specs.List.{flat_map, list_all}
-use Rattle.cs_grammar.specs.Tree.{Tree, atom, named, reference, conjunction, disjunction, paren, struct, list, wide, marked, merged, Declarations, Trees, Fields, DefinitionTree, bodies}
+use Rattle.cs_grammar.specs.Tree.{Tree, atom, named, reference, conjunction, disjunction, paren, struct, list, wide, marked, merged, shut, Declarations, Trees, Fields, DefinitionTree, bodies}
 use Rattle.cs_grammar.specs.View.{expr_view, exprs_view, field_view, declaration_view, declarations_view, declarations_of, SeenDeclaration, field_seen, embedding_seen}
 use Rattle.cs_grammar.specs.declared.ast.Declaration as Declared
 use Rattle.cs_grammar.specs.declared.ast.Expr.{Expr}
 use Rattle.cs_grammar.specs.declared.ast.Field.{Field}
 use Rattle.cs_grammar.proofs.Views.{view-declared-field, view-embedded}
-use Rattle.cs_embeddings.specs.Alternatives.{Alternative, with_fields, opened_if, meets, meet, at, join_declarations, join_bodies, join_operands, join_definition, alternatives}
+use Rattle.cs_embeddings.specs.Alternatives.{Alternative, with_fields, opened_if, meets, meet, at, join_declarations, join_bodies, join_operands, join_all, join_definition, alternatives}
 use Rattle.cs_embeddings.specs.Checks.{bodies_view}
 use Rattle.cs_embeddings.specs.Embedded.{has_operand, all_embedded, embeds_well, declarations_embed_well, can_be_embedded}
+use Rattle.cs_embeddings.specs.Shut.{some_shut}
 use Rattle.cs_embeddings.specs.Views.{weight_of, with_field, IsTooMuch}
 use Rattle.cs_embeddings.specs.declared.fault.EmbeddingFault.{EmbeddingFault}
-use Rattle.cs_embeddings.proofs.Weights.{too_much_of_more, Grows, declarations_grow, bodies_grow, map_grows, meet_keeps, weight-append}
+use Rattle.cs_embeddings.proofs.Weights.{too_much_of_more, Grows, declarations_grow, bodies_grow, all_grow, map_grows, meet_keeps, weight-append}
 
 -- whether literals are put together to it, by its form alone
 abbrev pub is_put_together : Tree → Bool
 is_put_together (atom a) = false
 is_put_together (named s o) = false
 is_put_together (reference s o) = true
-is_put_together (conjunction es) = false
+is_put_together (conjunction es) = true
 is_put_together (disjunction es) = true
 is_put_together (paren e) = true
 is_put_together (struct o fs b) = true
 is_put_together (list es end) = false
 is_put_together (wide (marked o e)) = false
 is_put_together (wide (merged o cs b)) = true
+is_put_together (wide (shut o e)) = false
 
 module _ (ds : List DefinitionTree) where
   pub no_steps : (n : ℕ) (e : Tree) → n ≡ 0 → can_be_embedded ds n e ≡ true → ⊥
@@ -41,12 +43,13 @@ module _ (ds : List DefinitionTree) where
   by_form (suc n) (atom a) h = refl
   by_form (suc n) (named s o) h = refl
   by_form (suc n) (reference s o) h = absurd (both_ways true h refl)
-  by_form (suc n) (conjunction es) h = refl
+  by_form (suc n) (conjunction es) h = absurd (both_ways true h refl)
   by_form (suc n) (disjunction es) h = absurd (both_ways true h refl)
   by_form (suc n) (paren e) h = absurd (both_ways true h refl)
   by_form (suc n) (struct o fs b) h = absurd (both_ways true h refl)
   by_form (suc n) (list es end) h = refl
   by_form (suc n) (wide (marked o e)) h = refl
+  by_form (suc n) (wide (shut o e)) h = refl
   by_form (suc n) (wide (merged o cs b)) h = absurd (both_ways true h refl)
 
   pub no_form : (n : ℕ) (e : Tree) → is_put_together e ≡ false → can_be_embedded ds n e ≡ true → ⊥
@@ -82,6 +85,13 @@ module _ (ds : List DefinitionTree) where
     at_disjunction e es is h =
         let w = and_parts (has_operand es) (all_embedded (can_be_embedded ds left) es) (step e (disjunction es) is h) in
         (w.1, stands e (disjunction es) is)
+
+    pub at_conjunction : (e : Tree) (es : Trees) → e ≡ conjunction es → can_be_embedded ds n e ≡ true
+        → (all_embedded (can_be_embedded ds left) es ≡ true) × (alternatives ds n p e a ≡ join_all (alternatives ds left) p es (a ∷ []))
+    unfolding can_be_embedded alternatives
+    at_conjunction e es is h =
+        let w = and_parts (not (some_shut false es)) (all_embedded (can_be_embedded ds left) es) (step e (conjunction es) is h) in
+        (w.1, stands e (conjunction es) is)
 
     pub at_reference : (e : Tree) (s : List ℕ) (o : ℕ) → e ≡ reference s o → can_be_embedded ds n e ≡ true
         → (list_all (can_be_embedded ds left) (bodies s ds) ≡ true)
@@ -138,6 +148,16 @@ module _ (can : Tree → Bool) (inner : Option ℕ → Tree → Alternative → 
       let q = and_parts (can (expr_view b.now)) (list_all can (bodies_view (drop (i + 1) bs))) w in
       (q.0, q.1, ap (λ ts. join_bodies inner p ts xs) (sym cut) ∙ whole)
 
+  pub conjunct_step : (es : List Expr) (i : ℕ) (e : Expr) → i < length es → e ≡ get_or es i e → (xs all : List Alternative)
+      → all_embedded can (exprs_view (drop i es)) ≡ true → join_all inner p (exprs_view (drop i es)) xs ≡ all
+      → (can (expr_view e) ≡ true) × (all_embedded can (exprs_view (drop (i + 1) es)) ≡ true)
+      × (join_all inner p (exprs_view (drop (i + 1) es)) (flat_map (inner p (expr_view e)) xs) ≡ all)
+  conjunct_step es i e within read xs all well whole =
+      let cut = ap exprs_view (at_place es i e within read) in
+      let w = subst (λ ts. all_embedded can ts ≡ true) cut well in
+      let q = and_parts (can (expr_view e)) (all_embedded can (exprs_view (drop (i + 1) es))) w in
+      (q.0, q.1, ap (λ ts. join_all inner p ts xs) (sym cut) ∙ whole)
+
   pub operand_step : (es : List Expr) (i : ℕ) (e : Expr) → i < length es → e ≡ get_or es i e → (a : Alternative) (xs all : List Alternative)
       → all_embedded can (exprs_view (drop i es)) ≡ true → xs ++ join_operands inner p (exprs_view (drop i es)) a ≡ all
       → (can (expr_view e) ≡ true) × (all_embedded can (exprs_view (drop (i + 1) es)) ≡ true)
@@ -159,6 +179,10 @@ module _ (can : Tree → Bool) (inner : Option ℕ → Tree → Alternative → 
       → IsTooMuch e room all
   declarations_too_much cs well whole =
       too_much_of_more e room xs all (subst (λ ys. weight_of xs ≤ weight_of ys) whole (declarations_grow can inner grows p cs well xs))
+
+  pub all_too_much : (es : Trees) → all_embedded can es ≡ true → join_all inner p es xs ≡ all → IsTooMuch e room xs → IsTooMuch e room all
+  all_too_much es well whole =
+      too_much_of_more e room xs all (subst (λ ys. weight_of xs ≤ weight_of ys) whole (all_grow can inner grows p es well xs))
 
   -- of the bodies of a definition
   pub bodies_too_much : (s : List ℕ) (es : List Tree) → list_all can es ≡ true → join_bodies inner p es xs ≡ all → IsTooMuch e room xs

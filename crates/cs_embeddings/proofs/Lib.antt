@@ -29,6 +29,5 @@ pub mod Steps
 pub mod Walks
 -- samples
 pub mod Samples
--- laws of the definitions
-pub mod DefaultFiles
+-- a law of the definitions
 pub mod WrittenFiles

@@ -3,7 +3,7 @@ use Rattle.std.proofs.Common.{rules, ◌≡◌, ℕ, suc, ◌<◌, ◌≤◌, Bo
 use Rattle.std.proofs.lemmas.List.{append-nil}
 use Rattle.std.specs.List.{flat_map}
 use Rattle.cs_grammar.specs.Height.{height}
-use Rattle.cs_grammar.specs.Tree.{Tree, atom, bottom, named, reference, conjunction, disjunction, paren, struct, list, wide, marked, merged}
+use Rattle.cs_grammar.specs.Tree.{Tree, atom, bottom, named, reference, conjunction, disjunction, paren, struct, list, wide, marked, merged, shut}
 use Rattle.cs_grammar.specs.View.{expr_view}
 use Rattle.cs_grammar.specs.declared.ast.Expr as Exprs
 use Rattle.cs_grammar.specs.declared.ast.Expr.{Expr}
@@ -30,6 +30,7 @@ some_node (struct o fs b) = omega arith
 some_node (list es end) = omega arith
 some_node (wide (marked o e)) = some_node e
 some_node (wide (merged o cs b)) = omega arith
+some_node (wide (shut o e)) = some_node e
 
 module _ (value : Option ℕ → Tree → Tree) (o : ℕ) where
   fields_heavy : (ds : List Brought) → length ds ≤ size_fields (fields_of_brought value ds)
@@ -62,9 +63,9 @@ module _ (value : Option ℕ → Tree → Tree) (o : ℕ) where
   several whole (a ∷ []) h = absurd (omega arith)
   several whole (a ∷ b ∷ xs) h = refl
 
-  module _ (inner : Option ℕ → Tree → List ℕ) (file levels nodes : ℕ) where
+  module _ (inner : Option ℕ → Tree → List ℕ) (embeds : Bool) (file levels nodes : ℕ) where
     abbrev pub MakesLiteral : Result Expr EmbeddingFault → ℕ → Bool → List Alternative → Type 0
-    MakesLiteral r rest whole xs = Makes r file levels nodes rest (one_of value whole o xs) (flat_map (clashes_of inner) xs)
+    MakesLiteral r rest whole xs = Makes r file levels nodes rest (one_of value whole o xs) (flat_map (clashes_of inner embeds) xs)
 
     pub no_alternative : (r : Result Expr EmbeddingFault) (rest : ℕ) (whole : Bool) (xs : List rust.Alternative) → length xs < 1
         → Makes r file levels nodes rest (atom bottom) [] → MakesLiteral r rest whole (alternatives_view xs)
@@ -72,12 +73,12 @@ module _ (value : Option ℕ → Tree → Tree) (o : ℕ) where
     no_alternative r rest whole (a ∷ xs) l h = absurd (omega arith)
 
     pub sole : (r : Result Expr EmbeddingFault) (rest : ℕ) (whole : Bool) (xs : List rust.Alternative) (a : rust.Alternative) → 1 ≤ length xs → length xs < 2
-        → a ≡ get_or xs 0 a → Makes r file levels nodes rest (literal_of value o (alternative_view a)) (clashes_of inner (alternative_view a))
+        → a ≡ get_or xs 0 a → Makes r file levels nodes rest (literal_of value o (alternative_view a)) (clashes_of inner embeds (alternative_view a))
         → MakesLiteral r rest whole (alternatives_view xs)
     sole r rest whole [] a l m is h = absurd (omega arith)
     sole r rest whole (b ∷ []) a l m is h =
-        let k = subst (λ c. Makes r file levels nodes rest (literal_of value o (alternative_view c)) (clashes_of inner (alternative_view c))) is h in
-        subst (λ cs. Makes r file levels nodes rest (literal_of value o (alternative_view b)) cs) (sym (append-nil (clashes_of inner (alternative_view b)))) k
+        let k = subst (λ c. Makes r file levels nodes rest (literal_of value o (alternative_view c)) (clashes_of inner embeds (alternative_view c))) is h in
+        subst (λ cs. Makes r file levels nodes rest (literal_of value o (alternative_view b)) cs) (sym (append-nil (clashes_of inner embeds (alternative_view b)))) k
     sole r rest whole (b ∷ c ∷ xs) a l m is h = absurd (omega arith)
 
     module _ (xs : List rust.Alternative) (two : 2 ≤ length xs) where
@@ -85,7 +86,7 @@ module _ (value : Option ℕ → Tree → Tree) (o : ℕ) where
       alternatives = disjunction (literals_of value o (alternatives_view xs))
 
       abbrev found : List ℕ
-      found = flat_map (clashes_of inner) (alternatives_view xs)
+      found = flat_map (clashes_of inner embeds) (alternatives_view xs)
 
       pub whole_several : (r : Result Expr EmbeddingFault) (rest : ℕ) (whole : Bool) → whole ≡ true → Makes r file levels nodes rest alternatives found
           → MakesLiteral r rest whole (alternatives_view xs)

@@ -38,6 +38,6 @@ module _ (ds : List DefinitionTree) (value : Option ℕ → Tree → Tree) (inne
   marks_clashes e = refl
 
 -- without its marks an expression takes less of the steps of a level
-pub falls : (t levels levels' marks marks' : ℕ) → levels' ≡ levels → marks ≡ 1 → marks' ≡ 0 → 16 * levels + (8 * marks + 3) ≡ t
-    → 16 * levels' + (8 * marks' + 4) < t
+pub falls : (t levels levels' marks marks' : ℕ) → levels' ≡ levels → marks ≡ 1 → marks' ≡ 0 → 16 * levels + (8 * marks + 4) ≡ t
+    → 16 * levels' + (8 * marks' + 5) < t
 falls t levels levels' marks marks' l m m' is = omega arith

@@ -1,9 +1,10 @@
 -- What can be embedded in so many steps can be embedded in more.
-use Rattle.std.proofs.Common.{◌≡◌, ℕ, zero, suc, ◌+◌, ◌-◌, ◌≤◌, Bool, true, false, List, [], ◌∷◌, refl, arith, subst}
+use Rattle.std.proofs.Common.{◌≡◌, ℕ, zero, suc, ◌+◌, ◌-◌, ◌≤◌, Bool, true, false, not, List, [], ◌∷◌, refl, arith, subst}
 use Rattle.std.proofs.lemmas.Bool.{and_parts, and_from, both_ways}
 use Rattle.std.specs.List.{list_all}
-use Rattle.cs_grammar.specs.Tree.{Tree, atom, named, reference, conjunction, disjunction, paren, struct, list, wide, marked, merged, Declarations, no_declaration, declared, embedded, Trees, none, more, Fields, no_field, field, End, closed, any, each, DefinitionTree, bodies}
+use Rattle.cs_grammar.specs.Tree.{Tree, atom, named, reference, conjunction, disjunction, paren, struct, list, wide, marked, merged, shut, Declarations, no_declaration, declared, embedded, Trees, none, more, Fields, no_field, field, End, closed, any, each, DefinitionTree, bodies}
 use Rattle.cs_embeddings.specs.Embedded.{has_operand, all_embedded, embeds_well, embed_well, fields_embed_well, declarations_embed_well, end_embeds_well, can_be_embedded}
+use Rattle.cs_embeddings.specs.Shut.{some_shut}
 
 -- what f takes, g takes
 module _ (f g : Tree → Bool) (takes : (e : Tree) → f e ≡ true → g e ≡ true) where
@@ -29,6 +30,7 @@ module _ (f g : Tree → Bool) (takes : (e : Tree) → f e ≡ true → g e ≡ 
         and_from (embed_well g es) (end_embeds_well g end) (each_well_more es p.0) (end_well_more end p.1)
     well_more (wide (marked o e)) h = well_more e h
     well_more (wide (merged o cs b)) h = declarations_well_more cs h
+    well_more (wide (shut o e)) h = well_more e h
 
     pub each_well_more : (es : Trees) → embed_well f es ≡ true → embed_well g es ≡ true
     each_well_more none h = h
@@ -64,15 +66,19 @@ module _ (ds : List DefinitionTree) where
   step_more (suc n) (struct o fs b) h = fields_well_more (can_be_embedded ds n) (can_be_embedded ds (suc n)) (step_more n) fs h
   step_more (suc n) (wide (merged o cs b)) h = declarations_well_more (can_be_embedded ds n) (can_be_embedded ds (suc n)) (step_more n) cs h
   step_more (suc n) (wide (marked o e)) h = h
+  step_more (suc n) (wide (shut o e)) h = h
   step_more (suc n) (paren e) h = step_more n e h
   step_more (suc n) (disjunction es) h =
       let p = and_parts (has_operand es) (all_embedded (can_be_embedded ds n) es) h in
       and_from (has_operand es) (all_embedded (can_be_embedded ds (suc n)) es) p.0
       (all_more (can_be_embedded ds n) (can_be_embedded ds (suc n)) (step_more n) es p.1)
+  step_more (suc n) (conjunction es) h =
+      let p = and_parts (not (some_shut false es)) (all_embedded (can_be_embedded ds n) es) h in
+      and_from (not (some_shut false es)) (all_embedded (can_be_embedded ds (suc n)) es) p.0
+      (all_more (can_be_embedded ds n) (can_be_embedded ds (suc n)) (step_more n) es p.1)
   step_more (suc n) (reference s o) h = bodies_more (can_be_embedded ds n) (can_be_embedded ds (suc n)) (step_more n) (bodies s ds) h
   step_more (suc n) (atom a) h = h
   step_more (suc n) (named s o) h = h
-  step_more (suc n) (conjunction es) h = h
   step_more (suc n) (list es end) h = h
 
   steps_added : (k n : ℕ) (e : Tree) → can_be_embedded ds n e ≡ true → can_be_embedded ds (k + n) e ≡ true

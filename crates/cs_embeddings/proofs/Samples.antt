@@ -98,10 +98,40 @@ two_bodies : IsJoined (only (definition (codes "B") 0 (one (codes "a") 4) ∷ de
 unfolding can_be_embedded alternatives clashes_value joined_value
 two_bodies = record { flawless = refl; apart = refl; joined = refl }
 
--- `{{a: int} | {b: int}} & {{c: int}}` for `({a: int} | {b: int}) & {c: int}`
-parentheses_where_needed : IsJoined (only (definition (codes "P") 0 (and (literal 4 (puts 5 (λ o. or (one (codes "a") o) (one (codes "b") 16)) no_declaration)) (literal 28 (puts 29 (one (codes "c")) no_declaration))) ∷ [])) (only (definition (codes "P") 0 (and (paren (or (braces 4 (with (codes "a") (int 9) no_field)) (braces 4 (with (codes "b") (int 9) no_field)))) (braces 28 (with (codes "c") (int 9) no_field))) ∷ []))
+-- `#C: {c: int}` and `#P: {{a: int} | {b: int}} & #C` for `({a: int} | {b: int}) & #C`
+parentheses_where_needed : IsJoined (only (definition (codes "C") 0 (one (codes "c") 4) ∷ definition (codes "P") 0 (and (literal 4 (puts 5 (λ o. or (one (codes "a") o) (one (codes "b") 16)) no_declaration)) (refers (codes "C") 28)) ∷ [])) (only (definition (codes "C") 0 (one (codes "c") 4) ∷ definition (codes "P") 0 (and (paren (or (braces 4 (with (codes "a") (int 9) no_field)) (braces 4 (with (codes "b") (int 9) no_field)))) (refers (codes "C") 28)) ∷ []))
 unfolding can_be_embedded alternatives clashes_value joined_value
 parentheses_where_needed = record { flawless = refl; apart = refl; joined = refl }
+
+-- `{a: int} & {b: int}` for `{a: int, b: int}`
+operands_put_together : IsJoined (only (definition (codes "P") 0 (and (one (codes "a") 4) (one (codes "b") 15)) ∷ [])) (only (definition (codes "P") 0 (braces 4 (with (codes "a") (int 9) (with (codes "b") (int 9) no_field))) ∷ []))
+unfolding can_be_embedded alternatives clashes_value joined_value
+operands_put_together = record { flawless = refl; apart = refl; joined = refl }
+
+-- `{a: int} & ({b: int} | {c: int})` for `{a: int, b: int} | {a: int, c: int}`
+operands_of_alternatives : IsJoined (only (definition (codes "P") 0 (and (one (codes "a") 4) (paren (or (one (codes "b") 16) (one (codes "c") 27)))) ∷ [])) (only (definition (codes "P") 0 (or (braces 4 (with (codes "a") (int 9) (with (codes "b") (int 9) no_field))) (braces 4 (with (codes "a") (int 9) (with (codes "c") (int 9) no_field)))) ∷ []))
+unfolding can_be_embedded alternatives clashes_value joined_value
+operands_of_alternatives = record { flawless = refl; apart = refl; joined = refl }
+
+-- `{a: int} & ({b: int} | {c: int}) | {d: int}` for `({a: int, b: int} | {a: int, c: int}) | {d: int}`
+operands_in_parentheses : IsJoined (only (definition (codes "P") 0 (or (and (one (codes "a") 4) (paren (or (one (codes "b") 16) (one (codes "c") 27)))) (one (codes "d") 39)) ∷ [])) (only (definition (codes "P") 0 (or (paren (or (braces 4 (with (codes "a") (int 9) (with (codes "b") (int 9) no_field))) (braces 4 (with (codes "a") (int 9) (with (codes "c") (int 9) no_field))))) (one (codes "d") 39)) ∷ []))
+unfolding can_be_embedded alternatives clashes_value joined_value
+operands_in_parentheses = record { flawless = refl; apart = refl; joined = refl }
+
+-- `{a: int} & {a: {b: int}} & {{c: int}}` for `{a: int, a: {b: int}, c: int}`
+operands_of_one_label : IsJoined (only (definition (codes "P") 0 (conjunction (more (one (codes "a") 4) (more (braces 15 (with (codes "a") (one (codes "b") 19) no_field)) (more (literal 31 (puts 32 (one (codes "c")) no_declaration)) none)))) ∷ [])) (only (definition (codes "P") 0 (braces 4 (with (codes "a") (int 9) (with (codes "a") (one (codes "b") 19) (with (codes "c") (int 9) no_field)))) ∷ []))
+unfolding can_be_embedded alternatives clashes_value joined_value
+operands_of_one_label = record { flawless = refl; apart = refl; joined = refl }
+
+-- `#A: {a: int}` and `#P: #A & {b: int}` for themselves
+reference_stays : IsJoined (only (definition (codes "A") 0 (one (codes "a") 4) ∷ definition (codes "P") 0 (and (refers (codes "A") 4) (one (codes "b") 9)) ∷ [])) (only (definition (codes "A") 0 (one (codes "a") 4) ∷ definition (codes "P") 0 (and (refers (codes "A") 4) (one (codes "b") 9)) ∷ []))
+unfolding can_be_embedded alternatives clashes_value joined_value
+reference_stays = record { flawless = refl; apart = refl; joined = refl }
+
+-- `{a: int, ...} & {b: int, ...}` for itself
+opened_operands_stay : IsJoined (only (definition (codes "P") 0 (and (ellipsis 4 (with (codes "a") (int 9) no_field)) (ellipsis 20 (with (codes "b") (int 9) no_field))) ∷ [])) (only (definition (codes "P") 0 (and (ellipsis 4 (with (codes "a") (int 9) no_field)) (ellipsis 20 (with (codes "b") (int 9) no_field))) ∷ []))
+unfolding can_be_embedded alternatives clashes_value joined_value
+opened_operands_stay = record { flawless = refl; apart = refl; joined = refl }
 
 -- `#C: {a: int}`, `#B: {x: {y: #C}}` and `#P: {#B}` for `{x: {y: #C}}`, all at the reference
 places_of_what_is_brought : IsJoined (only (definition (codes "C") 0 (one (codes "a") 4) ∷ definition (codes "B") 0 (braces 4 (with (codes "x") (braces 8 (with (codes "y") (refers (codes "C") 12) no_field)) no_field)) ∷ definition (codes "P") 0 (literal 24 (puts 25 (refers (codes "B")) no_declaration)) ∷ [])) (only (definition (codes "C") 0 (one (codes "a") 4) ∷ definition (codes "B") 0 (braces 4 (with (codes "x") (braces 8 (with (codes "y") (refers (codes "C") 12) no_field)) no_field)) ∷ definition (codes "P") 0 (braces 24 (with (codes "x") (braces 25 (with (codes "y") (refers (codes "C") 25) no_field)) no_field)) ∷ []))
@@ -117,6 +147,11 @@ place_of_every_key = record { flawless = refl; apart = refl; joined = refl }
 same_reference_twice : IsJoined (only (definition (codes "X") 0 (one (codes "a") 4) ∷ definition (codes "B") 0 (braces 4 (with (codes "x") (refers (codes "X") 8) no_field)) ∷ definition (codes "C") 0 (braces 4 (with (codes "x") (refers (codes "X") 8) no_field)) ∷ definition (codes "P") 0 (literal 24 (puts 25 (refers (codes "B")) (puts 29 (refers (codes "C")) no_declaration))) ∷ [])) (only (definition (codes "X") 0 (one (codes "a") 4) ∷ definition (codes "B") 0 (braces 4 (with (codes "x") (refers (codes "X") 8) no_field)) ∷ definition (codes "C") 0 (braces 4 (with (codes "x") (refers (codes "X") 8) no_field)) ∷ definition (codes "P") 0 (braces 24 (with (codes "x") (refers (codes "X") 25) (with (codes "x") (refers (codes "X") 29) no_field))) ∷ []))
 unfolding can_be_embedded alternatives clashes_value joined_value
 same_reference_twice = record { flawless = refl; apart = refl; joined = refl }
+
+-- `#B: {x: {a: int}}` and `#P: {#B, x: {b: int}}` for `{x: {a: int}, x: {b: int}}`: no reference stands there
+literals_of_one_label : IsJoined (only (definition (codes "B") 0 (braces 4 (with (codes "x") (one (codes "a") 8) no_field)) ∷ definition (codes "P") 0 (literal 24 (puts 25 (refers (codes "B")) (has (codes "x") (one (codes "b") 32) no_declaration))) ∷ [])) (only (definition (codes "B") 0 (braces 4 (with (codes "x") (one (codes "a") 8) no_field)) ∷ definition (codes "P") 0 (braces 24 (with (codes "x") (braces 25 (with (codes "a") (int 25) no_field)) (with (codes "x") (one (codes "b") 32) no_field))) ∷ []))
+unfolding can_be_embedded alternatives clashes_value joined_value
+literals_of_one_label = record { flawless = refl; apart = refl; joined = refl }
 
 -- ---- why files are refused
 

@@ -4,16 +4,17 @@ use Rattle.std.specs.Borrow.{Bor}
 use Rattle.std.specs.BTreeMap.{BTreeMap, get_by}
 use Rattle.std.specs.Cmp.Lexicographic.{slice_cmp}
 use Rattle.std.specs.Ordering.{nat_cmp}
-use Rattle.std.specs.List.{list_any, list_all}
+use Rattle.std.specs.List.{list_all}
 use Rattle.std.specs.Map.{update}
 use Rattle.std.specs.Str.{bytes_eq}
-use Rattle.std.proofs.lemmas.Bool.{and_parts, both_ways}
+use Rattle.std.proofs.lemmas.Bool.{both_ways}
 use Rattle.std.proofs.lemmas.Bool.Decides.{nat_tests}
 use Rattle.std.proofs.lemmas.Slice.Eq.{bytes_eq-Decides}
-use Rattle.cs_grammar.specs.Tree.{Tree, atom, named, reference, conjunction, disjunction, paren, struct, list, wide, marked, merged, Declarations, Trees, Fields, DefinitionTree, bodies}
-use Rattle.cs_embeddings.specs.Checks.{TellsLeast, TellsRounds, TellsSteps, takes_by, takes}
+use Rattle.cs_grammar.specs.Tree.{Tree, atom, named, reference, conjunction, disjunction, paren, struct, list, wide, marked, merged, shut, DefinitionTree, bodies}
+use Rattle.cs_embeddings.specs.Checks.{TellsLeast, TellsRounds, TellsSteps, takes_by}
 use Rattle.cs_embeddings.specs.Embedded.{has_operand, all_embedded, fields_embed_well, declarations_embed_well, can_be_embedded}
 use Rattle.cs_embeddings.specs.Flaws.{is_none}
+use Rattle.cs_embeddings.specs.Shut.{some_shut}
 use Rattle.cs_embeddings.specs.declared.embedded.Embeddable.{Embeddable}
 use Rattle.cs_embeddings.proofs.Bodies.{Named, has_name, has_name_push}
 use Rattle.cs_embeddings.proofs.Monotone.{steps_more}
@@ -23,12 +24,13 @@ abbrev pub can_step : List DefinitionTree → (Tree → Bool) → Tree → Bool
 can_step ds inner (struct o fs b) = fields_embed_well inner fs
 can_step ds inner (wide (merged o cs b)) = declarations_embed_well inner cs
 can_step ds inner (wide (marked o e)) = false
+can_step ds inner (wide (shut o e)) = false
 can_step ds inner (paren e) = inner e
 can_step ds inner (disjunction es) = has_operand es && all_embedded inner es
+can_step ds inner (conjunction es) = not (some_shut false es) && all_embedded inner es
 can_step ds inner (reference s o) = list_all inner (bodies s ds)
 can_step ds inner (atom a) = false
 can_step ds inner (named s o) = false
-can_step ds inner (conjunction es) = false
 can_step ds inner (list es end) = false
 
 module _ (ds : List DefinitionTree) where
@@ -37,6 +39,7 @@ module _ (ds : List DefinitionTree) where
   step n (struct o fs b) = refl
   step n (wide (merged o cs b)) = refl
   step n (wide (marked o e)) = refl
+  step n (wide (shut o e)) = refl
   step n (paren e) = refl
   step n (disjunction es) = refl
   step n (reference s o) = refl

@@ -1,18 +1,18 @@
 -- Whether each part of a list is as it is to be, one after another.
-use Rattle.std.proofs.Common.{◌≡◌, ℕ, zero, suc, ◌+◌, ◌<◌, ◌≤◌, Bool, true, false, ◌&&◌, not, List, [], ◌∷◌, map, drop, length, get_or, refl, sym, ap, ◌∙◌, add-one, subst, arith}
+use Rattle.std.proofs.Common.{◌≡◌, ℕ, zero, suc, ◌+◌, ◌<◌, ◌≤◌, Bool, true, false, ◌&&◌, not, List, [], ◌∷◌, map, drop, length, get_or, refl, sym, ap, ◌∙◌, add-one, arith}
 use Rattle.std.proofs.Math.Seq.{drop-cons}
 use Rattle.std.proofs.lemmas.Bool.Decides.{nat_tests}
 use Rattle.std.specs.Prelude.{◌==◌}
 use Rattle.std.specs.Borrow.{Bor}
 use Rattle.std.specs.List.{list_all}
 use Rattle.cs_grammar.specs.Tree.{Tree}
-use Rattle.cs_grammar.specs.View.{expr_view, exprs_view, field_view, fields_view, SeenDeclaration, field_seen, embedding_seen, declaration_view, declarations_view, declarations_of}
+use Rattle.cs_grammar.specs.View.{expr_view, exprs_view, fields_view, SeenDeclaration, field_seen, embedding_seen, declaration_view, declarations_view, declarations_of}
 use Rattle.cs_grammar.specs.declared.ast.Declaration.{Declaration}
 use Rattle.cs_grammar.specs.declared.ast.Expr.{Expr}
 use Rattle.cs_grammar.specs.declared.ast.Field.{Field}
 use Rattle.cs_grammar.proofs.Views.{view-value}
 use Rattle.cs_embeddings.specs.Checks.{bodies_view}
-use Rattle.cs_embeddings.specs.Embedded.{has_operand, all_embedded, embeds_well, embed_well, fields_embed_well, declarations_embed_well}
+use Rattle.cs_embeddings.specs.Embedded.{has_operand, embeds_well, fields_embed_well, declarations_embed_well}
 
 pub at_place : {X : Type 0} (xs : List X) (i : ℕ) (x : X) → i < length xs → x ≡ get_or xs i x → drop i xs ≡ x ∷ drop (i + 1) xs
 at_place xs i x l e = rw add-one (drop-cons xs i x l ∙ ap (λ y. y ∷ drop (suc i) xs) (sym e))

@@ -1,12 +1,13 @@
 -- Alternatives only grow: what is joined to alternatives is as much as they are, at least. So where some on the way are more than there is room
 -- for, all are.
-use Rattle.std.proofs.Common.{◌≡◌, ℕ, zero, suc, ◌+◌, ◌≤◌, Bool, true, false, List, [], ◌∷◌, ◌++◌, map, length, Option, Some, refl, arith}
+use Rattle.std.proofs.Common.{◌≡◌, ℕ, zero, suc, ◌+◌, ◌≤◌, Bool, true, false, not, List, [], ◌∷◌, ◌++◌, map, length, Option, Some, refl, arith}
 use Rattle.std.proofs.lemmas.Bool.{and_parts, both_ways, cond_both}
 use Rattle.std.proofs.lemmas.List.{length_push}
 use Rattle.std.specs.List.{flat_map, list_all}
-use Rattle.cs_grammar.specs.Tree.{Tree, atom, named, reference, conjunction, disjunction, paren, struct, list, wide, marked, merged, Declarations, no_declaration, declared, embedded, Trees, none, more, Fields, no_field, field, DefinitionTree, bodies}
-use Rattle.cs_embeddings.specs.Alternatives.{Alternative, with_declaration, with_fields, opened_if, meets, meet, at, join_declarations, join_bodies, join_operands, join_definition, alternatives}
+use Rattle.cs_grammar.specs.Tree.{Tree, atom, named, reference, conjunction, disjunction, paren, struct, list, wide, marked, merged, shut, Declarations, no_declaration, declared, embedded, Trees, none, more, Fields, no_field, field, DefinitionTree, bodies}
+use Rattle.cs_embeddings.specs.Alternatives.{Alternative, with_declaration, with_fields, opened_if, meets, meet, at, join_declarations, join_bodies, join_operands, join_all, join_definition, alternatives}
 use Rattle.cs_embeddings.specs.Embedded.{has_operand, all_embedded, embeds_well, declarations_embed_well, can_be_embedded}
+use Rattle.cs_embeddings.specs.Shut.{some_shut}
 use Rattle.cs_embeddings.specs.Views.{weight_of, IsTooMuch}
 use Rattle.cs_embeddings.specs.declared.fault.EmbeddingFault.{EmbeddingFault}
 use Rattle.cs_embeddings.specs.declared.fault.EmbeddingFault.TheVariants.{OutOfMemory, UnknownName, NoStruct, Reopened, TooHigh, TooLarge}
@@ -95,6 +96,14 @@ module _ (can : Tree → Bool) (inner : Option ℕ → Tree → Alternative → 
       let here = grows p e w.0 a in
       omega (arith, weight-append (inner p e a) (join_operands inner p es a))
 
+  pub all_grow : (p : Option ℕ) (es : Trees) → all_embedded can es ≡ true → (xs : List Alternative) → weight_of xs ≤ weight_of (join_all inner p es xs)
+  all_grow p none h xs = omega arith
+  all_grow p (more e es) h xs =
+      let w = and_parts (can e) (all_embedded can es) h in
+      let here = flat_grows (inner p e) (grows p e w.0) xs in
+      let rest = all_grow p es w.1 (flat_map (inner p e) xs) in
+      omega arith
+
   pub definition_grows : (s : List ℕ) (o : ℕ) (es : List Tree) → list_all can es ≡ true → Grows (join_definition inner s o es)
   definition_grows s o es h a =
       let xs = join_bodies inner (Some o) es (a ∷ []) in
@@ -110,13 +119,16 @@ module _ (ds : List DefinitionTree) where
   alternatives_grow (suc n) p (wide (merged o cs b)) h a =
       declarations_grow (can_be_embedded ds n) (alternatives ds n) (alternatives_grow n) p cs h (opened_if b a ∷ [])
   alternatives_grow (suc n) p (wide (marked o e)) h a = absurd (both_ways false refl h)
+  alternatives_grow (suc n) p (wide (shut o e)) h a = absurd (both_ways false refl h)
   alternatives_grow (suc n) p (paren e) h a = alternatives_grow n p e h a
   alternatives_grow (suc n) p (disjunction es) h a =
       let w = and_parts (has_operand es) (all_embedded (can_be_embedded ds n) es) h in
       operands_grow (can_be_embedded ds n) (alternatives ds n) (alternatives_grow n) p es w.0 w.1 a
+  alternatives_grow (suc n) p (conjunction es) h a =
+      let w = and_parts (not (some_shut false es)) (all_embedded (can_be_embedded ds n) es) h in
+      all_grow (can_be_embedded ds n) (alternatives ds n) (alternatives_grow n) p es w.1 (a ∷ [])
   alternatives_grow (suc n) p (reference s o) h a =
       definition_grows (can_be_embedded ds n) (alternatives ds n) (alternatives_grow n) s (at p o) (bodies s ds) h a
   alternatives_grow (suc n) p (atom x) h a = absurd (both_ways false refl h)
   alternatives_grow (suc n) p (named s o) h a = absurd (both_ways false refl h)
-  alternatives_grow (suc n) p (conjunction es) h a = absurd (both_ways false refl h)
   alternatives_grow (suc n) p (list es end) h a = absurd (both_ways false refl h)

@@ -1,11 +1,12 @@
 -- The values of alternatives embed well: what can be embedded in so many steps declares only values whose embeddings take no more.
-use Rattle.std.proofs.Common.{◌≡◌, ℕ, zero, suc, ◌+◌, ◌≤◌, Bool, true, false, cond, List, [], ◌∷◌, ◌++◌, map, Option, Some, refl, arith}
+use Rattle.std.proofs.Common.{◌≡◌, ℕ, zero, suc, ◌≤◌, Bool, true, false, not, List, [], ◌∷◌, ◌++◌, map, Option, Some, refl, arith}
 use Rattle.std.proofs.lemmas.Bool.{and_parts, both_ways, cond_both}
 use Rattle.std.specs.List.{flat_map, list_all, AllByRecursion}
 use Rattle.cs_grammar.specs.declared.ast.FieldMark.{FieldMark}
-use Rattle.cs_grammar.specs.Tree.{Label, Tree, atom, named, reference, conjunction, disjunction, paren, struct, list, wide, marked, merged, Declarations, no_declaration, declared, embedded, Trees, none, more, Fields, no_field, field, DefinitionTree, bodies}
-use Rattle.cs_embeddings.specs.Alternatives.{Alternative, nothing, with_declaration, with_fields, opened_if, meets, meet, at, join_declarations, join_bodies, join_operands, join_definition, alternatives, alternatives_of, most_steps}
+use Rattle.cs_grammar.specs.Tree.{Label, Tree, atom, named, reference, conjunction, disjunction, paren, struct, list, wide, marked, merged, shut, Declarations, no_declaration, declared, embedded, Trees, none, more, Fields, no_field, field, DefinitionTree, bodies}
+use Rattle.cs_embeddings.specs.Alternatives.{Alternative, nothing, with_declaration, with_fields, opened_if, meets, meet, at, join_declarations, join_bodies, join_operands, join_all, join_definition, alternatives, alternatives_of, most_steps}
 use Rattle.cs_embeddings.specs.Embedded.{has_operand, all_embedded, embeds_well, fields_embed_well, declarations_embed_well, can_be_embedded}
+use Rattle.cs_embeddings.specs.Shut.{some_shut}
 use Rattle.cs_embeddings.proofs.Monotone.{embeds_well_more}
 
 -- ---- lists
@@ -68,6 +69,12 @@ module _ (Good : Tree → Type 0) where
         let w = and_parts (can e) (all_embedded can es) h in
         all-append HasGood (inner p e a) (join_operands inner p es a) (joins p e w.0 a k) (good_operands p es w.1 a k)
 
+    good_all : (p : Option ℕ) (es : Trees) → all_embedded can es ≡ true → (xs : List Alternative) → HaveGood xs → HaveGood (join_all inner p es xs)
+    good_all p none h xs k = k
+    good_all p (more e es) h xs k =
+        let w = and_parts (can e) (all_embedded can es) h in
+        good_all p es w.1 (flat_map (inner p e) xs) (all-flat_map HasGood HasGood (inner p e) (joins p e w.0) xs k)
+
     good_definition : (s : List ℕ) (o : ℕ) (es : List Tree) → list_all can es ≡ true → (a : Alternative) → HasGood a → HaveGood (join_definition inner s o es a)
     good_definition s o es h a k =
         let xs = join_bodies inner (Some o) es (a ∷ []) in
@@ -92,15 +99,18 @@ module _ (ds : List DefinitionTree) (most : ℕ) where
   well_alternatives (suc n) l p (wide (merged o cs b)) h a k =
       good_declarations IsWell (can_be_embedded ds n) (alternatives ds n) (well n l) (well_alternatives n (omega arith)) p cs h (opened_if b a ∷ []) (k, tt)
   well_alternatives (suc n) l p (wide (marked o e)) h a k = absurd (both_ways false refl h)
+  well_alternatives (suc n) l p (wide (shut o e)) h a k = absurd (both_ways false refl h)
   well_alternatives (suc n) l p (paren e) h a k = well_alternatives n (omega arith) p e h a k
   well_alternatives (suc n) l p (disjunction es) h a k =
       let w = and_parts (has_operand es) (all_embedded (can_be_embedded ds n) es) h in
       good_operands IsWell (can_be_embedded ds n) (alternatives ds n) (well n l) (well_alternatives n (omega arith)) p es w.1 a k
+  well_alternatives (suc n) l p (conjunction es) h a k =
+      let w = and_parts (not (some_shut false es)) (all_embedded (can_be_embedded ds n) es) h in
+      good_all IsWell (can_be_embedded ds n) (alternatives ds n) (well n l) (well_alternatives n (omega arith)) p es w.1 (a ∷ []) (k, tt)
   well_alternatives (suc n) l p (reference s o) h a k =
       good_definition IsWell (can_be_embedded ds n) (alternatives ds n) (well n l) (well_alternatives n (omega arith)) s (at p o) (bodies s ds) h a k
   well_alternatives (suc n) l p (atom x) h a k = absurd (both_ways false refl h)
   well_alternatives (suc n) l p (named s o) h a k = absurd (both_ways false refl h)
-  well_alternatives (suc n) l p (conjunction es) h a k = absurd (both_ways false refl h)
   well_alternatives (suc n) l p (list es end) h a k = absurd (both_ways false refl h)
 
 -- each value that an alternative of a literal declares embeds well
@@ -110,3 +120,9 @@ pub alternatives_embed_well : (ds : List DefinitionTree) (p : Option ℕ) (cs : 
 alternatives_embed_well ds p cs b h =
     good_declarations (IsWell ds most_steps) (can_be_embedded ds most_steps) (alternatives ds most_steps) (λ e w. w)
     (well_alternatives ds most_steps most_steps (omega arith)) p cs h (opened_if b nothing ∷ []) (tt, tt)
+
+-- the same of operands that are put together
+pub united_embed_well : (ds : List DefinitionTree) (p : Option ℕ) (e : Tree) → can_be_embedded ds most_steps e ≡ true
+    → AllByRecursion (λ a. AllByRecursion (λ d. embeds_well (can_be_embedded ds most_steps) d.value ≡ true) a.declarations)
+    (alternatives ds most_steps p e nothing)
+united_embed_well ds p e h = well_alternatives ds most_steps most_steps (omega arith) p e h nothing tt

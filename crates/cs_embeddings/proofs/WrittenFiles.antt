@@ -6,11 +6,13 @@ use Rattle.std.specs.Str.{bytes_eq}
 use Rattle.cs_grammar.specs.declared.ast.FieldMark.{FieldMark}
 use Rattle.cs_grammar.specs.declared.ast.FieldMark.TheVariants.{Regular, Optional, Required, Every}
 use Rattle.cs_grammar.specs.Limits.{most_height}
-use Rattle.cs_grammar.specs.Tree.{Label, Tree, atom, named, reference, conjunction, disjunction, paren, struct, list, wide, marked, merged, Declarations, no_declaration, declared, embedded, Trees, none, more, Fields, no_field, field, End, closed, any, each, DefinitionTree, definition, defined_name, body, bodies, FileTree, file}
+use Rattle.cs_grammar.specs.Tree.{Label, Tree, atom, named, reference, conjunction, disjunction, paren, struct, list, wide, marked, merged, shut, Declarations, no_declaration, declared, embedded, Trees, none, more, Fields, no_field, field, End, closed, any, each, DefinitionTree, definition, defined_name, body, bodies, FileTree, file}
 use Rattle.cs_grammar.specs.Written.{Place, by_itself, of_bar, of_amp, IsWritten, AreWritten, AreWrittenFields, AreWrittenDeclarations, IsWrittenEnd, IsWrittenLabel, AreTwo, IsWrittenDefinition, IsWrittenFile}
 use Rattle.cs_embeddings.proofs.WellAlternatives.{all-append, all-map, all-flat_map}
-use Rattle.cs_embeddings.specs.Alternatives.{Brought, Alternative, nothing, with_declaration, with_fields, opened_if, meets, meet, at, join_declarations, join_bodies, join_operands, join_definition, alternatives, alternatives_of, most_steps}
+use Rattle.cs_embeddings.specs.Alternatives.{Brought, Alternative, nothing, with_declaration, with_fields, opened_if, meets, meet, at, join_declarations, join_bodies, join_operands, join_all, join_definition, alternatives, alternatives_of, most_steps}
+use Rattle.cs_embeddings.specs.Held.{first_place}
 use Rattle.cs_embeddings.specs.Joined.{placed, fields_of_brought, literals_of, one_of, joined_with, joined_each, joined_fields, joined_end, joined_value, joined_definition, joined_file}
+use Rattle.cs_embeddings.specs.United.{unites, united}
 use Rattle.cs_embeddings.specs.Without.{all_definitions, IsJoined}
 
 -- ---- what alternatives declare
@@ -54,6 +56,11 @@ module _ (inner : Option ℕ → Tree → Alternative → List Alternative)
   operands_written p q (more e es) h a k = all-append HasWritten (inner p e a) (join_operands inner p es a) (joins p q e h.0 a k)
       (operands_written p q es h.1 a k)
 
+  all_written : (p : Option ℕ) (q : Place) (es : Trees) → AreWritten q es → (xs : List Alternative) → HaveWritten xs → HaveWritten (join_all inner p es xs)
+  all_written p q none h xs k = k
+  all_written p q (more e es) h xs k = all_written p q es h.1 (flat_map (inner p e) xs)
+      (all-flat_map HasWritten HasWritten (inner p e) (joins p q e h.0) xs k)
+
   definition_written : (s : List ℕ) (o : ℕ) (es : List Tree) → AllByRecursion (IsWritten by_itself) es → (a : Alternative) → HasWritten a
       → HaveWritten (join_definition inner s o es a)
   definition_written s o es h a k =
@@ -89,17 +96,21 @@ module _ (ds : List DefinitionTree) (all : AllByRecursion IsWrittenDefinition ds
   alternatives_written (suc n) p q (wide (merged o cs b)) h a k = declarations_written (alternatives ds n) (alternatives_written n) p cs h (opened_if b a ∷ [])
       (k, tt)
   alternatives_written (suc n) p q (wide (marked o e)) h a k = tt
+  alternatives_written (suc n) p q (wide (shut o e)) h a k = tt
   alternatives_written (suc n) p q (paren e) h a k = alternatives_written n p by_itself e h a k
   alternatives_written (suc n) p q (disjunction es) h a k = operands_written (alternatives ds n) (alternatives_written n) p of_bar es h.2 a k
   alternatives_written (suc n) p q (reference s o) h a k = definition_written (alternatives ds n) (alternatives_written n) s (at p o) (bodies s ds)
       (written_bodies s ds all) a k
   alternatives_written (suc n) p q (atom x) h a k = tt
   alternatives_written (suc n) p q (named s o) h a k = tt
-  alternatives_written (suc n) p q (conjunction es) h a k = tt
+  alternatives_written (suc n) p q (conjunction es) h a k = all_written (alternatives ds n) (alternatives_written n) p of_amp es h.2 (a ∷ []) (k, tt)
   alternatives_written (suc n) p q (list es end) h a k = tt
 
   literal_written : (p : Option ℕ) (cs : Declarations) (b : Bool) → AreWrittenDeclarations cs → HaveWritten (alternatives_of ds p cs b)
   literal_written p cs b h = declarations_written (alternatives ds most_steps) (alternatives_written most_steps) p cs h (opened_if b nothing ∷ []) (tt, tt)
+
+  united_written : (p : Option ℕ) (q : Place) (es : Trees) → IsWritten q (conjunction es) → HaveWritten (united ds p es)
+  united_written p q es h = alternatives_written most_steps p q (conjunction es) h nothing tt
 
   -- where values are written by themselves
   module _ (value : Option ℕ → Tree → Tree) (written_value : (p : Option ℕ) (e : Tree) → IsWritten by_itself e → IsWritten by_itself (value p e)) where
@@ -133,12 +144,17 @@ module _ (ds : List DefinitionTree) (all : AllByRecursion IsWrittenDefinition ds
       written q whole fit p (atom a) h = h
       written q whole fit p (named s o) h = h
       written q whole fit p (reference s o) h = h
-      written q whole fit p (conjunction es) h = (h.0, two false p es h.1, written_each of_amp false (no_whole of_amp) p es h.2)
+      written q whole fit p (conjunction es) h =
+          let o = at p (first_place es) in
+          cond_both (unites ds es) (one_of value whole o (united ds p es)) (conjunction (joined_each ds value false p es)) (IsWritten q)
+          (λ t. one_written q whole fit o (united ds p es) (united_written p q es h))
+          (λ f. (h.0, two false p es h.1, written_each of_amp false (no_whole of_amp) p es h.2))
       written q whole fit p (disjunction es) h = (h.0, two false p es h.1, written_each of_bar false (no_whole of_bar) p es h.2)
       written q whole fit p (paren e) h = written by_itself true (λ t. refl) p e h
       written q whole fit p (struct o fs b) h = written_fields p fs h
       written q whole fit p (list es end) h = (written_each by_itself true (λ t. refl) p es h.0, written_end p end h.1)
       written q whole fit p (wide (marked o e)) h = written q false (no_whole q) p e h
+      written q whole fit p (wide (shut o e)) h = written by_itself true (λ t. refl) p e h
       written q whole fit p (wide (merged o cs b)) h = one_written q whole fit (at p o) (alternatives_of ds p cs b) (literal_written p cs b h)
 
       written_each : (q : Place) (whole : Bool) → (whole ≡ true → q ≡ by_itself) → (p : Option ℕ) (es : Trees) → AreWritten q es

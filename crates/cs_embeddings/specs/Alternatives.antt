@@ -1,11 +1,11 @@
 -- What a literal with embeddings can be (CUE, structs: embedding): for each choice of an alternative of each expression that it embeds, all
 -- declarations in the order of the text; it is open where one of the literals is. A definition that is embedded several times has one choice,
--- and its declarations stand once, at the first place.
-use Rattle.std.specs.Prelude.{ℕ, zero, suc, Bool, true, false, ◌||◌, List, [], ◌∷◌, ◌++◌, map, if◌then◌else◌, Option, Some, None, unwrap_or}
+-- and its declarations stand once, at the first place. Operands of `&` are joined in the same way (CUE, structs: unification).
+use Rattle.std.specs.Prelude.{ℕ, zero, suc, Bool, false, ◌||◌, List, [], ◌∷◌, ◌++◌, map, if◌then◌else◌, Option, Some, unwrap_or}
 use Rattle.std.specs.List.{flat_map, list_any}
 use Rattle.std.specs.Str.{bytes_eq}
 use Rattle.cs_grammar.specs.declared.ast.FieldMark.{FieldMark}
-use Rattle.cs_grammar.specs.Tree.{Label, Tree, atom, named, reference, conjunction, disjunction, paren, struct, list, wide, marked, merged, Declarations, no_declaration, declared, embedded, Trees, none, more, Fields, no_field, field, DefinitionTree, bodies}
+use Rattle.cs_grammar.specs.Tree.{Label, Tree, atom, named, reference, conjunction, disjunction, paren, struct, list, wide, marked, merged, shut, Declarations, no_declaration, declared, embedded, Trees, none, more, Fields, no_field, field, DefinitionTree, bodies}
 
 -- a declaration that stands in a literal, and the place of the reference that brought it; none where the literal itself declares it
 pub record Brought : Type 0 where
@@ -62,6 +62,11 @@ module _ (inner : Option ℕ → Tree → Alternative → List Alternative) wher
   join_operands p none a = []
   join_operands p (more e es) a = inner p e a ++ join_operands p es a
 
+  -- one operand behind the other
+  abbrev pub join_all : Option ℕ → Trees → List Alternative → List Alternative
+  join_all p none xs = xs
+  join_all p (more e es) xs = join_all p es (flat_map (inner p e) xs)
+
   -- the bodies of a definition, unless they stand there already
   abbrev pub join_definition : List ℕ → ℕ → List Tree → Alternative → List Alternative
   join_definition s o es a = if meets s a then a ∷ [] else map (meet s) (join_bodies (Some o) es (a ∷ []))
@@ -72,12 +77,13 @@ alternatives ds zero p e a = []
 alternatives ds (suc n) p (struct o fs b) a = opened_if b (with_fields p fs a) ∷ []
 alternatives ds (suc n) p (wide (merged o cs b)) a = join_declarations (alternatives ds n) p cs (opened_if b a ∷ [])
 alternatives ds (suc n) p (wide (marked o e)) a = []
+alternatives ds (suc n) p (wide (shut o e)) a = []
 alternatives ds (suc n) p (paren e) a = alternatives ds n p e a
 alternatives ds (suc n) p (disjunction es) a = join_operands (alternatives ds n) p es a
+alternatives ds (suc n) p (conjunction es) a = join_all (alternatives ds n) p es (a ∷ [])
 alternatives ds (suc n) p (reference s o) a = join_definition (alternatives ds n) s (at p o) (bodies s ds) a
 alternatives ds (suc n) p (atom x) a = []
 alternatives ds (suc n) p (named s o) a = []
-alternatives ds (suc n) p (conjunction es) a = []
 alternatives ds (suc n) p (list es end) a = []
 
 -- how many steps embeddings may take: a definition that embeds the next one is two, so 64 definitions may embed one another

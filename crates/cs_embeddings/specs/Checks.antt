@@ -1,5 +1,5 @@
 -- What the checks of embeddings answer, and what the tables tell.
-use Rattle.std.specs.Prelude.{◌≡◌, ℕ, zero, suc, ◌+◌, ◌<◌, ◌≤◌, Bool, true, false, not, if◌then◌else◌, nat_le, List, [], ◌∷◌, ◌++◌, map, length, Option, Some, None, Result, Ok, Err, slice_get}
+use Rattle.std.specs.Prelude.{◌≡◌, ℕ, zero, suc, ◌<◌, ◌≤◌, Bool, true, false, not, if◌then◌else◌, nat_le, List, [], ◌++◌, map, Option, Some, None, Result, Ok, Err, slice_get}
 use Rattle.std.specs.List.{list_any, AllByRecursion}
 use Rattle.std.specs.Str.{bytes_eq}
 use Rattle.std.specs.declared.alloc.Global.{Global}
@@ -86,6 +86,11 @@ pub record TellsEmbeddable (f : Flaws) (ds : List DefinitionTree) : Type 0 where
   pub bodies : TellsBodies f.bodies.now ds
   pub steps : TellsSteps f.embeddable.now ds most_steps
   pub same : TellsBodies f.embeddable.now.bodies.now ds
+
+-- the table of what can be embedded tells these, and has the bodies of each
+pub record TellsTables (e : Embeddable) (ds : List DefinitionTree) : Type 0 where
+  pub bodies : TellsBodies e.bodies.now ds
+  pub steps : TellsSteps e ds most_steps
 
 -- ---- alternatives
 

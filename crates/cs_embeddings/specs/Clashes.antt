@@ -1,40 +1,16 @@
--- What an embedding would open (own rule): in a literal with embeddings a label has one value that holds a struct literal or a reference, or the
--- same reference each time. CUE opens what is closed there.
+-- What an embedding would open (own rule): in a literal with embeddings a label has one value that holds a struct literal or a reference, or several
+-- of which none holds a reference, or the same reference each time. CUE opens what is closed there.
 use Rattle.std.specs.Prelude.{ℕ, zero, suc, Bool, true, false, ◌&&◌, ◌||◌, not, List, [], ◌∷◌, ◌++◌, if◌then◌else◌, Option, Some, None}
 use Rattle.std.specs.List.{list_any, flat_map}
 use Rattle.std.specs.Str.{bytes_eq}
 use Rattle.cs_grammar.specs.declared.ast.FieldMark.{FieldMark}
 use Rattle.cs_grammar.specs.declared.ast.FieldMark.TheVariants.{Regular, Optional, Required, Every}
 use Rattle.cs_grammar.specs.Limits.{most_height}
-use Rattle.cs_grammar.specs.Tree.{Tree, atom, named, reference, conjunction, disjunction, paren, struct, list, wide, marked, merged, Declarations, no_declaration, declared, embedded, Trees, none, more, Fields, no_field, field, End, closed, any, each, DefinitionTree}
+use Rattle.cs_grammar.specs.Tree.{Tree, atom, named, reference, conjunction, disjunction, paren, struct, list, wide, marked, merged, shut, Trees, none, more, Fields, no_field, field, End, closed, any, each, DefinitionTree}
 use Rattle.cs_embeddings.specs.Alternatives.{Brought, Alternative, at, alternatives_of}
-
--- where the first struct literal or reference of an expression is, at any depth; a value without one is plain
-abbrev pub or_else : Option ℕ → Option ℕ → Option ℕ
-or_else (Some o) behind = Some o
-or_else None behind = behind
-
-abbrev mutual
-  pub holds : Tree → Option ℕ
-  holds (atom a) = None
-  holds (named s o) = None
-  holds (reference s o) = Some o
-  holds (conjunction es) = hold es
-  holds (disjunction es) = hold es
-  holds (paren e) = holds e
-  holds (struct o fs b) = Some o
-  holds (list es end) = or_else (hold es) (end_holds end)
-  holds (wide (marked o e)) = holds e
-  holds (wide (merged o cs b)) = Some o
-
-  pub hold : Trees → Option ℕ
-  hold none = None
-  hold (more e es) = or_else (holds e) (hold es)
-
-  pub end_holds : End → Option ℕ
-  end_holds closed = None
-  end_holds any = None
-  end_holds (each e) = holds e
+use Rattle.cs_embeddings.specs.Held.{holds}
+use Rattle.cs_embeddings.specs.Shut.{is_shut}
+use Rattle.cs_embeddings.specs.United.{unites, united}
 
 abbrev pub is_some_place : Option ℕ → Bool
 is_some_place None = false
@@ -72,9 +48,13 @@ is_same_reference (struct o fs b) f = false
 is_same_reference (list es end) f = false
 is_same_reference (wide w) f = false
 
--- two declarations that aren't plain are of one label, and aren't the same reference; `[string]` is of every label
+-- something that is shut stands in one of two expressions, and they aren't the same reference
+abbrev pub are_apart : Tree → Tree → Bool
+are_apart e f = (is_shut true e || is_shut true f) && not (is_same_reference e f)
+
+-- two declarations that aren't plain are of one label, and what is shut in one would be opened by the other; `[string]` is of every label
 abbrev pub differ : Brought → Brought → Bool
-differ c d = is_every c.mark || (is_every d.mark || (bytes_eq c.label.text d.label.text && not (is_same_reference c.value d.value)))
+differ c d = is_every c.mark || (is_every d.mark || (bytes_eq c.label.text d.label.text && are_apart c.value d.value))
 
 -- the declarations that aren't plain
 abbrev pub held : List Brought → List Brought
@@ -94,10 +74,15 @@ clashes_behind before (d ∷ ds) = (if list_any (λ c. differ c d) before then p
 abbrev pub clashes_in : Alternative → List ℕ
 clashes_in a = clashes_behind [] (held a.declarations)
 
+abbrev pub clashes_if : Bool → Alternative → List ℕ
+clashes_if true a = clashes_in a
+clashes_if false a = []
+
 -- `value p e`: those in the value e of a declaration that a reference at p brought
 module _ (value : Option ℕ → Tree → List ℕ) where
-  abbrev pub clashes_of : Alternative → List ℕ
-  clashes_of a = clashes_in a ++ flat_map (λ d. value d.place d.value) a.declarations
+  -- `embeds` says whether it is one of a literal with embeddings
+  abbrev pub clashes_of : Bool → Alternative → List ℕ
+  clashes_of embeds a = clashes_if embeds a ++ flat_map (λ d. value d.place d.value) a.declarations
 
 module _ (ds : List DefinitionTree) (value : Option ℕ → Tree → List ℕ) where
   abbrev mutual
@@ -105,13 +90,14 @@ module _ (ds : List DefinitionTree) (value : Option ℕ → Tree → List ℕ) w
     clashes_with p (atom a) = []
     clashes_with p (named s o) = []
     clashes_with p (reference s o) = []
-    clashes_with p (conjunction es) = clashes_each p es
+    clashes_with p (conjunction es) = if unites ds es then flat_map (clashes_of value false) (united ds p es) else clashes_each p es
     clashes_with p (disjunction es) = clashes_each p es
     clashes_with p (paren e) = clashes_with p e
     clashes_with p (struct o fs b) = clashes_fields p fs
     clashes_with p (list es end) = clashes_each p es ++ clashes_end p end
     clashes_with p (wide (marked o e)) = clashes_with p e
-    clashes_with p (wide (merged o cs b)) = flat_map (clashes_of value) (alternatives_of ds p cs b)
+    clashes_with p (wide (merged o cs b)) = flat_map (clashes_of value true) (alternatives_of ds p cs b)
+    clashes_with p (wide (shut o e)) = clashes_with p e
 
     pub clashes_each : Option ℕ → Trees → List ℕ
     clashes_each p none = []

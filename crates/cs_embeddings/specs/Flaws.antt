@@ -1,6 +1,6 @@
 -- What of the embeddings is at fault, in order of the text: a name that isn't declared, and an expression that can't be embedded.
 use Rattle.std.specs.Prelude.{ℕ, Bool, true, false, List, [], ◌∷◌, ◌++◌, map, if◌then◌else◌}
-use Rattle.cs_grammar.specs.Tree.{Tree, atom, named, reference, conjunction, disjunction, paren, struct, list, wide, marked, merged, Declarations, no_declaration, declared, embedded, Trees, none, more, Fields, no_field, field, End, closed, any, each, DefinitionTree, bodies}
+use Rattle.cs_grammar.specs.Tree.{Tree, atom, named, reference, conjunction, disjunction, paren, struct, list, wide, marked, merged, shut, Declarations, no_declaration, declared, embedded, Trees, none, more, Fields, no_field, field, End, closed, any, each, DefinitionTree, bodies}
 use Rattle.cs_embeddings.specs.Alternatives.{most_steps}
 use Rattle.cs_embeddings.specs.Embedded.{can_be_embedded}
 
@@ -46,6 +46,7 @@ module _ (ds : List DefinitionTree) where
     flaws (list es end) = flaws_each es ++ flaws_end end
     flaws (wide (marked o e)) = flaws e
     flaws (wide (merged o cs b)) = flaws_declarations cs
+    flaws (wide (shut o e)) = flaws e
 
     pub flaws_each : Trees → List Flaw
     flaws_each none = []

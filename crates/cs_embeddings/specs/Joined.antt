@@ -1,11 +1,13 @@
--- What an expression stands for without embeddings: each literal with embeddings for the disjunction of its alternatives, or for its only one.
--- What a reference brought has the place of that reference.
-use Rattle.std.specs.Prelude.{ℕ, zero, suc, Bool, true, false, List, [], ◌∷◌, map, Option, None}
+-- What an expression stands for without embeddings: each literal with embeddings for the disjunction of its alternatives, or for its only one, and
+-- so operands of `&` that are put together. What a reference brought has the place of that reference.
+use Rattle.std.specs.Prelude.{ℕ, zero, suc, Bool, true, false, List, [], ◌∷◌, map, if◌then◌else◌, Option, None}
 use Rattle.cs_grammar.specs.declared.ast.FieldMark.{FieldMark}
 use Rattle.cs_grammar.specs.declared.ast.FieldMark.TheVariants.{Regular, Optional, Required, Every}
 use Rattle.cs_grammar.specs.Limits.{most_height}
-use Rattle.cs_grammar.specs.Tree.{Tree, atom, bottom, named, reference, conjunction, disjunction, paren, struct, list, wide, marked, merged, Trees, none, more, Fields, no_field, field, End, closed, any, each, DefinitionTree, definition, FileTree, file, package_name, definitions}
+use Rattle.cs_grammar.specs.Tree.{Tree, atom, bottom, named, reference, conjunction, disjunction, paren, struct, list, wide, marked, merged, shut, Trees, none, more, Fields, no_field, field, End, closed, any, each, DefinitionTree, definition, FileTree, file, package_name, definitions}
 use Rattle.cs_embeddings.specs.Alternatives.{Brought, Alternative, at, alternatives_of}
+use Rattle.cs_embeddings.specs.Held.{first_place}
+use Rattle.cs_embeddings.specs.United.{unites, united}
 
 abbrev pub placed : Option ℕ → FieldMark → FieldMark
 placed p Regular = Regular
@@ -44,13 +46,16 @@ module _ (ds : List DefinitionTree) (value : Option ℕ → Tree → Tree) where
     joined_with whole p (atom a) = atom a
     joined_with whole p (named s o) = named s (at p o)
     joined_with whole p (reference s o) = reference s (at p o)
-    joined_with whole p (conjunction es) = conjunction (joined_each false p es)
+    joined_with whole p (conjunction es) = if unites ds es then one_of value whole (at p (first_place es)) (united ds p es)
+        else conjunction (joined_each false p es)
     joined_with whole p (disjunction es) = disjunction (joined_each false p es)
     joined_with whole p (paren e) = paren (joined_with true p e)
     joined_with whole p (struct o fs b) = struct (at p o) (joined_fields p fs) b
     joined_with whole p (list es end) = list (joined_each true p es) (joined_end p end)
     joined_with whole p (wide (marked o e)) = wide (marked (at p o) (joined_with false p e))
     joined_with whole p (wide (merged o cs b)) = one_of value whole (at p o) (alternatives_of ds p cs b)
+    -- what is in a definition is closed without it
+    joined_with whole p (wide (shut o e)) = paren (joined_with true p e)
 
     pub joined_each : Bool → Option ℕ → Trees → Trees
     joined_each whole p none = none

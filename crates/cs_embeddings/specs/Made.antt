@@ -30,6 +30,13 @@ IsNoRoom TooLarge file levels nodes high large clashes = nodes < large
 IsNoRoom (UnknownName f o) file levels nodes high large clashes = ⊥
 IsNoRoom (NoStruct f o) file levels nodes high large clashes = ⊥
 
+-- Ok where nothing would be opened, or else the first that would, in this file
+abbrev pub FindsClash : {Y : Type 0} → Result Y EmbeddingFault → ℕ → List ℕ → Type 0
+FindsClash (Ok y) file clashes = clashes ≡ []
+FindsClash (Err (Reopened f o)) file clashes = (f ≡ file) × (slice_get clashes 0 ≡ Some o)
+FindsClash (Err OutOfMemory) file clashes = Unit {0}
+FindsClash (Err _) file clashes = ⊥
+
 -- what is meant is made, it is no higher than it may be, it leaves so many of the nodes, and nothing would be opened
 pub record IsMade {T : Type 0} (levels nodes rest high large : ℕ) (x meant : T) (clashes : List ℕ) : Type 0 where
   pub made : x ≡ meant

@@ -1,67 +1,18 @@
 // What an embedding would open.
 ghost use Rattle.std.specs.Prelude.{◌≡◌, false, List, [], ◌∷◌, ◌++◌, map, IfOk, OnOk, slice_get};
 ghost use Rattle.std.specs.List.{list_any};
-ghost use Rattle.cs_grammar.specs.View.{expr_view, exprs_view, end_view};
+ghost use Rattle.cs_grammar.specs.View.{expr_view};
 ghost use Rattle.cs_embeddings.specs.Alternatives as Alternatives;
 ghost use Rattle.cs_embeddings.specs.ClashTable.{TellsSeen};
 ghost use Rattle.cs_embeddings.specs.Views.{brought_view};
 ghost use Rattle.cs_embeddings.specs.Clashes as Spec;
 
 use crate::alternatives::Brought;
-use cs_grammar::{Expr, FieldMark, ListEnd, Wide};
+use crate::held::holds;
+use crate::shut::is_shut;
+use cs_grammar::{Expr, FieldMark};
 use std::alloc::{AllocError, Global};
 use std::collections::BTreeMap;
-
-/// The offset of the first struct literal or reference of an expression, at any depth; `None` of a plain one.
-#[cycle(holds)]
-pub(crate) fn holds(expr: &Expr) -> Option<usize>
-    ensures { result ≡ Spec.holds (expr_view expr.now) }
-{
-    match expr {
-        Expr::Reference { at, .. } | Expr::Struct { at, .. } => Some(*at),
-        Expr::And(operands) | Expr::Or(operands) => hold(operands),
-        Expr::Paren(inside) => holds(inside),
-        Expr::List { front, end } => match hold(front) {
-            Some(at) => Some(at),
-            None => end_holds(end),
-        },
-        Expr::Wide(Wide::Marked { value, .. }) => holds(value),
-        Expr::Wide(Wide::Merged { at, .. }) => Some(*at),
-        Expr::Top
-        | Expr::Bottom
-        | Expr::Null
-        | Expr::Bool(_)
-        | Expr::Int(_)
-        | Expr::Text(_)
-        | Expr::Name { .. }
-        | Expr::Bound { .. }
-        | Expr::NotInt(_)
-        | Expr::NotText(_)
-        | Expr::NotNull => None,
-    }
-}
-
-#[cycle(holds)]
-fn hold(exprs: &[Expr]) -> Option<usize>
-    ensures { result ≡ Spec.hold (exprs_view exprs.now) }
-{
-    for expr in exprs {
-        if let Some(at) = holds(expr) {
-            return Some(at);
-        }
-    }
-    None
-}
-
-#[cycle(holds)]
-fn end_holds(end: &ListEnd) -> Option<usize>
-    ensures { result ≡ Spec.end_holds (end_view end.now) }
-{
-    match end {
-        ListEnd::Closed | ListEnd::Any => None,
-        ListEnd::Each(each) => holds(each),
-    }
-}
 
 /// Whether both refer to one definition.
 fn is_same_reference(first: &Expr, second: &Expr) -> bool
@@ -71,6 +22,13 @@ fn is_same_reference(first: &Expr, second: &Expr) -> bool
         (Expr::Reference { text, .. }, Expr::Reference { text: other, .. }) => text == other,
         _ => false,
     }
+}
+
+/// Whether something that is shut stands in one of two values, and they aren't the same reference.
+fn are_apart(first: &Expr, second: &Expr) -> bool
+    ensures { result ≡ Spec.are_apart (expr_view first.now) (expr_view second.now) }
+{
+    (is_shut(true, first) || is_shut(true, second)) && !is_same_reference(first, second)
 }
 
 /// Whether a declaration is of every label.
@@ -83,7 +41,7 @@ fn is_every(mark: FieldMark) -> bool
 /// The declarations so far that aren't plain.
 #[derive(Drop)]
 struct Seen<'a> {
-    /// The first one of each label. Those behind it are the same reference.
+    /// The first one of each label. Those behind it are the same reference, or nothing in any of them is shut.
     firsts: BTreeMap<&'a str, &'a Expr>,
     is_empty: bool,
     /// Whether one is `[string]`.
@@ -103,7 +61,7 @@ impl<'a> Seen<'a> {
             return true;
         }
         match self.firsts.get(brought.field.label.as_str()) {
-            Some(first) => !is_same_reference(first, &brought.field.value),
+            Some(first) => are_apart(first, &brought.field.value),
             None => false,
         }
     }

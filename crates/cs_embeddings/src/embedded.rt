@@ -2,15 +2,18 @@
 ghost use Rattle.std.specs.Prelude.{◌≡◌, ℕ, suc, ◌<◌, ◌≤◌, Bool, false, List, [], ◌∷◌, ◌++◌, map, IfOk, OnOk};
 ghost use Rattle.std.specs.Borrow.{Bor};
 ghost use Rattle.std.specs.List.{list_all};
+ghost use Rattle.cs_grammar.specs.Tree as Tree;
 ghost use Rattle.cs_grammar.specs.Tree.{DefinitionTree, reference, bodies};
 ghost use Rattle.cs_grammar.specs.View.{expr_view, exprs_view, fields_view, declarations_view, end_view};
 ghost use Rattle.cs_embeddings.specs.Alternatives.{most_steps};
 ghost use Rattle.cs_embeddings.specs.Checks.{TellsBodies, TellsSteps, TellsRounds, bodies_view};
 ghost use Rattle.cs_embeddings.specs.Flaws.{is_none};
+ghost use Rattle.cs_embeddings.specs.United as United;
 ghost use Rattle.cs_embeddings.specs.Embedded as Spec;
 ghost use Rattle.cs_embeddings.specs.Embedded.{can_be_embedded, all_embedded, embeds_well, embed_well, fields_embed_well, declarations_embed_well, end_embeds_well};
 
 use crate::definitions::Bodies;
+use crate::shut::{are_open, some_shut};
 use cs_grammar::{Declaration, Expr, Field, ListEnd, Wide};
 use std::alloc::{AllocError, Global};
 use std::collections::BTreeMap;
@@ -28,7 +31,7 @@ fn has_operand(operands: &[Expr]) -> bool
 /// The definitions that can be embedded, each with the least number of steps that it takes.
 #[derive(Drop)]
 pub(crate) struct Embeddable<'b, 'a> {
-    bodies: &'b Bodies<'a>,
+    pub(crate) bodies: &'b Bodies<'a>,
     steps: BTreeMap<&'a str, usize>,
 }
 
@@ -98,6 +101,9 @@ impl<'b, 'a> Embeddable<'b, 'a> {
             }
             Expr::Paren(inside) => self.can_embed(inside, left),
             Expr::Or(operands) => has_operand(operands) && self.can_embed_all(operands, left),
+            Expr::And(operands) => {
+                !some_shut(false, operands) && self.can_embed_all(operands, left)
+            }
             Expr::Reference { text, .. } => self.takes(text, steps),
             Expr::Top
             | Expr::Bottom
@@ -110,10 +116,17 @@ impl<'b, 'a> Embeddable<'b, 'a> {
             | Expr::NotInt(_)
             | Expr::NotText(_)
             | Expr::NotNull
-            | Expr::And(_)
             | Expr::List { .. }
-            | Expr::Wide(Wide::Marked { .. }) => false,
+            | Expr::Wide(Wide::Marked { .. } | Wide::Shut { .. }) => false,
         }
+    }
+
+    /// Whether the operands of a conjunction are put together.
+    pub(crate) fn unites(&self, conjunction: &Expr, operands: &[Expr]) -> bool
+        ensures { (ds : List DefinitionTree) → TellsBodies self.now.bodies.now ds → TellsSteps self.now ds most_steps
+            → expr_view conjunction.now ≡ Tree.conjunction (exprs_view operands.now) → result ≡ United.unites ds (exprs_view operands.now) }
+    {
+        operands.len() > 1 && !are_open(operands) && self.can_embed(conjunction, MOST_STEPS)
     }
 
     /// Whether a definition can be embedded in so many steps, as the table tells it. One that isn't declared is at fault by its name alone.
@@ -170,6 +183,7 @@ impl<'b, 'a> Embeddable<'b, 'a> {
             Expr::Wide(Wide::Merged { declarations, .. }) => {
                 self.declarations_embed_well(declarations, steps)
             }
+            Expr::Wide(Wide::Shut { value, .. }) => self.embeds_well(value, steps),
             Expr::Top
             | Expr::Bottom
             | Expr::Null

@@ -6,7 +6,7 @@ ghost use Rattle.cs_grammar.specs.Limits.{most_height};
 ghost use Rattle.cs_grammar.specs.Tree.{DefinitionTree, body, definitions};
 ghost use Rattle.cs_grammar.specs.View.{expr_view, definition_view, file_view};
 ghost use Rattle.cs_embeddings.specs.Alternatives.{most_steps};
-ghost use Rattle.cs_embeddings.specs.Checks.{TellsBodies, TellsEmbeddable, AreWell, Finds, flaw_view};
+ghost use Rattle.cs_embeddings.specs.Checks.{TellsTables, TellsEmbeddable, AreWell, Finds, flaw_view};
 ghost use Rattle.cs_embeddings.specs.Clashes.{clashes};
 ghost use Rattle.cs_embeddings.specs.Embedded.{can_be_embedded, embeds_well};
 ghost use Rattle.cs_embeddings.specs.Flaws as Spec;
@@ -50,7 +50,7 @@ pub fn without_embeddings(alloc: Global, files: &[File]) -> Result<Vec<File>, Em
         embeddable: &embeddable,
     };
     check_files(&flaws, files)?;
-    joined_files(alloc, &bodies, files)
+    joined_files(alloc, &embeddable, files)
 }
 
 /// Looks for the first flaw.
@@ -86,10 +86,10 @@ fn check_bodies(flaws: &Flaws<'_, '_, '_>, definitions: &[Definition]) -> Result
 /// The files that are meant.
 fn joined_files<'a>(
     alloc: Global,
-    bodies: &Bodies<'a>,
+    embeddable: &Embeddable<'_, 'a>,
     files: &'a [File],
 ) -> Result<Vec<File>, EmbeddingFault>
-    ensures { (ds : List DefinitionTree) → TellsBodies bodies.now ds → AreWell ds
+    ensures { (ds : List DefinitionTree) → TellsTables embeddable.now ds → AreWell ds
         → AllByRecursion (λ f. AreBodiesWell ds (definitions f)) (map file_view files.now) → MakesFiles result ds (map file_view files.now) }
 {
     let mut joined = Vec::with_capacity(alloc, files.len())?;
@@ -97,7 +97,7 @@ fn joined_files<'a>(
     for (file, parsed) in files.iter().enumerate() {
         let joiner = Joiner {
             alloc,
-            bodies,
+            embeddable,
             file,
         };
         joined.push(joined_file(joiner, parsed, &mut nodes)?)?;
@@ -111,7 +111,7 @@ fn joined_file<'a>(
     file: &'a File,
     nodes: &mut usize,
 ) -> Result<File, EmbeddingFault>
-    ensures { (ds : List DefinitionTree) → TellsBodies joiner.entry.bodies.now ds → AreWell ds → AreBodiesWell ds (definitions (file_view file.now))
+    ensures { (ds : List DefinitionTree) → TellsTables joiner.entry.embeddable.now ds → AreWell ds → AreBodiesWell ds (definitions (file_view file.now))
         → let meant = Joined.joined_file ds (file_view file.now) in
         MakesPart file_view result joiner.entry.file most_height nodes.old nodes.new (file_height meant) (size_of_definitions (definitions meant)) meant
         (flat_map (λ d. clashes ds (body d)) (definitions (file_view file.now))) }
@@ -133,7 +133,7 @@ fn joined_definitions<'a>(
     definitions: &'a [Definition],
     nodes: &mut usize,
 ) -> Result<Vec<Definition>, EmbeddingFault>
-    ensures { (ds : List DefinitionTree) → TellsBodies joiner.entry.bodies.now ds → AreWell ds
+    ensures { (ds : List DefinitionTree) → TellsTables joiner.entry.embeddable.now ds → AreWell ds
         → AreBodiesWell ds (map definition_view definitions.now)
         → MakesDefinitions result joiner.entry.file nodes.old nodes.new ds (map definition_view definitions.now) }
 {
@@ -150,7 +150,7 @@ fn joined_definition<'a>(
     definition: &'a Definition,
     nodes: &mut usize,
 ) -> Result<Definition, EmbeddingFault>
-    ensures { (ds : List DefinitionTree) → TellsBodies joiner.entry.bodies.now ds → AreWell ds
+    ensures { (ds : List DefinitionTree) → TellsTables joiner.entry.embeddable.now ds → AreWell ds
         → embeds_well (can_be_embedded ds most_steps) (expr_view definition.now.body) ≡ true
         → let meant = Joined.joined ds (expr_view definition.now.body) in
         MakesPart definition_view result joiner.entry.file most_height nodes.old nodes.new (height meant) (size meant)

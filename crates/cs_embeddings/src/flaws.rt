@@ -42,6 +42,7 @@ impl Flaws<'_, '_, '_> {
             }
             Expr::Wide(Wide::Marked { value, .. }) => self.check(value),
             Expr::Wide(Wide::Merged { declarations, .. }) => self.check_declarations(declarations),
+            Expr::Wide(Wide::Shut { value, .. }) => self.check(value),
             Expr::Top
             | Expr::Bottom
             | Expr::Null

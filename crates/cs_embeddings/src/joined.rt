@@ -1,23 +1,26 @@
 // Expressions without embeddings.
-ghost use Rattle.std.specs.Prelude.{◌≡◌, ℕ, ◌≤◌, true, List, [], IfOk};
+ghost use Rattle.std.specs.Prelude.{◌≡◌, ℕ, ◌≤◌, true, false, List, [], IfOk};
 ghost use Rattle.std.specs.List.{AllByRecursion, flat_map};
 ghost use Rattle.cs_grammar.specs.Height.{height, height_all, height_fields, height_end};
+ghost use Rattle.cs_grammar.specs.Tree as Tree;
 ghost use Rattle.cs_grammar.specs.Tree.{DefinitionTree, disjunction, list, wide};
 ghost use Rattle.cs_grammar.specs.View.{expr_view, exprs_view, field_view, fields_view, end_view, wide_view, declarations_view};
-ghost use Rattle.cs_embeddings.specs.Checks.{TellsBodies, AreWell};
+ghost use Rattle.cs_embeddings.specs.Checks.{TellsTables, AreWell};
 ghost use Rattle.cs_embeddings.specs.Alternatives.{most_steps, alternatives_of};
-ghost use Rattle.cs_embeddings.specs.Clashes.{clashes_with, clashes_each, clashes_fields, clashes_end, clashes_of, clashes_value};
+ghost use Rattle.cs_embeddings.specs.Clashes.{clashes_with, clashes_each, clashes_fields, clashes_end, clashes_of, clashes_if, clashes_value};
 ghost use Rattle.cs_embeddings.specs.Embedded.{can_be_embedded, embeds_well, embed_well, fields_embed_well, declarations_embed_well, end_embeds_well};
 ghost use Rattle.cs_embeddings.specs.Joined as Spec;
 ghost use Rattle.cs_embeddings.specs.Made as Made;
-ghost use Rattle.cs_embeddings.specs.Made.{GoesBelow, GoesInside, IsWell, Makes, MakesPart};
+ghost use Rattle.cs_embeddings.specs.Made.{FindsClash, GoesBelow, GoesInside, IsWell, Makes, MakesPart};
 ghost use Rattle.cs_embeddings.specs.Size.{size, sizes, size_fields, size_end};
 ghost use Rattle.cs_embeddings.specs.Views.{alternative_view, alternatives_view};
 
 use crate::EmbeddingFault;
 use crate::alternatives::Alternative;
 use crate::clashes::first_clash;
-use crate::definitions::Bodies;
+use crate::embedded::Embeddable;
+use crate::found::Found;
+use crate::held::first_place;
 use crate::joining::Joining;
 use cs_grammar::{Declaration, Expr, Field, FieldMark, ListEnd, Wide};
 use std::alloc::{AllocError, Global};
@@ -65,12 +68,12 @@ fn behind_marks(expr: &Expr) -> &Expr
 #[derive(Clone, Copy)]
 pub(crate) struct Joiner<'b, 'a> {
     pub(crate) alloc: Global,
-    pub(crate) bodies: &'b Bodies<'a>,
+    pub(crate) embeddable: &'b Embeddable<'b, 'a>,
     /// The number of the file.
     pub(crate) file: usize,
 }
 
-impl<'a> Joiner<'_, 'a> {
+impl<'b, 'a> Joiner<'b, 'a> {
     /// One level less, where there is one.
     fn below(self, room: Room) -> Result<Room, EmbeddingFault>
         ensures { GoesBelow result self.entry.file room }
@@ -110,17 +113,14 @@ impl<'a> Joiner<'_, 'a> {
         room: Room,
         nodes: &mut usize,
     ) -> Result<Expr, EmbeddingFault>
-        ensures { (ds : List DefinitionTree) (n : ℕ) → TellsBodies self.entry.bodies.now ds → AreWell ds
+        ensures { (ds : List DefinitionTree) (n : ℕ) → TellsTables self.entry.embeddable.now ds → AreWell ds
             → embeds_well (can_be_embedded ds most_steps) (expr_view expr.now) ≡ true → room.levels ≤ n
             → Makes result self.entry.file room.levels nodes.old nodes.new
             (Spec.joined_with ds (Spec.joined_value ds n) room.is_whole room.place (expr_view expr.now))
             (clashes_with ds (clashes_value ds n) room.place (expr_view expr.now)) }
     {
         match expr {
-            Expr::And(operands) => {
-                let inside = self.inside(room, nodes)?.is_whole(false);
-                Ok(Expr::And(self.joined_each(operands, inside, nodes)?))
-            }
+            Expr::And(operands) => self.joined_conjunction(expr, operands, room, nodes),
             Expr::Or(operands) => {
                 let inside = self.inside(room, nodes)?.is_whole(false);
                 Ok(Expr::Or(self.joined_each(operands, inside, nodes)?))
@@ -168,7 +168,7 @@ impl<'a> Joiner<'_, 'a> {
         room: Room,
         nodes: &mut usize,
     ) -> Result<Vec<Expr>, EmbeddingFault>
-        ensures { (ds : List DefinitionTree) (n : ℕ) → TellsBodies self.entry.bodies.now ds → AreWell ds
+        ensures { (ds : List DefinitionTree) (n : ℕ) → TellsTables self.entry.embeddable.now ds → AreWell ds
             → embed_well (can_be_embedded ds most_steps) (exprs_view exprs.now) ≡ true → room.levels ≤ n
             → let meant = Spec.joined_each ds (Spec.joined_value ds n) room.is_whole room.place (exprs_view exprs.now) in
             MakesPart (λ v. exprs_view v.items) result self.entry.file room.levels nodes.old nodes.new (height_all meant) (sizes meant) meant
@@ -188,7 +188,7 @@ impl<'a> Joiner<'_, 'a> {
         room: Room,
         nodes: &mut usize,
     ) -> Result<Vec<Field>, EmbeddingFault>
-        ensures { (ds : List DefinitionTree) (n : ℕ) → TellsBodies self.entry.bodies.now ds → AreWell ds
+        ensures { (ds : List DefinitionTree) (n : ℕ) → TellsTables self.entry.embeddable.now ds → AreWell ds
             → fields_embed_well (can_be_embedded ds most_steps) (fields_view fields.now) ≡ true → room.levels ≤ n
             → let meant = Spec.joined_fields ds (Spec.joined_value ds n) room.place (fields_view fields.now) in
             MakesPart (λ v. fields_view v.items) result self.entry.file room.levels nodes.old nodes.new (height_fields meant) (size_fields meant) meant
@@ -208,7 +208,7 @@ impl<'a> Joiner<'_, 'a> {
         room: Room,
         nodes: &mut usize,
     ) -> Result<Field, EmbeddingFault>
-        ensures { (ds : List DefinitionTree) (n : ℕ) → TellsBodies self.entry.bodies.now ds → AreWell ds
+        ensures { (ds : List DefinitionTree) (n : ℕ) → TellsTables self.entry.embeddable.now ds → AreWell ds
             → embeds_well (can_be_embedded ds most_steps) (field_view field.now).value ≡ true → room.levels ≤ n
             → let value = Spec.joined_with ds (Spec.joined_value ds n) true room.place in
             let meant = value (field_view field.now).value in
@@ -234,7 +234,7 @@ impl<'a> Joiner<'_, 'a> {
         room: Room,
         nodes: &mut usize,
     ) -> Result<Expr, EmbeddingFault>
-        ensures { (ds : List DefinitionTree) (n : ℕ) → TellsBodies self.entry.bodies.now ds → AreWell ds
+        ensures { (ds : List DefinitionTree) (n : ℕ) → TellsTables self.entry.embeddable.now ds → AreWell ds
             → embeds_well (can_be_embedded ds most_steps) (list (exprs_view front.now) (end_view end.now)) ≡ true → room.levels ≤ n
             → Makes result self.entry.file room.levels nodes.old nodes.new
             (Spec.joined_with ds (Spec.joined_value ds n) room.is_whole room.place (list (exprs_view front.now) (end_view end.now)))
@@ -253,7 +253,7 @@ impl<'a> Joiner<'_, 'a> {
         room: Room,
         nodes: &mut usize,
     ) -> Result<ListEnd, EmbeddingFault>
-        ensures { (ds : List DefinitionTree) (n : ℕ) → TellsBodies self.entry.bodies.now ds → AreWell ds
+        ensures { (ds : List DefinitionTree) (n : ℕ) → TellsTables self.entry.embeddable.now ds → AreWell ds
             → end_embeds_well (can_be_embedded ds most_steps) (end_view end.now) ≡ true → room.levels ≤ n
             → let meant = Spec.joined_end ds (Spec.joined_value ds n) room.place (end_view end.now) in
             MakesPart end_view result self.entry.file room.levels nodes.old nodes.new (height_end meant) (size_end meant) meant
@@ -277,7 +277,7 @@ impl<'a> Joiner<'_, 'a> {
         room: Room,
         nodes: &mut usize,
     ) -> Result<Expr, EmbeddingFault>
-        ensures { (ds : List DefinitionTree) (n : ℕ) → TellsBodies self.entry.bodies.now ds → AreWell ds
+        ensures { (ds : List DefinitionTree) (n : ℕ) → TellsTables self.entry.embeddable.now ds → AreWell ds
             → embeds_well (can_be_embedded ds most_steps) (wide (wide_view form.now)) ≡ true → room.levels ≤ n
             → Makes result self.entry.file room.levels nodes.old nodes.new
             (Spec.joined_with ds (Spec.joined_value ds n) room.is_whole room.place (wide (wide_view form.now)))
@@ -297,6 +297,10 @@ impl<'a> Joiner<'_, 'a> {
             } => {
                 let at = room.place.unwrap_or(*at);
                 self.joined_literal(at, declarations, *opened, room, nodes)
+            }
+            Wide::Shut { value, .. } => {
+                let kept = self.joined(value, self.below(room)?.is_whole(true), nodes)?;
+                Ok(Expr::Paren(Box::new(self.alloc, kept)?))
             }
         }
     }
@@ -325,27 +329,80 @@ impl<'a> Joiner<'_, 'a> {
         room: Room,
         nodes: &mut usize,
     ) -> Result<Expr, EmbeddingFault>
-        ensures { (ds : List DefinitionTree) (n : ℕ) → TellsBodies self.entry.bodies.now ds → AreWell ds
+        ensures { (ds : List DefinitionTree) (n : ℕ) → TellsTables self.entry.embeddable.now ds → AreWell ds
             → declarations_embed_well (can_be_embedded ds most_steps) (declarations_view declarations.now) ≡ true → room.levels ≤ n
             → let alternatives = alternatives_of ds room.place (declarations_view declarations.now) is_opened in
             Makes result self.entry.file room.levels nodes.old nodes.new
             (Spec.one_of (Spec.joined_value ds n) room.is_whole at alternatives)
-            (flat_map (clashes_of (clashes_value ds n)) alternatives) }
+            (flat_map (clashes_of (clashes_value ds n) true) alternatives) }
     {
-        let joining = Joining {
+        let found = self
+            .joining(*nodes)
+            .alternatives_of(room.place, declarations, is_opened)?;
+        self.joined_found(at, &found, true, room, nodes)
+    }
+
+    /// What puts literals together, with so many nodes left.
+    fn joining(self, nodes: usize) -> Joining<'b, 'a>
+        ensures { (result.bodies ≡ self.entry.embeddable.now.bodies) × (result.room ≡ nodes) }
+    {
+        Joining {
             alloc: self.alloc,
-            bodies: self.bodies,
-            room: *nodes,
-        };
-        let found = joining.alternatives_of(room.place, declarations, is_opened)?;
+            bodies: self.embeddable.bodies,
+            room: nodes,
+        }
+    }
+
+    /// Operands of a conjunction: where they are put together, the disjunction of what they can be, or the only one.
+    #[cycle(joined)]
+    fn joined_conjunction(
+        self,
+        conjunction: &'a Expr,
+        operands: &'a [Expr],
+        room: Room,
+        nodes: &mut usize,
+    ) -> Result<Expr, EmbeddingFault>
+        ensures { (ds : List DefinitionTree) (n : ℕ) → TellsTables self.entry.embeddable.now ds → AreWell ds
+            → embed_well (can_be_embedded ds most_steps) (exprs_view operands.now) ≡ true → room.levels ≤ n
+            → expr_view conjunction.now ≡ Tree.conjunction (exprs_view operands.now)
+            → Makes result self.entry.file room.levels nodes.old nodes.new
+            (Spec.joined_with ds (Spec.joined_value ds n) room.is_whole room.place (Tree.conjunction (exprs_view operands.now)))
+            (clashes_with ds (clashes_value ds n) room.place (Tree.conjunction (exprs_view operands.now))) }
+    {
+        if self.embeddable.unites(conjunction, operands) {
+            let at = room.place.unwrap_or(first_place(operands));
+            let found = self.joining(*nodes).united(room.place, conjunction)?;
+            return self.joined_found(at, &found, false, room, nodes);
+        }
+        let inside = self.inside(room, nodes)?.is_whole(false);
+        Ok(Expr::And(self.joined_each(operands, inside, nodes)?))
+    }
+
+    /// The disjunction of alternatives, or the only one. `embeds` says whether they are those of a literal with embeddings.
+    #[cycle(joined)]
+    fn joined_found(
+        self,
+        at: usize,
+        found: &Found<'a>,
+        embeds: bool,
+        room: Room,
+        nodes: &mut usize,
+    ) -> Result<Expr, EmbeddingFault>
+        ensures { (ds : List DefinitionTree) (n : ℕ) → TellsTables self.entry.embeddable.now ds → AreWell ds
+            → AllByRecursion (IsWell ds) (alternatives_view found.now.alternatives.items) → room.levels ≤ n
+            → Makes result self.entry.file room.levels nodes.old nodes.new
+            (Spec.one_of (Spec.joined_value ds n) room.is_whole at (alternatives_view found.now.alternatives.items))
+            (flat_map (clashes_of (clashes_value ds n) embeds) (alternatives_view found.now.alternatives.items)) }
+    {
         match &*found.alternatives {
             [] => self.leaf(Expr::Bottom, room, nodes),
-            [only] => self.joined_alternative(at, only, room, nodes),
+            [only] => self.joined_alternative(at, only, embeds, room, nodes),
             alternatives if room.is_whole => {
-                self.joined_alternatives(at, alternatives, room, nodes)
+                self.joined_alternatives(at, alternatives, embeds, room, nodes)
             }
             alternatives => {
-                let kept = self.joined_alternatives(at, alternatives, self.below(room)?, nodes)?;
+                let below = self.below(room)?;
+                let kept = self.joined_alternatives(at, alternatives, embeds, below, nodes)?;
                 Ok(Expr::Paren(Box::new(self.alloc, kept)?))
             }
         }
@@ -357,21 +414,33 @@ impl<'a> Joiner<'_, 'a> {
         self,
         at: usize,
         alternatives: &[Alternative<'a>],
+        embeds: bool,
         room: Room,
         nodes: &mut usize,
     ) -> Result<Expr, EmbeddingFault>
-        ensures { (ds : List DefinitionTree) (n : ℕ) → TellsBodies self.entry.bodies.now ds → AreWell ds
+        ensures { (ds : List DefinitionTree) (n : ℕ) → TellsTables self.entry.embeddable.now ds → AreWell ds
             → AllByRecursion (IsWell ds) (alternatives_view alternatives.now) → room.levels ≤ n
             → Makes result self.entry.file room.levels nodes.old nodes.new
             (disjunction (Spec.literals_of (Spec.joined_value ds n) at (alternatives_view alternatives.now)))
-            (flat_map (clashes_of (clashes_value ds n)) (alternatives_view alternatives.now)) }
+            (flat_map (clashes_of (clashes_value ds n) embeds) (alternatives_view alternatives.now)) }
     {
         let inside = self.inside(room, nodes)?;
         let mut joined = Vec::with_capacity(self.alloc, alternatives.len())?;
         for alternative in alternatives {
-            joined.push(self.joined_alternative(at, alternative, inside, nodes)?)?;
+            joined.push(self.joined_alternative(at, alternative, embeds, inside, nodes)?)?;
         }
         Ok(Expr::Or(joined))
+    }
+
+    /// Looks for what would be opened in an alternative of a literal with embeddings.
+    fn check(self, alternative: &Alternative<'_>, embeds: bool) -> Result<(), EmbeddingFault>
+        ensures { FindsClash result self.entry.file (clashes_if embeds (alternative_view alternative.now)) }
+    {
+        if embeds && let Some(offset) = first_clash(self.alloc, &alternative.declarations)? {
+            let file = self.file;
+            return Err(EmbeddingFault::Reopened { file, offset });
+        }
+        Ok(())
     }
 
     /// The literal that an alternative is.
@@ -380,20 +449,18 @@ impl<'a> Joiner<'_, 'a> {
         self,
         at: usize,
         alternative: &Alternative<'a>,
+        embeds: bool,
         room: Room,
         nodes: &mut usize,
     ) -> Result<Expr, EmbeddingFault>
-        ensures { (ds : List DefinitionTree) (n : ℕ) → TellsBodies self.entry.bodies.now ds → AreWell ds
+        ensures { (ds : List DefinitionTree) (n : ℕ) → TellsTables self.entry.embeddable.now ds → AreWell ds
             → IsWell ds (alternative_view alternative.now) → room.levels ≤ n
             → Makes result self.entry.file room.levels nodes.old nodes.new
             (Spec.literal_of (Spec.joined_value ds n) at (alternative_view alternative.now))
-            (clashes_of (clashes_value ds n) (alternative_view alternative.now)) }
+            (clashes_of (clashes_value ds n) embeds (alternative_view alternative.now)) }
     {
         let inside = self.inside(room, nodes)?;
-        if let Some(offset) = first_clash(self.alloc, &alternative.declarations)? {
-            let file = self.file;
-            return Err(EmbeddingFault::Reopened { file, offset });
-        }
+        self.check(alternative, embeds)?;
         let mut fields = Vec::with_capacity(self.alloc, alternative.declarations.len())?;
         for brought in &alternative.declarations {
             let place = brought.place;

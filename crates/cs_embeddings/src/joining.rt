@@ -42,6 +42,27 @@ impl<'a> Joining<'_, 'a> {
         self.join_declarations(MOST_STEPS, place, declarations, nothing)
     }
 
+    /// What operands of a conjunction that are put together can be. `TooLarge` where that is more than there is room for.
+    pub(crate) fn united(
+        self,
+        place: Option<usize>,
+        conjunction: &'a Expr,
+    ) -> Result<Found<'a>, EmbeddingFault>
+        ensures { (ds : List DefinitionTree) → TellsBodies self.entry.bodies.now ds
+            → can_be_embedded ds Spec.most_steps (expr_view conjunction.now) ≡ true
+            → ReachesAll result self.entry.room (Spec.alternatives ds Spec.most_steps place (expr_view conjunction.now) Spec.nothing) }
+    {
+        let mut found = Found::nothing(self.alloc);
+        self.join(
+            MOST_STEPS,
+            place,
+            conjunction,
+            Alternative::nothing(self.alloc),
+            &mut found,
+        )?;
+        Ok(found)
+    }
+
     /// Adds the alternatives of an expression, each joined to what is before it, to those that were found.
     #[cycle(join)]
     fn join(
@@ -79,6 +100,10 @@ impl<'a> Joining<'_, 'a> {
             }
             Expr::Paren(inside) => self.join(left, place, inside, before, found),
             Expr::Or(operands) => self.join_operands(left, place, operands, &before, found),
+            Expr::And(operands) => {
+                let joined = self.join_all(left, place, operands, before)?;
+                found.append(self.room, joined)
+            }
             Expr::Reference { text, at } => {
                 self.join_definition(left, place.unwrap_or(*at), text, before, found)
             }
@@ -93,9 +118,8 @@ impl<'a> Joining<'_, 'a> {
             | Expr::NotInt(_)
             | Expr::NotText(_)
             | Expr::NotNull
-            | Expr::And(_)
             | Expr::List { .. }
-            | Expr::Wide(Wide::Marked { .. }) => Ok(()),
+            | Expr::Wide(Wide::Marked { .. } | Wide::Shut { .. }) => Ok(()),
         }
     }
 
@@ -212,6 +236,28 @@ impl<'a> Joining<'_, 'a> {
         for mut alternative in before.alternatives {
             alternative.met.push(name)?;
             found.push(self.room, alternative)?;
+        }
+        Ok(found)
+    }
+
+    /// Operands one behind the other, behind what is before them.
+    #[cycle(join)]
+    fn join_all(
+        self,
+        steps: usize,
+        place: Option<usize>,
+        operands: &'a [Expr],
+        before: Alternative<'a>,
+    ) -> Result<Found<'a>, EmbeddingFault>
+        ensures { (ds : List DefinitionTree) → TellsBodies self.entry.bodies.now ds
+            → all_embedded (can_be_embedded ds steps) (exprs_view operands.now) ≡ true
+            → ReachesAll result self.entry.room (Spec.join_all (Spec.alternatives ds steps) place (exprs_view operands.now)
+            (alternative_view before.entry ∷ [])) }
+    {
+        let mut found = Found::nothing(self.alloc);
+        found.push(self.room, before)?;
+        for operand in operands {
+            found = self.join_each(steps, place, operand, found)?;
         }
         Ok(found)
     }

@@ -1,15 +1,9 @@
 // Laws of the definitions, whatever files there are.
 ghost use Rattle.std.specs.Prelude.{List};
 ghost use Rattle.std.specs.List.{AllByRecursion};
-ghost use Rattle.cs_grammar.specs.DefaultForms.{IsDefaultFile};
 ghost use Rattle.cs_grammar.specs.Tree.{FileTree};
 ghost use Rattle.cs_grammar.specs.Written.{IsWrittenFile};
 ghost use Rattle.cs_embeddings.specs.Without.{IsJoined};
-
-/// A law: files without forms of the wide profile stand for themselves.
-pub fn default_files_have_no_embeddings()
-    ensures { (fs : List FileTree) → AllByRecursion IsDefaultFile fs → IsJoined fs fs }
-{}
 
 /// A law: what can be written down with embeddings can be written down without them.
 pub fn joined_files_can_be_written()

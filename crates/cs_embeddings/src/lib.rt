@@ -9,11 +9,13 @@ mod fault;
 mod files;
 mod flaws;
 mod found;
+mod held;
 mod joined;
 mod joining;
 mod laws;
+mod shut;
 
 pub use cs_grammar::File;
 pub use fault::EmbeddingFault;
 pub use files::without_embeddings;
-pub use laws::{default_files_have_no_embeddings, joined_files_can_be_written};
+pub use laws::joined_files_can_be_written;

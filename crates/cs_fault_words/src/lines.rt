@@ -28,7 +28,7 @@ pub fn explained(alloc: Global, number: u32) -> Result<Option<String>, AllocErro
 /// Why a call was refused: a line with the place, as `FILE:LINE:COLUMN: `, and what to do; where a source, a schema or a document
 /// has the place, its line and a mark below. What isn't known is left out. Only memory can run out.
 pub fn why_refused(alloc: Global, fault: &Fault, about: About<'_>) -> Result<String, AllocError> {
-    let sources = sources_of(alloc, about.sources)?;
+    let sources = sources_of(alloc, about.profile, about.sources)?;
     let mut told = Told::new(alloc);
     tell(&mut told, fault, about, about.root, &sources)?;
     let mut text = String::new(alloc);
@@ -76,6 +76,7 @@ pub fn put_finding<'a>(
 fn taken_by(form: Option<Form>) -> &'static str {
     match form {
         Some(Form::DefaultMark) => "`--profile wide` takes defaults; without it ",
+        Some(Form::Attribute) => "`--profile wide` takes attributes; without it ",
         Some(_) | None => "",
     }
 }

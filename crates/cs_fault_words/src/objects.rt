@@ -49,7 +49,7 @@ fn refusal_object(
 
 /// The further members of a fault, each behind a comma, and the end of its object.
 fn members_of(alloc: Global, fault: &Fault, about: About<'_>) -> Result<String, AllocError> {
-    let sources = sources_of(alloc, about.sources)?;
+    let sources = sources_of(alloc, about.profile, about.sources)?;
     let mut told = Told::new(alloc);
     tell(&mut told, fault, about, about.root, &sources)?;
     let mut text = String::new(alloc);

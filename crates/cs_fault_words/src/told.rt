@@ -73,7 +73,7 @@ fn tell_form<'a>(
         return Ok(());
     };
     let found = match fault {
-        Fault::NoToken { .. } => form_stuck(source.named.text, offset),
+        Fault::NoToken { .. } => form_stuck(profile, source.named.text, offset),
         Fault::IntegerRange { .. } => Found::at(near, Form::LargeInteger),
         Fault::Syntax { .. } => form_out_of_place(near),
         Fault::LeftOut { .. } => form_left_out_in(profile, near),

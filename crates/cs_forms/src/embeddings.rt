@@ -1,5 +1,6 @@
 // Forms of embeddings that the wide profile refuses, by what is embedded (11).
 use crate::forms::{Form, Found};
+use crate::together::{closed_around, is_put_together};
 use cs_grammar::Profile;
 use cs_sources::{Declared, Near, Part, Separator, Source, declared_in};
 use std::alloc::{AllocError, Global};
@@ -42,19 +43,25 @@ impl Flaw {
     }
 }
 
-/// The form where a struct literal has to be opened in a profile: in the wide one also where something is embedded that can't be, and at a
-/// value that an embedding would open. Only memory can run out.
+/// The form where a struct literal has to be opened in a profile: in the default one also where the other one puts it together with others, in
+/// the wide one also where something is embedded that can't be, at a value that an embedding would open, and beside what a definition closed.
+/// Only memory can run out.
 pub fn form_not_opened(
     alloc: Global,
     profile: Profile,
     near: Near<'_, '_>,
     sources: &[Source<'_>],
 ) -> Result<Found, AllocError> {
-    let flaw = match profile {
-        Profile::Default => None,
-        Profile::Wide => flaw_of_embedding(alloc, near, sources)?,
+    let form = match profile {
+        Profile::Default if is_put_together(alloc, near, sources)? => Form::Joined,
+        Profile::Default => Form::NotOpened,
+        Profile::Wide => match flaw_of_embedding(alloc, near, sources)? {
+            Some(flaw) => flaw.form,
+            None if closed_around(near).is_some() => Form::ClosedOperand,
+            None => Form::NotOpened,
+        },
     };
-    Ok(Found::at(near, flaw.map_or(Form::NotOpened, |flaw| flaw.form)))
+    Ok(Found::at(near, form))
 }
 
 /// What is wrong with what is embedded at a token, or with a value there that stands beside what is embedded; none where that isn't it. Only
@@ -84,18 +91,19 @@ fn flaw_at<'t>(
     }
 }
 
-/// That a field is declared twice where something is embedded: this one, or any where none is given.
+/// That a field is declared twice where something is embedded, or where `&` joins literals: this one, or any where none is given.
 fn flaw_beside<'t>(
     alloc: Global,
     declared: &'t Declared<'t, 't>,
     near: Near<'t, 't>,
     field: Option<Part<'t, 't>>,
 ) -> Result<Option<Flaw>, AllocError> {
-    let Some(literal) = literal_around(near) else {
+    let Some((literal, is_joined)) = literal_around(near) else {
         return Ok(None);
     };
     let joined = declared.embedded(alloc, literal)?;
-    let is_alone = joined.definitions.is_empty() && !near.stands_beside_embeddings();
+    let has_others = is_joined || !joined.definitions.is_empty();
+    let is_alone = !has_others && !near.stands_beside_embeddings();
     match declared_twice(&joined.fields, field) {
         Some(declaration) if !is_alone => {
             Ok(Some(Flaw::of_label(Form::EmbeddedTwice, declaration)))
@@ -130,8 +138,9 @@ fn flaw_inside<'t>(
     }))
 }
 
-/// What the literal holds that has the declaration which a token is in, whether by itself or by embedding literals that have it.
-fn literal_around<'t>(near: Near<'t, 't>) -> Option<Part<'t, 't>> {
+/// What the literal holds that has the declaration which a token is in, whether by itself or by embedding literals that have it; or else the
+/// operands of `&` that the literal is joined with, and whether it is these.
+fn literal_around<'t>(near: Near<'t, 't>) -> Option<(Part<'t, 't>, bool)> {
     let source = near.source;
     let mut inner = near.place;
     let mut found = None;
@@ -145,7 +154,12 @@ fn literal_around<'t>(near: Near<'t, 't>) -> Option<Part<'t, 't>> {
         found = Some(source.held(bracket));
         inner = source.bracket(bracket).first.saturating_sub(1);
     }
-    found
+    let place = source.held_in_declaration(inner);
+    let held = Near { source, place };
+    match held.conjunction() {
+        Some(operands) if found.is_some() => Some((operands, true)),
+        Some(_) | None => Some((found?, false)),
+    }
 }
 
 /// The declaration of a field that may be declared twice: this one, or the first of any where none is given.

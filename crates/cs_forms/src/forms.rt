@@ -14,6 +14,8 @@ pub enum Form {
     NumberSpelling,
     /// `@go(X)`.
     Attribute,
+    /// `@go`, `@go(]`, `@go('X')`: an `@` that begins no whole attribute, in the wide profile.
+    BrokenAttribute,
     /// `"\(x)"`.
     Interpolation,
     /// A text in `'`.
@@ -134,6 +136,10 @@ pub enum Form {
     FieldReference,
     /// A struct literal without `...` in a conjunction.
     NotOpened,
+    /// The same where the wide profile puts it together with others. For programs it is the same form.
+    Joined,
+    /// `#B & {b: int}`: a struct literal without `...` beside what a definition closed, in the wide profile.
+    ClosedOperand,
     /// `{int, a: int}`, `{#B & {b: int}, a: int}`: something is embedded that is no struct, in the wide profile, as the next two.
     EmbeddedNoStruct,
     /// `#P: {#P, a: int}`.

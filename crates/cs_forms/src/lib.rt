@@ -7,6 +7,7 @@ mod forms;
 mod names;
 mod stuck;
 mod syntax;
+mod together;
 mod words;
 
 pub use defaults::form_left_out_in;
@@ -15,4 +16,5 @@ pub use forms::{Form, Found};
 pub use names::form_unknown;
 pub use stuck::form_stuck;
 pub use syntax::form_out_of_place;
+pub use together::closed_around;
 pub use words::{form_name, kind_meant, said_of_form, said_of_shown};

@@ -1,9 +1,10 @@
 // Forms where no token of the profile begins (3).
 use crate::forms::{Form, Found};
+use cs_grammar::Profile;
 
-/// The form at an offset of a source where no token begins. The source needn't be cut into tokens.
-pub fn form_stuck(source: &[u8], offset: usize) -> Found {
-    let (form, len) = form_at(source.get(offset..).unwrap_or(&[]));
+/// The form at an offset of a source where no token of a profile begins. The source needn't be cut into tokens.
+pub fn form_stuck(profile: Profile, source: &[u8], offset: usize) -> Found {
+    let (form, len) = form_at(profile, source.get(offset..).unwrap_or(&[]));
     Found {
         form,
         start: offset,
@@ -12,9 +13,10 @@ pub fn form_stuck(source: &[u8], offset: usize) -> Found {
 }
 
 /// The form at the front of the bytes, and how many of them show it.
-fn form_at(bytes: &[u8]) -> (Form, usize) {
+fn form_at(profile: Profile, bytes: &[u8]) -> (Form, usize) {
     match bytes {
         [0xef, 0xbb, 0xbf, ..] => (Form::ByteOrderMark, 3),
+        [b'@', ..] if profile == Profile::Wide => (Form::BrokenAttribute, 1),
         [b'@', ..] => (Form::Attribute, attribute_len(bytes)),
         [b'\'', ..] => (Form::Bytes, text_len(bytes)),
         [b'"', b'"', b'"', ..] => (Form::MultiLineText, 3),

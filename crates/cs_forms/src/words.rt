@@ -10,11 +10,12 @@ type Sayings = &'static [(&'static [&'static str], &'static str)];
 
 /// What programs call each form, and what is said of it, in their order: a `{}` stands for what its place tells. A form without a row is
 /// refused by the prover.
-const FORMS: [(&str, &str); 64] = rows! {
+const FORMS: [(&str, &str); 67] = rows! {
     "byte-order-mark" => "a byte order mark: save the file as UTF-8 without it",
     "float" => "floats are left out: scale it (percent, milliseconds)",
     "number-spelling" => "`{}`: {}",
     "attribute" => "attributes are left out: take it out",
+    "broken-attribute" => "an attribute is `@`, a name and what is in parentheses, as `@go(A)`, with balanced brackets and texts in double quotes on one line",
     "interpolation" => "interpolation is left out: write each text out",
     "bytes" => "texts in single quotes are bytes, which JSON doesn't have: write a text in double quotes",
     "multi-line-text" => "texts over several lines are left out: write it on one line, with \\n for a new line",
@@ -72,6 +73,8 @@ const FORMS: [(&str, &str); 64] = rows! {
     "unknown-definition" => "`{}` isn't declared; give the file that declares it too",
     "field-reference" => "`{}` is a field",
     "not-opened" => "this struct is joined with others: end each of them with `...`, or write all fields into one",
+    "not-opened" => "`--profile wide` puts these structs together; without it end each of them with `...`, or write all fields into one",
+    "closed-operand" => "a struct can't be put together with what a definition closed: embed what `&` joins in one struct, as `{{}, ..}`, or end each of them with `...`",
     "embedded-no-struct" => "`{}` can't be embedded: only struct literals can, alternatives of them, and definitions of these; give it a label, or write out its keys",
     "embedded-itself" => "`{}` embeds itself, which never ends: give it a label in its place, or write out the keys that are meant",
     "embedded-twice" => "embedding joins two values of `{}` that hold a struct or a reference, and one would open the other: write all of its keys in one place",

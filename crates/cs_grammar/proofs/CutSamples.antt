@@ -49,7 +49,7 @@ pub begins : (l : LineState) (bs : List ℕ) (n : ℕ) (s : Sort) → begins_bad
     → nat_le n (length bs) ≡ true → sort_of (take n bs) ≡ Some s → none_among bs n (length bs) ≡ true → Begins l bs n s
 begins l bs n s digit three slashes range h e none = record { no_bad_number = digit; no_quotes = three; no_comment = slashes; in_range = range; token = longest bs n s h e none }
 
-begins_none : (bs : List ℕ) → none_among bs 0 (length bs) ≡ true → BeginsNone bs
+pub begins_none : (bs : List ℕ) → none_among bs 0 (length bs) ≡ true → BeginsNone bs
 begins_none bs h zero le = refl
 begins_none bs h (suc m) le = tried bs 0 (length bs) h (suc m) (omega arith) le
 
@@ -89,17 +89,17 @@ least =
 
 bad_number : IsStuck (codes "a 01") (NoToken 2)
 unfolding is_integer
-bad_number = past_token {n = 1} (begins Plain (codes "a 01") 1 sorts.Name refl refl refl refl refl refl refl) (past_blank refl (no_token (number refl)))
+bad_number = past_token {n = 1} (begins Plain (codes "a 01") 1 sorts.Name refl refl refl refl refl refl refl) (past_blank refl (no_token (number refl) refl))
 
 three_quotes : IsStuck (codes "\"\"\"") (NoToken 0)
-three_quotes = no_token (quotes refl)
+three_quotes = no_token (quotes refl) refl
 
 unclosed : IsStuck (codes "\"a") (NoToken 0)
 unfolding text_value
-unclosed = no_token (nothing refl refl refl (begins_none (codes "\"a") refl))
+unclosed = no_token (nothing refl refl refl (begins_none (codes "\"a") refl)) refl
 
 no_mark : IsStuck (codes "// a\n;") (NoToken 5)
-no_mark = past_comment refl (past_line refl (no_token (nothing refl refl refl (begins_none (codes ";") refl))))
+no_mark = past_comment refl (past_line refl (no_token (nothing refl refl refl (begins_none (codes ";") refl)) refl))
 
 out_of_range : IsStuck (codes "9223372036854775808") (IntegerRange 0)
 unfolding is_integer integer_value

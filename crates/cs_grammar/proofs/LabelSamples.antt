@@ -4,7 +4,7 @@ use Rattle.std.specs.List.{AllByRecursion}
 use Rattle.cs_grammar.specs.declared.ast.FieldMark.TheVariants.{Regular, Optional, Required, Every}
 use Rattle.cs_grammar.specs.Labels.{HasLabel, IsLabelled, IsLabelledFile}
 use Rattle.cs_grammar.specs.Spells.{every_label}
-use Rattle.cs_grammar.specs.Tree.{Label, Tree, atom, top, named, reference, conjunction, disjunction, paren, struct, list, wide, marked, merged, no_declaration, declared, embedded, none, more, no_field, field, closed, any, each, definition, file}
+use Rattle.cs_grammar.specs.Tree.{Label, Tree, atom, top, named, reference, conjunction, disjunction, paren, struct, list, wide, marked, merged, shut, no_declaration, declared, embedded, none, more, no_field, field, closed, any, each, definition, file}
 
 abbrev a : Label
 a = record { text = codes "a"; quotes = false }
@@ -51,19 +51,19 @@ every_keys = (λ h. h.0, (λ h. h.2.0, tt))
 every_keys_inside : AllByRecursion (λ e. IsLabelled e → ⊥) (around every_key)
 every_keys_inside = (λ h. h.1.0.0, (λ h. h.1.0.0, (λ h. h.0, (λ h. h.1.0, (λ h. h.2.1.0, (λ h. h.0.1.0.0, (λ h. h.0.0.0, (λ h. h.1.0, tt))))))))
 
--- the forms of the wide profile: `*e`, `{a: e, _}` and `{e, a: _, ...}`
+-- the forms of the wide profile: `*e`, `{a: e, _}`, `{e, a: _, ...}` and `close(e)`
 abbrev around_wide : Tree → List Tree
 around_wide e =
     wide (marked 4 e) ∷ wide (merged 4 (declared a Regular e (embedded 8 (atom top) no_declaration)) false)
-    ∷ wide (merged 4 (embedded 5 e (declared a Regular (atom top) no_declaration)) true) ∷ []
+    ∷ wide (merged 4 (embedded 5 e (declared a Regular (atom top) no_declaration)) true) ∷ wide (shut 4 e) ∷ []
 
 wide_with_labels : AllByRecursion IsLabelled (around_wide one_label)
 wide_with_labels =
     let one : IsLabelled one_label = (tt, tt, tt) in
-    (one, ((tt, one, (tt, tt)), ((one, (tt, tt, tt)), tt)))
+    (one, ((tt, one, (tt, tt)), ((one, (tt, tt, tt)), (one, tt))))
 
 wide_every_keys : AllByRecursion (λ e. IsLabelled e → ⊥) (around_wide every_key)
-wide_every_keys = (λ h. h.0, (λ h. h.1.0, (λ h. h.0.0, tt)))
+wide_every_keys = (λ h. h.0, (λ h. h.1.0, (λ h. h.0.0, (λ h. h.0, tt))))
 
 -- and `[string]` among the declarations
 wide_every_key : ¬ IsLabelled (wide (merged 4 (embedded 5 (atom top) (declared every_label (Every 8) (atom top) no_declaration)) false))

@@ -8,5 +8,6 @@ pub mod BareNames
 -- samples
 pub mod Samples
 pub mod CutSamples
+mod AttributeSamples
 mod LabelSamples
 mod TreeSamples

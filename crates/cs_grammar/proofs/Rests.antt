@@ -2,7 +2,7 @@
 use Rattle.std.proofs.Common.{ℕ, ◌≤◌, ℤ, Bool, List, ◌∷◌, length, Option, arith}
 use Rattle.cs_grammar.specs.Tree.{Label, Tree, Trees, Fields, Declarations, End, DefinitionTree}
 use Rattle.cs_grammar.specs.Words.{Word, Words}
-use Rattle.cs_grammar.specs.Spells.{Comma, explicit, inserted, ClosesParen, paren_here, paren_after, ClosesList, list_here, list_after, ClosesStruct, struct_here, struct_after, SpellsNumber, positive, negative, SpellsBound, limit_is, other_number, other_text, other_null, SpellsLabel, bare_label, quoted_label, SpellsMark, regular, optional, required, SpellsOpening, unopened, opened, SpellsValue, long, short, SpellsField, labelled, every_key, SpellsExpr, one_branch, disjunction_is, SpellsBars, no_bar, a_bar, SpellsBranch, unmarked, marked_is, SpellsConj, one_operand, conjunction_is, SpellsAmps, no_amp, an_amp, SpellsOperand, top_is, bottom_is, reference_is, name_is, number_is, text_is, bound_is, paren_is, struct_is, list_is, wide_struct_is, SpellsWideStruct, no_declarations, wide_dots_alone, some_declarations, SpellsDeclarations, a_field, an_embedding, SpellsMore, no_more, next_declaration, SpellsStruct, no_fields, dots_alone, fields, SpellsFields, no_more_fields, next_field, SpellsList, no_elements, rest_alone, elements, SpellsElements, no_more_elements, next_element, SpellsEnd, closed_is, rest_is, SpellsRest, any_is, each_is, SpellsDefinition, defined, SpellsPackage, no_clause, clause}
+use Rattle.cs_grammar.specs.Spells.{Comma, explicit, inserted, ClosesParen, paren_here, paren_after, ClosesList, list_here, list_after, ClosesStruct, struct_here, struct_after, SpellsNumber, positive, negative, SpellsBound, limit_is, other_number, other_text, other_null, SpellsLabel, bare_label, quoted_label, SpellsMark, regular, optional, required, SpellsOpening, unopened, opened, SpellsValue, long, short, SpellsField, labelled, every_key, SpellsExpr, one_branch, disjunction_is, SpellsBars, no_bar, a_bar, SpellsBranch, unmarked, marked_is, SpellsConj, one_operand, conjunction_is, SpellsAmps, no_amp, an_amp, SpellsOperand, top_is, bottom_is, reference_is, name_is, number_is, text_is, bound_is, paren_is, struct_is, list_is, call_paren_is, shut_is, wide_struct_is, SpellsWideStruct, no_declarations, wide_dots_alone, some_declarations, SpellsDeclarations, a_field, an_embedding, SpellsMore, no_more, next_declaration, SpellsStruct, no_fields, dots_alone, fields, SpellsFields, no_more_fields, next_field, SpellsList, no_elements, rest_alone, elements, SpellsElements, no_more_elements, next_element, SpellsEnd, closed_is, rest_is, SpellsRest, any_is, each_is, SpellsDefinition, defined, SpellsPackage, no_clause, clause}
 use Rattle.cs_grammar.specs.declared.ast.FieldMark.{FieldMark}
 
 -- the last of some words, from one on
@@ -97,6 +97,8 @@ mutual
   of_operand (paren_is e c) = behind (then (of_expr e) (of_paren c))
   of_operand (struct_is s) = behind (of_struct s)
   of_operand (list_is l) = behind (of_list l)
+  of_operand (call_paren_is e c) = behind (then (of_expr e) (of_paren c))
+  of_operand (shut_is s e c) = behind (behind (then (of_expr e) (of_paren c)))
   of_operand (wide_struct_is e s) = behind (of_wide_struct s)
 
   pub of_wide_struct : {ds : Declarations} {b : Bool} {ts r : Words} → SpellsWideStruct ds b ts r → IsRest r ts

@@ -84,6 +84,10 @@ embeddings : map height (merged one one one ∷ merged (kept 1 one) one one ∷ 
     ≡ 2 ∷ 3 ∷ 4 ∷ 5 ∷ []
 embeddings = refl
 
+-- `close(1)` and `close((1))`: it is a level
+calls : map (λ e. height (T.wide (T.shut 4 e))) (one ∷ kept 1 one ∷ []) ≡ 2 ∷ 3 ∷ []
+calls = refl
+
 -- a file without definitions, and one whose second body is the highest
 files : map file_height (file None [] ∷ file None (body one ∷ body (kept 2 one) ∷ body one ∷ []) ∷ []) ≡ 0 ∷ 3 ∷ []
 files = refl
@@ -105,7 +109,7 @@ nodes_of_forms : map nodes (T.conjunction (list_of (one ∷ one ∷ [])) ∷ T.d
 nodes_of_forms = refl
 
 -- a form of the wide profile is one
-nodes_of_wide : map nodes (star (braces (one ∷ []) false) ∷ merged one one one ∷ []) ≡ 1 ∷ 1 ∷ []
+nodes_of_wide : map nodes (star (braces (one ∷ []) false) ∷ merged one one one ∷ T.wide (T.shut 4 (braces (one ∷ []) false)) ∷ []) ≡ 1 ∷ 1 ∷ 1 ∷ []
 nodes_of_wide = refl
 
 -- those of all definitions of all files

@@ -49,6 +49,9 @@ view-declared-field f = search (rules, Exprs.the_lemmas)
 pub view-embedded : (at : ℕ) (e : Expr) → declaration_view (Declarations.Embedded at e) ≡ embedding_seen at (expr_view e)
 view-embedded at e = search (rules, Exprs.the_lemmas)
 
+pub view-Shut : (at : ℕ) (b : Box Expr Global) → wide_view (Wides.Shut at b) ≡ T.shut at (expr_view b.value)
+view-Shut at b = search (rules, Exprs.the_lemmas)
+
 pub view-Marked : (at : ℕ) (b : Box Expr Global) → wide_view (Wides.Marked at b) ≡ T.marked at (expr_view b.value)
 view-Marked at b = search (rules, Exprs.the_lemmas)
 

@@ -5,6 +5,10 @@ use Rattle.cs_grammar.specs.declared.token.Sort.{Sort}
 use Rattle.cs_grammar.specs.declared.token.Sort.TheVariants as sorts
 use Rattle.cs_grammar.specs.declared.line.LineState.{LineState}
 use Rattle.cs_grammar.specs.declared.line.LineState.TheVariants.{Plain, WantsComma, Minus}
+use Rattle.cs_grammar.specs.declared.profile.Profile.{Profile}
+use Rattle.cs_grammar.specs.declared.profile.Profile.TheVariants as profiles
+use Rattle.cs_grammar.specs.Attribute.{attribute_in}
+pub use Rattle.cs_grammar.specs.Front.{begins_quotes, begins_comment}
 use Rattle.cs_grammar.specs.Spelling.{is_digit, is_run_byte, is_integer, sort_of}
 use Rattle.cs_grammar.specs.Values.{integer_value}
 
@@ -24,16 +28,6 @@ run bs = prefix_len is_run_byte bs
 abbrev pub begins_bad_number : List ℕ → Bool
 begins_bad_number [] = false
 begins_bad_number (x ∷ xs) = is_digit x && not (is_integer (take (run (x ∷ xs)) (x ∷ xs)))
-
--- three quotes
-abbrev pub begins_quotes : List ℕ → Bool
-begins_quotes (x ∷ y ∷ z ∷ xs) = x == 34 && (y == 34 && z == 34)
-begins_quotes _ = false
-
--- `//`
-abbrev pub begins_comment : List ℕ → Bool
-begins_comment (x ∷ y ∷ xs) = x == 47 && y == 47
-begins_comment _ = false
 
 -- the length of what is left of the line
 abbrev pub line_len : List ℕ → ℕ
@@ -102,14 +96,22 @@ comma_if Minus o ks = ks
 
 -- ---- the cut
 
--- Cut bs o l ks: the text bs, which begins at offset o behind a token that leaves the line as l, is blanks, comments and the tokens ks.
-pub data Cut : List ℕ → ℕ → LineState → List Lexeme → Type 0 where
-  blank : {x o : ℕ} {bs : List ℕ} {l : LineState} {ks : List Lexeme} → is_space x ≡ true → Cut bs (o + 1) l ks → Cut (x ∷ bs) o l ks
-  new_line : {x o : ℕ} {bs : List ℕ} {l : LineState} {ks : List Lexeme} → (x == 10) ≡ true → Cut bs (o + 1) (line_ended l) ks → Cut (x ∷ bs) o l (comma_if l o ks)
-  comment : {o : ℕ} {bs : List ℕ} {l : LineState} {ks : List Lexeme} → begins_comment bs ≡ true → Cut (drop (line_len bs) bs) (o + line_len bs) (line_ended l) ks → Cut bs o l (comma_if l o ks)
-  token : {n o : ℕ} {s : Sort} {bs : List ℕ} {l : LineState} {ks : List Lexeme} → Begins l bs n s → Cut (drop n bs) (o + n) (line_after s (take n bs)) ks → Cut bs o l (lexeme s (take n bs) o ∷ ks)
-  finish : {o : ℕ} {l : LineState} → Cut [] o l (comma_if l o (lexeme sorts.End [] o ∷ []))
+-- CutIn p bs o l ks: in the profile p the text bs, which begins at offset o behind a token that leaves the line as l, is blanks, comments, attributes and the tokens ks. An attribute leaves the line as it was.
+pub data CutIn (p : Profile) : List ℕ → ℕ → LineState → List Lexeme → Type 0 where
+  blank : {x o : ℕ} {bs : List ℕ} {l : LineState} {ks : List Lexeme} → is_space x ≡ true → CutIn p bs (o + 1) l ks → CutIn p (x ∷ bs) o l ks
+  new_line : {x o : ℕ} {bs : List ℕ} {l : LineState} {ks : List Lexeme} → (x == 10) ≡ true → CutIn p bs (o + 1) (line_ended l) ks → CutIn p (x ∷ bs) o l (comma_if l o ks)
+  comment : {o : ℕ} {bs : List ℕ} {l : LineState} {ks : List Lexeme} → begins_comment bs ≡ true → CutIn p (drop (line_len bs) bs) (o + line_len bs) (line_ended l) ks → CutIn p bs o l (comma_if l o ks)
+  attribute : {n o : ℕ} {bs : List ℕ} {l : LineState} {ks : List Lexeme} → attribute_in p bs ≡ Some n → CutIn p (drop n bs) (o + n) l ks → CutIn p bs o l ks
+  token : {n o : ℕ} {s : Sort} {bs : List ℕ} {l : LineState} {ks : List Lexeme} → Begins l bs n s → CutIn p (drop n bs) (o + n) (line_after s (take n bs)) ks → CutIn p bs o l (lexeme s (take n bs) o ∷ ks)
+  finish : {o : ℕ} {l : LineState} → CutIn p [] o l (comma_if l o (lexeme sorts.End [] o ∷ []))
 
--- the tokens of a source
+-- the tokens of a source in a profile
+abbrev pub IsCutIn : Profile → List ℕ → List Lexeme → Type 0
+IsCutIn p bs ks = CutIn p bs 0 Plain ks
+
+-- in the default profile
+abbrev pub Cut : List ℕ → ℕ → LineState → List Lexeme → Type 0
+Cut = CutIn profiles.Default
+
 abbrev pub IsCut : List ℕ → List Lexeme → Type 0
-IsCut bs ks = Cut bs 0 Plain ks
+IsCut = IsCutIn profiles.Default

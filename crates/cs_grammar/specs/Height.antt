@@ -1,6 +1,6 @@
 -- How high a tree is (own rule): 1 for an expression without parts, and else one more than the greatest height of its parts.
 use Rattle.std.specs.Prelude.{ℕ, suc, max, List, [], ◌∷◌}
-use Rattle.cs_grammar.specs.Tree.{Tree, atom, named, reference, conjunction, disjunction, paren, struct, list, wide, Wide, marked, merged, Declarations, no_declaration, declared, embedded, Trees, none, more, Fields, no_field, field, End, closed, any, each, DefinitionTree, body, FileTree, definitions}
+use Rattle.cs_grammar.specs.Tree.{Tree, atom, named, reference, conjunction, disjunction, paren, struct, list, wide, Wide, marked, merged, shut, Declarations, no_declaration, declared, embedded, Trees, none, more, Fields, no_field, field, End, closed, any, each, DefinitionTree, body, FileTree, definitions}
 use Rattle.cs_grammar.specs.View.{SeenDeclaration, field_seen, embedding_seen}
 
 abbrev mutual
@@ -15,10 +15,11 @@ abbrev mutual
   height (list es end) = suc (max (height_all es) (height_end end))
   height (wide w) = height_wide w
 
-  -- a mark is no level, and a literal with embeddings is one
+  -- a mark is no level, and a literal with embeddings and `close` are one
   pub height_wide : Wide → ℕ
   height_wide (marked o e) = height e
   height_wide (merged o ds b) = suc (height_declarations ds)
+  height_wide (shut o e) = suc (height e)
 
   -- the greatest height; 0 of none
   pub height_all : Trees → ℕ

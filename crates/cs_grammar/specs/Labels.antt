@@ -3,7 +3,7 @@
 use Rattle.std.specs.List.{AllByRecursion}
 use Rattle.cs_grammar.specs.declared.ast.FieldMark.{FieldMark}
 use Rattle.cs_grammar.specs.declared.ast.FieldMark.TheVariants.{Regular, Optional, Required, Every}
-use Rattle.cs_grammar.specs.Tree.{Tree, atom, named, reference, conjunction, disjunction, paren, struct, list, wide, Wide, marked, merged, Declarations, no_declaration, declared, embedded, Trees, none, more, Fields, no_field, field, End, closed, any, each, body, FileTree, definitions}
+use Rattle.cs_grammar.specs.Tree.{Tree, atom, named, reference, conjunction, disjunction, paren, struct, list, wide, Wide, marked, merged, shut, Declarations, no_declaration, declared, embedded, Trees, none, more, Fields, no_field, field, End, closed, any, each, body, FileTree, definitions}
 
 -- the mark of a field with a label
 abbrev pub HasLabel : FieldMark → Type 0
@@ -28,6 +28,7 @@ abbrev mutual
   IsLabelledWide : Wide → Type 0
   IsLabelledWide (marked o e) = IsLabelled e
   IsLabelledWide (merged o ds b) = AreLabelledDeclarations ds
+  IsLabelledWide (shut o e) = IsLabelled e
 
   pub AreLabelledDeclarations : Declarations → Type 0
   AreLabelledDeclarations no_declaration = Unit {0}

@@ -2,6 +2,8 @@
 pub mod Spelling
 pub mod TextParts
 pub mod Values
+pub mod Front
+pub mod Attribute
 pub mod Cut
 pub mod Stuck
 pub mod Atom

@@ -1,6 +1,6 @@
 -- What file a source spells, however deep it nests (CUE, source file organization).
 use Rattle.std.specs.Prelude.{ℕ, List}
-use Rattle.cs_grammar.specs.Cut.{Lexeme, IsCut}
+use Rattle.cs_grammar.specs.Cut.{Lexeme, IsCutIn}
 use Rattle.cs_grammar.specs.Tree.{FileTree}
 use Rattle.cs_grammar.specs.Spells.{SpellsFile}
 use Rattle.cs_grammar.specs.TokenWords.{words}
@@ -11,7 +11,7 @@ use Rattle.cs_grammar.specs.declared.profile.Profile.TheVariants as profiles
 -- the tokens of the source, as the profile takes them, spell the file
 pub record IsSpelledByIn (p : Profile) (source : List ℕ) (f : FileTree) : Type 0 where
   pub tokens : List Lexeme
-  pub cut : IsCut source tokens
+  pub cut : IsCutIn p source tokens
   pub spelled : SpellsFile f (words (taken p tokens))
 
 -- in the default profile

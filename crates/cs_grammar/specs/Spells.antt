@@ -7,8 +7,8 @@ use Rattle.std.specs.List.{list_any}
 use Rattle.cs_grammar.specs.declared.ast.FieldMark.{FieldMark}
 use Rattle.cs_grammar.specs.declared.ast.FieldMark.TheVariants.{Regular, Optional, Required, Every}
 use Rattle.cs_grammar.specs.Atom.{Relation, top, bottom, null, boolean, integer, text, bound, not_integer, not_text, not_null}
-use Rattle.cs_grammar.specs.Words.{Words, start, name, definition_name, top_mark, bottom_mark, numeral, quoted, open_struct, open_wide, close_struct, open_list, close_list, open_paren, close_paren, comma, nl, colon, question, bang, amp, bar, dots, relation, unequal, minus, star, finish}
-use Rattle.cs_grammar.specs.Tree.{Label, Tree, atom, named, reference, conjunction, disjunction, paren, struct, list, wide, marked, merged, Declarations, no_declaration, declared, embedded, Trees, none, more, Fields, no_field, field, End, closed, any, each, DefinitionTree, definition, FileTree, file}
+use Rattle.cs_grammar.specs.Words.{Words, start, name, definition_name, top_mark, bottom_mark, numeral, quoted, open_struct, open_wide, close_struct, open_list, close_list, open_paren, open_call, close_paren, comma, nl, colon, question, bang, amp, bar, dots, relation, unequal, minus, star, finish}
+use Rattle.cs_grammar.specs.Tree.{Label, Tree, atom, named, reference, conjunction, disjunction, paren, struct, list, wide, marked, merged, shut, Declarations, no_declaration, declared, embedded, Trees, none, more, Fields, no_field, field, End, closed, any, each, DefinitionTree, definition, FileTree, file}
 
 -- the names that are no operands
 abbrev pub reserved_names : List (List ℕ)
@@ -26,6 +26,10 @@ is_package s = bytes_eq s (codes "package")
 -- the name that is in brackets for every key
 abbrev pub is_string : List ℕ → Bool
 is_string s = bytes_eq s (codes "string")
+
+-- the builtin function that closes a struct (CUE, builtin functions: close)
+abbrev pub is_close : List ℕ → Bool
+is_close s = bytes_eq s (codes "close")
 
 -- the literals that are names
 abbrev pub literal_of : List ℕ → Option Tree
@@ -147,7 +151,7 @@ mutual
     no_amp : {r : Words} → SpellsAmps none r r
     an_amp : {p : ℕ} {e : Tree} {es : Trees} {ts us r : Words} → SpellsOperand e ts us → SpellsAmps es us r → SpellsAmps (more e es) (amp p ∷ ts) r
 
-  -- Operand = `_`, `_|_`, definition-name, name other than `for`, `if`, `let`, Number, text, Bound, `(` Expr [ nl ] `)`, Struct, List; the names `null`, `true`, `false` are literals
+  -- Operand = `_`, `_|_`, definition-name, name other than `for`, `if`, `let`, Number, text, Bound, `(` Expr [ nl ] `)`, Struct, List, and in the wide profile `close` `(` Expr [ nl ] `)`; the names `null`, `true`, `false` are literals
   pub data SpellsOperand : Tree → Words → Words → Type 0 where
     top_is : {p : ℕ} {r : Words} → SpellsOperand (atom top) (top_mark p ∷ r) r
     bottom_is : {p : ℕ} {r : Words} → SpellsOperand (atom bottom) (bottom_mark p ∷ r) r
@@ -159,6 +163,8 @@ mutual
     paren_is : {p : ℕ} {e : Tree} {ts us r : Words} → SpellsExpr e ts us → ClosesParen us r → SpellsOperand (paren e) (open_paren p ∷ ts) r
     struct_is : {p : ℕ} {fs : Fields} {b : Bool} {ts r : Words} → SpellsStruct fs b ts r → SpellsOperand (struct p fs b) (open_struct p ∷ ts) r
     list_is : {p : ℕ} {es : Trees} {end : End} {ts r : Words} → SpellsList es end ts r → SpellsOperand (list es end) (open_list p ∷ ts) r
+    call_paren_is : {p : ℕ} {e : Tree} {ts us r : Words} → SpellsExpr e ts us → ClosesParen us r → SpellsOperand (paren e) (open_call p ∷ ts) r
+    shut_is : {s : List ℕ} {o p : ℕ} {e : Tree} {ts us r : Words} → is_close s ≡ true → SpellsExpr e ts us → ClosesParen us r → SpellsOperand (wide (shut o e)) (name s o ∷ open_call p ∷ ts) r
     wide_struct_is : {p : ℕ} {ds : Declarations} {b : Bool} {e : Tree} {ts r : Words} → e ≡ literal p ds b → SpellsWideStruct ds b ts r → SpellsOperand e (open_wide p ∷ ts) r
 
   -- what is behind `{`: `}`; `...` [ comma ] `}`; or Field { comma Field } [ comma `...` ] [ comma ] `}`

@@ -38,7 +38,7 @@ mark_kind t =
 
 -- what a mark is for the grammar where the wide profile reads it in its own way
 abbrev pub wide_kind : List ℕ → Kind
-wide_kind t = if bytes_eq t (codes "{") then kinds.OpenWide else kinds.LeftOut
+wide_kind t = if bytes_eq t (codes "{") then kinds.OpenWide else (if bytes_eq t (codes "(") then kinds.OpenCall else kinds.LeftOut)
 
 -- what a token is for the grammar
 abbrev pub kind_of : Sort → List ℕ → Kind
@@ -74,6 +74,7 @@ word_of kinds.CloseStruct t o = W.close_struct o
 word_of kinds.OpenList t o = W.open_list o
 word_of kinds.CloseList t o = W.close_list o
 word_of kinds.OpenParen t o = W.open_paren o
+word_of kinds.OpenCall t o = W.open_call o
 word_of kinds.CloseParen t o = W.close_paren o
 word_of kinds.Comma t o = W.comma o
 word_of kinds.Colon t o = W.colon o

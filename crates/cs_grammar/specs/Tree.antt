@@ -24,10 +24,12 @@ mutual
     -- a form of the wide profile alone
     wide : Wide → Tree
 
-  -- `*e`, where the mark is, and e; and a struct literal with embeddings, where it is, its declarations, and whether it is opened
+  -- `*e`, where the mark is, and e; a struct literal with embeddings, where it is, its declarations, and whether it is opened; and `close(e)`,
+  -- where `close` is, and e
   pub data Wide : Type 0 where
     marked : ℕ → Tree → Wide
     merged : ℕ → Declarations → Bool → Wide
+    shut : ℕ → Tree → Wide
 
   -- the declarations of a literal with embeddings: fields, and expressions that are embedded, with where they are
   pub data Declarations : Type 0 where

@@ -94,6 +94,7 @@ field_step f = record { label = record { text = string_bytes f.label; quotes = f
 abbrev pub wide_step : Wide-F SeenDeclaration Tree End Wide Seen → Wide
 wide_step (Wide-F.Marked o b) = T.marked o b.value
 wide_step (Wide-F.Merged o v opened) = T.merged o (declarations_of v.items) opened
+wide_step (Wide-F.Shut o b) = T.shut o b.value
 
 abbrev pub declaration_step : Declaration-F SeenDeclaration Tree End Wide Seen → SeenDeclaration
 declaration_step (Declaration-F.Field f) = field_seen f

@@ -21,6 +21,8 @@ pub data Word : Type 0 where
   open_list : ℕ → Word
   close_list : ℕ → Word
   open_paren : ℕ → Word
+  -- `(` in the wide profile, where it may stand behind `close`
+  open_call : ℕ → Word
   close_paren : ℕ → Word
   -- `,` and the inserted comma
   comma : ℕ → Word
@@ -58,6 +60,7 @@ start (close_struct o) = o
 start (open_list o) = o
 start (close_list o) = o
 start (open_paren o) = o
+start (open_call o) = o
 start (close_paren o) = o
 start (comma o) = o
 start (nl o) = o

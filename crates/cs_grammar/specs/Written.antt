@@ -8,7 +8,7 @@ use Rattle.cs_grammar.specs.declared.token.Sort.TheVariants as sorts
 use Rattle.cs_grammar.specs.Spelling.{sort_of}
 use Rattle.cs_grammar.specs.Atom.{Atom, top, bottom, null, boolean, integer, text, bound, not_integer, not_text, not_null}
 use Rattle.cs_grammar.specs.Spells.{is_reserved, literal_of, every_label}
-use Rattle.cs_grammar.specs.Tree.{Label, Tree, atom, named, reference, conjunction, disjunction, paren, struct, list, wide, Wide, marked, merged, Declarations, no_declaration, declared, embedded, Trees, none, more, Fields, no_field, field, End, closed, any, each, DefinitionTree, definition, FileTree, file}
+use Rattle.cs_grammar.specs.Tree.{Label, Tree, atom, named, reference, conjunction, disjunction, paren, struct, list, wide, Wide, marked, merged, shut, Declarations, no_declaration, declared, embedded, Trees, none, more, Fields, no_field, field, End, closed, any, each, DefinitionTree, definition, FileTree, file}
 
 -- where an expression stands: by itself, as an operand of `|`, or as an operand of `&`
 pub data Place : Type 0 where
@@ -74,6 +74,7 @@ abbrev mutual
   pub IsWrittenWide : Place → Wide → Type 0
   IsWrittenWide p (marked o e) = IsWritten p e
   IsWrittenWide p (merged o ds b) = AreWrittenDeclarations ds
+  IsWrittenWide p (shut o e) = IsWritten by_itself e
 
   pub AreWrittenDeclarations : Declarations → Type 0
   AreWrittenDeclarations no_declaration = Unit {0}

@@ -82,6 +82,12 @@ pub enum Wide {
         declarations: Vec<Declaration>,
         opened: bool,
     },
+    /// `close(e)`: the struct literals of a definition are closed without it (CUE, builtin functions: close), so it is a parenthesis that
+    /// no literal embeds. And the offset of `close`.
+    Shut {
+        at: usize,
+        value: Box<Expr>,
+    },
 }
 
 /// A declaration of a struct literal with embeddings.

@@ -18,6 +18,8 @@ pub enum Kind {
     OpenList,
     CloseList,
     OpenParen,
+    /// `(` in the wide profile, where it may stand behind `close`.
+    OpenCall,
     CloseParen,
     Comma,
     Colon,

@@ -2,6 +2,7 @@
 #![tactic(auto)]
 
 mod ast;
+mod attribute;
 mod fault;
 mod kind;
 mod line;
@@ -9,6 +10,7 @@ mod profile;
 mod token;
 
 pub use ast::{Declaration, Definition, Expr, Field, FieldMark, File, ListEnd, Relation, Wide};
+pub use attribute::{AttributeStep, Opened};
 pub use fault::SyntaxFault;
 pub use kind::Kind;
 pub use line::LineState;

@@ -10,7 +10,7 @@ use cs_instance_reasons::InstanceCause;
 use cs_place::Named;
 use cs_reason_words::{Form, put_told, report_verdict, told_by};
 use cs_reasons::{Reasons, Telling};
-use cs_sources::{declared_in, sources_of};
+use cs_sources::{Profile, declared_in, sources_of};
 use std::alloc::{AllocError, Global};
 
 /// Puts what is told of the reasons, if there are any: in the output formats of JSON Schema nothing.
@@ -35,7 +35,7 @@ fn put_reasons(
     if form.is_standard() {
         return Ok(()); // the verdict alone
     }
-    let cut = sources_of(alloc, sources)?;
+    let cut = sources_of(alloc, Profile::Wide, sources)?;
     let declared = declared_in(alloc, &cut)?;
     let mut words = Definitions::new(alloc, rules, flat, &declared);
     let told = told_by(alloc, &mut words, telling, document, sources, reasons)?;

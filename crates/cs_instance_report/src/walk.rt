@@ -14,7 +14,7 @@ pub(crate) struct Node<'t> {
     pub(crate) shape: Option<&'t Shape>,
     /// The expression in the sources, where that was found.
     pub(crate) source: Option<SourcePart<'t, 't>>,
-    /// Which of the alternatives of that, where it is a literal with embeddings.
+    /// Which of the alternatives of that, where it is put together.
     alternative: Alternative,
 }
 
@@ -127,7 +127,16 @@ impl<'t> Node<'t> {
         }
     }
 
-    /// The operand at a place. All alternatives of a literal with embeddings are that literal.
+    /// The expression in the sources that it is put together from: a literal with embeddings, or operands of `&`. Those that aren't put
+    /// together are a conjunction here too.
+    fn united(self, sources: &Declared<'_, '_>) -> Option<SourcePart<'t, 't>> {
+        let found = self.source?;
+        let is_conjunction = matches!(self.shape, Some(Shape::And(_)));
+        let is_united = !is_conjunction && found.is_conjunction() || sources.embeds(found);
+        is_united.then_some(found)
+    }
+
+    /// The operand at a place. All alternatives of what is put together are that whole expression.
     pub(crate) fn operand(
         self,
         sources: &Declared<'_, '_>,
@@ -138,7 +147,7 @@ impl<'t> Node<'t> {
         let Some(found) = self.source else {
             return self.to(shape, None);
         };
-        if sources.embeds(found) {
+        if self.united(sources).is_some() {
             let alternative = Alternative {
                 number: place,
                 count: self.operands().len(),
@@ -167,12 +176,9 @@ impl<'t> Node<'t> {
         sources: &'t Declared<'t, 't>,
         place: usize,
     ) -> Result<Option<SourcePart<'t, 't>>, AllocError> {
-        let Some(found) = self.source else {
-            return Ok(None);
+        let Some(found) = self.united(sources) else {
+            return Ok(self.source.and_then(|found| found.declaration(place)));
         };
-        if !sources.embeds(found) {
-            return Ok(found.declaration(place));
-        }
         let Some(part) = self.parts().get(place) else {
             return Ok(None);
         };

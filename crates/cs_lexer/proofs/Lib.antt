@@ -5,19 +5,21 @@
 -- bytes, and the longest front that passes a test
 pub mod Runs
 pub mod ByteClasses
--- what begins at a place: names, integers, texts, marks
+-- what begins at a place: names, integers, texts, marks, attributes
 pub mod Names
 pub mod Numbers
 pub mod Texts
 pub mod Marks
 pub mod Fronts
+pub mod Attributes
 -- the characters of a text and the value of an integer; texts by their parts (`text_parts`)
 pub mod CharacterSteps
 pub mod Literals
 pub mod TextValues
 pub mod Numerals
--- the cut: unique, kept by the loop, existing; its tokens as slices
+-- the cut: unique, kept by the loop, existing, the same in the wide profile; its tokens as slices
 pub mod CutUnique
 pub mod Cutting
 pub mod CutExists
+pub mod CutWide
 pub mod Slices

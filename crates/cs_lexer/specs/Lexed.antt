@@ -4,8 +4,10 @@ use Rattle.std.specs.declared.alloc.Global.{Global}
 use Rattle.cs_grammar.specs.declared.fault.SyntaxFault.{SyntaxFault}
 use Rattle.cs_grammar.specs.declared.fault.SyntaxFault.TheVariants as faults
 use Rattle.cs_grammar.specs.declared.token.Token.{Token}
+use Rattle.cs_grammar.specs.declared.profile.Profile.{Profile}
+use Rattle.cs_grammar.specs.declared.profile.Profile.TheVariants as profiles
 use Rattle.cs_grammar.specs.Cut.{Lexeme, lexeme}
-use Rattle.cs_grammar.specs.Stuck.{IsStuck}
+use Rattle.cs_grammar.specs.Stuck.{IsStuckIn}
 use Rattle.cs_grammar.specs.View.{lexemes_view}
 
 -- the answer is y, seen by view, unless memory ran out
@@ -25,10 +27,14 @@ abbrev pub AreSlices : List ℕ → ℕ → List Lexeme → Type 0
 AreSlices source o [] = Unit {0}
 AreSlices source o (lexeme s t p ∷ ks) = (o ≤ p) × (p + length t ≤ length source) × (t ≡ take (length t) (drop p source)) × AreSlices source (p + length t) ks
 
--- a source is refused so: it is stuck there, unless memory ran out
+-- a source is refused so in a profile: it is stuck there, unless memory ran out
+abbrev pub IsRefusalIn : Profile → List ℕ → SyntaxFault → Type 0
+IsRefusalIn p source faults.OutOfMemory = Unit {0}
+IsRefusalIn p source f = IsStuckIn p source f
+
+-- in the default profile
 abbrev pub IsRefusal : List ℕ → SyntaxFault → Type 0
-IsRefusal source faults.OutOfMemory = Unit {0}
-IsRefusal source f = IsStuck source f
+IsRefusal = IsRefusalIn profiles.Default
 
 -- these characters are answered, unless memory ran out
 abbrev pub IsOf : Result (String Global) SyntaxFault → List ℕ → Type 0

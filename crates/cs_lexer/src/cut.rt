@@ -1,14 +1,17 @@
 // The loop that cuts a source into tokens.
 
 ghost use Rattle.std.specs.Prelude.{◌≡◌, ◌⊎◌, List, [], ◌∷◌, ℕ, IfOk, IfErr};
-ghost use Rattle.cs_grammar.specs.Cut.{Lexeme, lexeme, IsCut, comma_if};
-ghost use Rattle.cs_grammar.specs.Stuck.{IsStuck};
+ghost use Rattle.cs_grammar.specs.Cut.{Lexeme, lexeme, IsCut, IsCutIn, comma_if};
+ghost use Rattle.cs_grammar.specs.Stuck.{IsStuck, IsStuckIn};
+ghost use Rattle.cs_grammar.specs.declared.profile.Profile.{Profile};
+ghost use Rattle.cs_grammar.specs.declared.profile.Profile.TheVariants as profiles;
 ghost use Rattle.cs_grammar.specs.View.{lexemes_view};
-ghost use Rattle.cs_lexer.specs.Lexed.{Answers, AreSlices, IsRefusal, Puts, Refuses};
+ghost use Rattle.cs_lexer.specs.Lexed.{Answers, AreSlices, IsRefusal, IsRefusalIn, Puts, Refuses};
 
+use crate::attribute::attribute_in;
 use crate::line::{line_after, line_ended};
 use crate::piece::{Piece, read_piece};
-use cs_grammar::{LineState, Sort, SyntaxFault, Token};
+use cs_grammar::{LineState, Profile, Sort, SyntaxFault, Token};
 use std::alloc::Global;
 
 /// Puts a token without a text.
@@ -30,24 +33,25 @@ fn end_line(tokens: &mut Vec<Token<'_>>, line: LineState, start: usize) -> Resul
     Ok(())
 }
 
-/// The tokens of a source, with the commas that the ends of lines insert, and the end
-/// (CUE, lexical elements). A comment counts as the end of its line. No text is copied.
+/// The tokens of a source in a profile, with the commas that the ends of lines insert, and the end
+/// (CUE, lexical elements). A comment counts as the end of its line, and in the wide profile an
+/// attribute as nothing (CUE, attributes). No text is copied.
 ///
 /// # Errors
 /// `NoToken` where no token of the profile begins, as at a number of another form, at a text without
-/// an end or with another escape, and at three quotes. `IntegerRange` at an integer that doesn't
-/// fit in 64 signed bits (the least one needs a `-` as the token before it). The first of them in
-/// the text is reported. `OutOfMemory`.
-pub fn lex(alloc: Global, source: &str) -> Result<Vec<Token<'_>>, SyntaxFault>
-    // The tokens are those of the source's cut.
-    ensures found { IfOk result (λ v. IsCut source.now (lexemes_view v.items)) }
+/// an end or with another escape, at three quotes, and at what is no whole attribute. `IntegerRange`
+/// at an integer that doesn't fit in 64 signed bits (the least one needs a `-` as the token before
+/// it). The first of them in the text is reported. `OutOfMemory`.
+pub fn lex_in(alloc: Global, profile: Profile, source: &str) -> Result<Vec<Token<'_>>, SyntaxFault>
+    // The tokens are those of the source's cut in the profile.
+    ensures found { IfOk result (λ v. IsCutIn profile source.now (lexemes_view v.items)) }
     // A fault other than `OutOfMemory` says where the source is stuck, and why.
-    ensures refused { IfErr result (λ f. IsRefusal source.now f) }
+    ensures refused { IfErr result (λ f. IsRefusalIn profile source.now f) }
     // Where the source has a cut, that is answered, unless memory runs out.
     ensures only { (ks : List Lexeme)
-        → IsCut source.now ks → Answers (λ v. lexemes_view v.items) result ks }
+        → IsCutIn profile source.now ks → Answers (λ v. lexemes_view v.items) result ks }
     // Where it is stuck, that is the fault, unless memory runs out.
-    ensures stuck { (f : SyntaxFault) → IsStuck source.now f → Refuses result f }
+    ensures stuck { (f : SyntaxFault) → IsStuckIn profile source.now f → Refuses result f }
     // Each token's text is the slice of the source at its start, and they are in order.
     ensures slices { IfOk result (λ v. AreSlices source.now 0 (lexemes_view v.items)) }
 {
@@ -77,7 +81,10 @@ pub fn lex(alloc: Global, source: &str) -> Result<Vec<Token<'_>>, SyntaxFault>
                 line = line_after(sort, &bytes[at..at + len]);
                 at += len;
             }
-            Piece::NoToken => return Err(SyntaxFault::NoToken { offset: at }),
+            Piece::NoToken => match attribute_in(alloc, profile, &bytes[at..])? {
+                Some(len) => at += len,
+                None => return Err(SyntaxFault::NoToken { offset: at }),
+            },
             Piece::TooLarge => return Err(SyntaxFault::IntegerRange { offset: at }),
         }
     }
@@ -86,14 +93,41 @@ pub fn lex(alloc: Global, source: &str) -> Result<Vec<Token<'_>>, SyntaxFault>
     Ok(tokens)
 }
 
-/// A source has one cut or is stuck at one place, never both, and always one of the two.
+/// The tokens of a source in the default profile (CUE, lexical elements).
+///
+/// # Errors
+/// Those of `lex_in`.
+pub fn lex(alloc: Global, source: &str) -> Result<Vec<Token<'_>>, SyntaxFault>
+    // The tokens are those of the source's cut.
+    ensures found { IfOk result (λ v. IsCut source.now (lexemes_view v.items)) }
+    // A fault other than `OutOfMemory` says where the source is stuck, and why.
+    ensures refused { IfErr result (λ f. IsRefusal source.now f) }
+    // Where the source has a cut, that is answered, unless memory runs out.
+    ensures only { (ks : List Lexeme)
+        → IsCut source.now ks → Answers (λ v. lexemes_view v.items) result ks }
+    // Where it is stuck, that is the fault, unless memory runs out.
+    ensures stuck { (f : SyntaxFault) → IsStuck source.now f → Refuses result f }
+    // Each token's text is the slice of the source at its start, and they are in order.
+    ensures slices { IfOk result (λ v. AreSlices source.now 0 (lexemes_view v.items)) }
+{
+    lex_in(alloc, Profile::Default, source)
+}
+
+/// In a profile a source has one cut or is stuck at one place, never both, and always one of the
+/// two.
 pub fn one_cut()
-    ensures once { (bs : List ℕ) (ks js : List Lexeme)
-        → IsCut bs ks → IsCut bs js → ks ≡ js }
-    ensures stuck_once { (bs : List ℕ) (f g : SyntaxFault)
-        → IsStuck bs f → IsStuck bs g → f ≡ g }
-    ensures always { (bs : List ℕ)
-        → ((ks : List Lexeme) × IsCut bs ks) ⊎ ((f : SyntaxFault) × IsStuck bs f) }
-    ensures apart { (bs : List ℕ) (ks : List Lexeme) (f : SyntaxFault)
-        → IsCut bs ks → IsStuck bs f → ⊥ }
+    ensures once { (p : Profile) (bs : List ℕ) (ks js : List Lexeme)
+        → IsCutIn p bs ks → IsCutIn p bs js → ks ≡ js }
+    ensures stuck_once { (p : Profile) (bs : List ℕ) (f g : SyntaxFault)
+        → IsStuckIn p bs f → IsStuckIn p bs g → f ≡ g }
+    ensures always { (p : Profile) (bs : List ℕ)
+        → ((ks : List Lexeme) × IsCutIn p bs ks) ⊎ ((f : SyntaxFault) × IsStuckIn p bs f) }
+    ensures apart { (p : Profile) (bs : List ℕ) (ks : List Lexeme) (f : SyntaxFault)
+        → IsCutIn p bs ks → IsStuckIn p bs f → ⊥ }
+{}
+
+/// The wide profile cuts a source that the default one cuts into the same tokens.
+pub fn wide_cuts_the_default()
+    ensures { (bs : List ℕ) (ks : List Lexeme)
+        → IsCut bs ks → IsCutIn profiles.Wide bs ks }
 {}

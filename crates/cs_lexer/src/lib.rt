@@ -1,6 +1,7 @@
 // From a source to its tokens, and what the texts of tokens stand for.
 #![tactic(auto)]
 
+mod attribute;
 mod bytes;
 mod characters;
 mod cut;
@@ -11,6 +12,6 @@ mod piece;
 mod text;
 
 pub use characters::unescape;
-pub use cut::{lex, one_cut};
+pub use cut::{lex, lex_in, one_cut, wide_cuts_the_default};
 pub use numeral::integer_value;
 pub use text::text_parts;

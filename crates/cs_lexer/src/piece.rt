@@ -23,14 +23,14 @@ pub(crate) enum Piece {
     Comment(usize),
     /// A token of that sort and length.
     Token(Sort, usize),
-    /// Nothing that the profile has.
+    /// Nothing of these.
     NoToken,
     /// An integer out of range.
     TooLarge,
 }
 
 /// The length of the name at the front of the bytes.
-fn name_len(bytes: &[u8]) -> usize
+pub(crate) fn name_len(bytes: &[u8]) -> usize
     ensures { result ≡ prefix_len is_name_byte bytes.now }
 {
     bytes.iter().take_while(|x| is_name_byte(**x)).count()

@@ -2,7 +2,7 @@
 use crate::kinds::{Kinds, kinds_of};
 use cs_guard::Guarded;
 use cs_place::{Named, Position, Positions};
-use cs_sources::{declared_in, sources_of};
+use cs_sources::{Profile, declared_in, sources_of};
 use std::alloc::{AllocError, Global};
 
 /// A definition, where it is declared first, and the kinds of its instances.
@@ -23,7 +23,7 @@ pub(crate) fn entries_of<'a>(
     package: &Guarded,
 ) -> Result<Vec<Entry<'a>>, AllocError> {
     let kinds = kinds_of(alloc, package)?;
-    let sources = sources_of(alloc, named)?;
+    let sources = sources_of(alloc, Profile::Wide, named)?;
     let declared = declared_in(alloc, &sources)?;
     let mut positions = Positions::new(&[]);
     let mut file = None;

@@ -6,7 +6,7 @@ use Rattle.cs_grammar.specs.declared.ast.FieldMark.{FieldMark}
 use Rattle.cs_grammar.specs.Words.{Word, Words, name, quoted, open_list, close_list, comma, nl, colon, finish}
 use Rattle.cs_grammar.specs.Tree as T
 use Rattle.cs_grammar.specs.Tree.{Label, Tree, Declarations, no_declaration, declared, embedded, Trees, none, more, Fields, no_field, field, End, DefinitionTree, body, FileTree, definitions}
-use Rattle.cs_grammar.specs.Spells.{is_string, fields_alone, literal_if, Comma, explicit, inserted, ClosesParen, paren_here, paren_after, ClosesList, list_here, list_after, ClosesStruct, struct_here, struct_after, SpellsNumber, positive, negative, SpellsBound, limit_is, other_number, other_text, other_null, SpellsLabel, bare_label, quoted_label, SpellsMark, regular, optional, required, SpellsOpening, unopened, opened, SpellsValue, long, short, SpellsField, labelled, every_key, SpellsExpr, one_branch, disjunction_is, SpellsBars, no_bar, a_bar, SpellsBranch, unmarked, marked_is, SpellsConj, one_operand, conjunction_is, SpellsAmps, no_amp, an_amp, SpellsOperand, top_is, bottom_is, reference_is, name_is, number_is, text_is, bound_is, paren_is, struct_is, list_is, wide_struct_is, SpellsWideStruct, no_declarations, wide_dots_alone, some_declarations, SpellsDeclarations, a_field, an_embedding, SpellsMore, no_more, next_declaration, SpellsStruct, no_fields, dots_alone, fields, SpellsFields, no_more_fields, next_field, SpellsList, no_elements, rest_alone, elements, SpellsElements, no_more_elements, next_element, SpellsEnd, closed_is, rest_is, SpellsRest, any_is, each_is, SpellsDefinition, defined, SpellsDefinitions, no_definition, next_definition, SpellsPackage, no_clause, clause, SpellsFile, spelled}
+use Rattle.cs_grammar.specs.Spells.{is_string, fields_alone, literal_if, Comma, explicit, inserted, ClosesParen, paren_here, paren_after, ClosesList, list_here, list_after, ClosesStruct, struct_here, struct_after, SpellsNumber, positive, negative, SpellsBound, limit_is, other_number, other_text, other_null, SpellsLabel, bare_label, quoted_label, SpellsMark, regular, optional, required, SpellsOpening, unopened, opened, SpellsValue, long, short, SpellsField, labelled, every_key, SpellsExpr, one_branch, disjunction_is, SpellsBars, no_bar, a_bar, SpellsBranch, unmarked, marked_is, SpellsConj, one_operand, conjunction_is, SpellsAmps, no_amp, an_amp, SpellsOperand, top_is, bottom_is, reference_is, name_is, number_is, text_is, bound_is, paren_is, struct_is, list_is, call_paren_is, shut_is, wide_struct_is, SpellsWideStruct, no_declarations, wide_dots_alone, some_declarations, SpellsDeclarations, a_field, an_embedding, SpellsMore, no_more, next_declaration, SpellsStruct, no_fields, dots_alone, fields, SpellsFields, no_more_fields, next_field, SpellsList, no_elements, rest_alone, elements, SpellsElements, no_more_elements, next_element, SpellsEnd, closed_is, rest_is, SpellsRest, any_is, each_is, SpellsDefinition, defined, SpellsDefinitions, no_definition, next_definition, SpellsPackage, no_clause, clause, SpellsFile, spelled}
 use Rattle.cs_grammar.specs.Height.{height, height_all, height_fields, height_declarations, height_end, height_definitions, file_height}
 use Rattle.cs_syntax.specs.Nesting.{OpenLevels, ends_with_chained_label, is_short, counted_if, behind, nesting_at, nesting_from, nesting}
 use Rattle.cs_syntax.proofs.NestingBounds.{max_left, max_right, max_both}
@@ -139,6 +139,7 @@ some_height (T.struct o fs b) = omega arith
 some_height (T.list es end) = omega arith
 some_height (T.wide (T.marked o e)) = some_height e
 some_height (T.wide (T.merged o ds b)) = omega arith
+some_height (T.wide (T.shut o e)) = omega arith
 
 -- the fields of declarations are as high as these, where none is an embedding
 abbrev IsHigh : ℕ → Option Fields → Type 0
@@ -223,6 +224,8 @@ mutual
   operand_deep (paren_is {p} {e} v c) h le k n ns low f = bracket _ (height e) le (λ j lj k n ns low f ws. expression_deep v j lj k 0 (n ∷ ns) low (paren_low c (omega arith) f) _) (λ n ns ws. refl) k n ns low f
   operand_deep (struct_is {p} {fs} {b} v) h le k n ns low f = bracket _ (height_fields fs) le (λ j lj k n ns low f ws. struct_deep v j lj k n ns low f _ refl) (λ n ns ws. refl) k n ns low f
   operand_deep (list_is {p} {es} {end} v) h le k n ns low f = bracket _ (max (height_all es) (height_end end)) le (λ j lj k n ns low f ws. list_deep v j lj k n ns low f _) (λ n ns ws. refl) k n ns low f
+  operand_deep (call_paren_is {p} {e} v c) h le k n ns low f = bracket _ (height e) le (λ j lj k n ns low f ws. expression_deep v j lj k 0 (n ∷ ns) low (paren_low c (omega arith) f) _) (λ n ns ws. refl) k n ns low f
+  operand_deep (shut_is {s} {o} {p} {e} called v c) h le k n ns low f = λ ws. pass _ (omega arith) (bracket _ (height e) le (λ j lj k n ns low f ws. expression_deep v j lj k 0 (n ∷ ns) low (paren_low c (omega arith) f) _) (λ n ns ws. refl) k n ns low f _)
   operand_deep (wide_struct_is {p} {ds} {b} is v) h le k n ns low f =
       let high : suc (height_declarations ds) ≤ h = omega (arith, le, ap height is, literal_height p ds b (fields_alone ds) (high_alone ds)) in
       bracket _ (height_declarations ds) high (λ j lj k n ns low f ws. wide_struct_deep v j lj k n ns low f _ refl) (λ n ns ws. refl) k n ns low f

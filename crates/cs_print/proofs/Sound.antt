@@ -16,14 +16,14 @@ use Rattle.cs_grammar.specs.declared.token.Sort.{Sort}
 use Rattle.cs_grammar.specs.declared.token.Sort.TheVariants as sorts
 use Rattle.cs_grammar.specs.Atom as A
 use Rattle.cs_grammar.specs.Spelling.{is_letter, is_digit, is_name_byte, is_definition_rest, sort_if, underscore_sort, mark_sort, used_marks, left_out_marks, sort_of}
-use Rattle.cs_grammar.specs.Cut.{Lexeme, lexeme, Cut, blank, new_line, comment, token, finish, comma_if}
+use Rattle.cs_grammar.specs.Cut.{Lexeme, lexeme, CutIn, blank, new_line, comment, attribute, token, finish, comma_if}
 use Rattle.cs_grammar.specs.Source.{IsSpelledByIn}
 use Rattle.cs_grammar.specs.Taken.{wide_lexeme, taken}
 use Rattle.cs_grammar.specs.TokenWords.{mark_kind, wide_kind, bare_name, word_of, word, words}
 use Rattle.cs_grammar.specs.Words as W
 use Rattle.cs_grammar.specs.Words.{Word, Words}
-use Rattle.cs_grammar.specs.Tree.{Label, Tree, atom, named, reference, conjunction, disjunction, paren, struct, list, wide, marked, merged, Declarations, no_declaration, declared, embedded, Trees, Fields, field, End, DefinitionTree, FileTree}
-use Rattle.cs_grammar.specs.Spells.{is_null, is_reserved, literal_of, fields_alone, literal_if, Comma, explicit, inserted, ClosesParen, paren_here, paren_after, ClosesList, list_here, list_after, ClosesStruct, struct_here, struct_after, SpellsNumber, positive, negative, SpellsBound, limit_is, other_number, other_text, other_null, SpellsLabel, bare_label, quoted_label, SpellsMark, regular, optional, required, SpellsOpening, unopened, opened, SpellsValue, long, short, SpellsField, labelled, every_key, SpellsExpr, one_branch, disjunction_is, SpellsBars, no_bar, a_bar, SpellsBranch, unmarked, marked_is, SpellsConj, one_operand, conjunction_is, SpellsAmps, no_amp, an_amp, SpellsOperand, top_is, bottom_is, reference_is, name_is, number_is, text_is, bound_is, paren_is, struct_is, list_is, wide_struct_is, SpellsWideStruct, no_declarations, wide_dots_alone, some_declarations, SpellsDeclarations, a_field, an_embedding, SpellsMore, no_more, next_declaration, SpellsStruct, no_fields, dots_alone, fields, SpellsFields, no_more_fields, next_field, SpellsList, no_elements, rest_alone, elements, SpellsElements, no_more_elements, next_element, SpellsEnd, closed_is, rest_is, SpellsRest, any_is, each_is, SpellsDefinition, defined, SpellsDefinitions, no_definition, next_definition, SpellsPackage, no_clause, clause, SpellsFile, spelled}
+use Rattle.cs_grammar.specs.Tree.{Label, Tree, atom, named, reference, conjunction, disjunction, paren, struct, list, wide, marked, merged, shut, Declarations, no_declaration, declared, embedded, Trees, Fields, field, End, DefinitionTree, FileTree}
+use Rattle.cs_grammar.specs.Spells.{is_null, is_reserved, literal_of, fields_alone, literal_if, Comma, explicit, inserted, ClosesParen, paren_here, paren_after, ClosesList, list_here, list_after, ClosesStruct, struct_here, struct_after, SpellsNumber, positive, negative, SpellsBound, limit_is, other_number, other_text, other_null, SpellsLabel, bare_label, quoted_label, SpellsMark, regular, optional, required, SpellsOpening, unopened, opened, SpellsValue, long, short, SpellsField, labelled, every_key, SpellsExpr, one_branch, disjunction_is, SpellsBars, no_bar, a_bar, SpellsBranch, unmarked, marked_is, SpellsConj, one_operand, conjunction_is, SpellsAmps, no_amp, an_amp, SpellsOperand, top_is, bottom_is, reference_is, name_is, number_is, text_is, bound_is, paren_is, struct_is, list_is, call_paren_is, shut_is, wide_struct_is, SpellsWideStruct, no_declarations, wide_dots_alone, some_declarations, SpellsDeclarations, a_field, an_embedding, SpellsMore, no_more, next_declaration, SpellsStruct, no_fields, dots_alone, fields, SpellsFields, no_more_fields, next_field, SpellsList, no_elements, rest_alone, elements, SpellsElements, no_more_elements, next_element, SpellsEnd, closed_is, rest_is, SpellsRest, any_is, each_is, SpellsDefinition, defined, SpellsDefinitions, no_definition, next_definition, SpellsPackage, no_clause, clause, SpellsFile, spelled}
 use Rattle.cs_grammar.specs.Written.{Place, by_itself, of_bar, of_amp, IsName, IsDefinitionName, IsTextOrName, IsWrittenLabel, IsWritten, AreWrittenDeclarations, AreWritten, AreWrittenFields, IsWrittenEnd, IsWrittenDefinition, IsWrittenClause, IsWrittenFile}
 use Rattle.cs_print.proofs.Tokens.{clash}
 
@@ -66,11 +66,12 @@ mark_good t o = by (bytes_eq t (codes "{")) (bytes_eq t (codes "}")) (bytes_eq t
     by false false false false false false false false false false false false false false false false false false false false = tt
 
 brace_good : (t : List ℕ) (o : ℕ) → Good (word_of (wide_kind t) t o)
-brace_good t o = by (bytes_eq t (codes "{"))
+brace_good t o = by (bytes_eq t (codes "{")) (bytes_eq t (codes "("))
   where
-    by : (b : Bool) → Good (word_of (cond b kinds.OpenWide kinds.LeftOut) t o)
-    by true = tt
-    by false = tt
+    by : (a b : Bool) → Good (word_of (cond a kinds.OpenWide (cond b kinds.OpenCall kinds.LeftOut)) t o)
+    by true b = tt
+    by false true = tt
+    by false false = tt
 
 abbrev is_defined : Option Sort → Bool
 is_defined None = false
@@ -148,10 +149,11 @@ comma_good Plain o ks h = h
 comma_good WantsComma o ks h = (tt, h)
 comma_good Minus o ks h = h
 
-words_good : {bs : List ℕ} {o : ℕ} {l : LineState} {ks : List Lexeme} → Cut bs o l ks → AreGood (words ks)
+words_good : {p : Profile} {bs : List ℕ} {o : ℕ} {l : LineState} {ks : List Lexeme} → CutIn p bs o l ks → AreGood (words ks)
 words_good (blank h k) = words_good k
 words_good (new_line {x} {o} {bs} {l} {ks} h k) = comma_good l o ks (words_good k)
 words_good (comment {o} {bs} {l} {ks} h k) = comma_good l o ks (words_good k)
+words_good (attribute h k) = words_good k
 words_good (token {n} {o} {s} {bs} {l} {ks} h k) = (word_good s _ o h.token.spelled, words_good k)
 words_good (finish {o} {l}) = comma_good l o _ (tt, tt)
 
@@ -160,9 +162,10 @@ star_good : (b : Bool) (t : List ℕ) (o : ℕ) → Good (word (lexeme (cond b s
 star_good true t o = mark_good t o
 star_good false t o = tt
 
-open_good : (b : Bool) (t : List ℕ) (o : ℕ) → Good (word (lexeme (cond b sorts.Wide sorts.Mark) t o))
-open_good true t o = brace_good t o
-open_good false t o = mark_good t o
+open_good : (a b : Bool) (t : List ℕ) (o : ℕ) → Good (word (lexeme (cond a sorts.Wide (cond b sorts.Wide sorts.Mark)) t o))
+open_good true b t o = brace_good t o
+open_good false true t o = brace_good t o
+open_good false false t o = mark_good t o
 
 wide_good : (k : Lexeme) → Good (word k) → Good (word (wide_lexeme k))
 wide_good (lexeme sorts.LeftOut t o) h = star_good (bytes_eq t (codes "*")) t o
@@ -173,7 +176,7 @@ wide_good (lexeme sorts.Top t o) h = h
 wide_good (lexeme sorts.Bottom t o) h = h
 wide_good (lexeme sorts.Integer t o) h = h
 wide_good (lexeme sorts.Text t o) h = h
-wide_good (lexeme sorts.Mark t o) h = open_good (bytes_eq t (codes "{")) t o
+wide_good (lexeme sorts.Mark t o) h = open_good (bytes_eq t (codes "{")) (bytes_eq t (codes "(")) t o
 wide_good (lexeme sorts.Wide t o) h = h
 wide_good (lexeme sorts.Inserted t o) h = h
 wide_good (lexeme sorts.End t o) h = h
@@ -200,6 +203,7 @@ written_anywhere p (struct o fs b) w = w
 written_anywhere p (list es end) w = w
 written_anywhere p (wide (marked o e)) w = written_anywhere p e w
 written_anywhere p (wide (merged o ds b)) w = w
+written_anywhere p (wide (shut o e)) w = w
 
 written_itself : (t : Tree) → IsWritten of_bar t → IsWritten by_itself t
 written_itself (atom a) w = w
@@ -212,6 +216,7 @@ written_itself (struct o fs b) w = w
 written_itself (list es end) w = w
 written_itself (wide (marked o e)) w = written_itself e w
 written_itself (wide (merged o ds b)) w = w
+written_itself (wide (shut o e)) w = w
 
 name_written : (s : List ℕ) (p : ℕ) (e : Tree) → IsName s → is_reserved s ≡ false → e ≡ unwrap_or (literal_of s) (named s p) → IsWritten of_amp e
 name_written s p e name free is = by (is_null s) (bytes_eq s (codes "true")) (bytes_eq s (codes "false")) refl refl refl
@@ -342,6 +347,8 @@ mutual
   operand_left (paren_is k c) g = let a = expression_left k g.1 in (a.0, paren_left c a.1)
   operand_left (struct_is k) g = struct_fields_left k g.1
   operand_left (list_is k) g = list_parts_left k g.1
+  operand_left (call_paren_is k c) g = let a = expression_left k g.1 in (a.0, paren_left c a.1)
+  operand_left (shut_is s k c) g = let a = expression_left k g.1.1 in (a.0, paren_left c a.1)
   operand_left (wide_struct_is {p} {ds} {b} is k) g =
       let a = declarations_inside_left k g.1 in
       (subst (IsWritten of_amp) (sym is) (literal_written p ds b (fields_alone ds) a.0 (written_alone ds a.0)), a.1)

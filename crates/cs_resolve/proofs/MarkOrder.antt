@@ -8,7 +8,7 @@ use Rattle.cs_grammar.specs.Source.{IsSpelledBy}
 use Rattle.cs_grammar.specs.Tree.{Label, Tree, atom, null, boolean, named, reference, conjunction, disjunction, paren, struct, list, Trees, none, more, Declarations, Fields, no_field, field, End, closed, any, each, DefinitionTree, body, FileTree, definitions}
 use Rattle.cs_grammar.specs.Words as W
 use Rattle.cs_grammar.specs.Words.{Words}
-use Rattle.cs_grammar.specs.Spells.{is_null, literal_of, start_at, fields_alone, literal_if, SpellsBound, limit_is, other_number, other_text, other_null, SpellsLabel, bare_label, quoted_label, SpellsMark, regular, optional, required, SpellsValue, long, short, SpellsField, labelled, every_key, SpellsExpr, one_branch, disjunction_is, SpellsBars, no_bar, a_bar, SpellsBranch, unmarked, marked_is, SpellsConj, one_operand, conjunction_is, SpellsAmps, no_amp, an_amp, SpellsOperand, top_is, bottom_is, reference_is, name_is, number_is, text_is, bound_is, paren_is, struct_is, list_is, wide_struct_is, SpellsWideStruct, no_declarations, wide_dots_alone, some_declarations, SpellsDeclarations, a_field, an_embedding, SpellsMore, no_more, next_declaration, SpellsStruct, no_fields, dots_alone, fields, SpellsFields, no_more_fields, next_field, SpellsList, no_elements, rest_alone, elements, SpellsElements, no_more_elements, next_element, SpellsEnd, closed_is, rest_is, SpellsRest, any_is, each_is, SpellsDefinition, defined, SpellsDefinitions, no_definition, next_definition, SpellsFile, spelled}
+use Rattle.cs_grammar.specs.Spells.{is_null, literal_of, start_at, fields_alone, literal_if, SpellsBound, limit_is, other_number, other_text, other_null, SpellsLabel, bare_label, quoted_label, SpellsMark, regular, optional, required, SpellsValue, long, short, SpellsField, labelled, every_key, SpellsExpr, one_branch, disjunction_is, SpellsBars, no_bar, a_bar, SpellsBranch, unmarked, marked_is, SpellsConj, one_operand, conjunction_is, SpellsAmps, no_amp, an_amp, SpellsOperand, top_is, bottom_is, reference_is, name_is, number_is, text_is, bound_is, paren_is, struct_is, list_is, call_paren_is, shut_is, wide_struct_is, SpellsWideStruct, no_declarations, wide_dots_alone, some_declarations, SpellsDeclarations, a_field, an_embedding, SpellsMore, no_more, next_declaration, SpellsStruct, no_fields, dots_alone, fields, SpellsFields, no_more_fields, next_field, SpellsList, no_elements, rest_alone, elements, SpellsElements, no_more_elements, next_element, SpellsEnd, closed_is, rest_is, SpellsRest, any_is, each_is, SpellsDefinition, defined, SpellsDefinitions, no_definition, next_definition, SpellsFile, spelled}
 use Rattle.cs_grammar.specs.declared.ast.FieldMark.{FieldMark}
 use Rattle.cs_grammar.specs.declared.ast.FieldMark.TheVariants.{Regular, Optional, Required, Every}
 use Rattle.cs_grammar.proofs.Rests.{IsRest, whole, behind, of_comma, of_paren, of_list_end, of_struct_end, of_number, of_mark, of_opening, of_package, of_conj as of_marked, of_declarations as of_declared}
@@ -195,6 +195,8 @@ mutual
   of_operand (paren_is e c) h = then (of_expr e (tail h)) (of_paren c)
   of_operand (struct_is s) h = put (at_least h) (of_struct s (past h))
   of_operand (list_is l) h = of_list l (tail h)
+  of_operand (call_paren_is e c) h = then (of_expr e (tail h)) (of_paren c)
+  of_operand (shut_is s e c) h = no_offsets (then (of_expr e (tail (tail h))) (of_paren c))
   of_operand {o = from} (wide_struct_is {p} {ds} {b} {e} {ts} {r} is s) h =
       subst (λ (t : Tree). Spans from (marks t) r) (sym is) (of_literal p ds b (fields_alone ds) (put (at_least h) (of_wide_struct s (past h))))
 

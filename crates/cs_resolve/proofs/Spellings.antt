@@ -4,7 +4,7 @@ use Rattle.std.specs.List.{AllByRecursion, list_all, list_any}
 use Rattle.std.specs.Str.{bytes_eq}
 use Rattle.std.specs.Prelude.{◌==◌}
 use Rattle.cs_grammar.specs.Source.{IsSpelledBy}
-use Rattle.cs_grammar.specs.Cut.{Lexeme, lexeme, Cut, blank, new_line, comment, token, finish, comma_if, line_after, line_after_mark, line_ended}
+use Rattle.cs_grammar.specs.Cut.{Lexeme, lexeme, Cut, blank, new_line, comment, attribute, token, finish, comma_if, line_after, line_after_mark, line_ended}
 use Rattle.cs_grammar.specs.Spelling.{is_letter, is_digit, is_name_byte, is_integer, is_definition_rest, underscore_sort, mark_sort, sort_if, sort_of, used_marks, left_out_marks}
 use Rattle.cs_grammar.specs.Tree.{FileTree, defined_name, definitions}
 use Rattle.cs_grammar.specs.TokenWords.{bare_name, mark_kind, wide_kind, word_of, word, words}
@@ -125,6 +125,7 @@ of_cut : {bs : List ℕ} {o : ℕ} {l : _} {ks : List Lexeme} → IsPlain comma_
 of_cut p (blank h k) = of_cut p k
 of_cut p (new_line {o} {l} {ks} h k) = p.now o ks (of_cut (at_end comma_if line_ended l p) k)
 of_cut p (comment {o} {bs} {l} {ks} h k) = p.now o ks (of_cut (at_end comma_if line_ended l p) k)
+of_cut p (attribute h k) = absurd cc
 of_cut p (token {n} {o} {s} {bs} b k) = (of_token (take n bs) o s b.token.spelled, of_cut (after s (take n bs)) k)
 of_cut p (finish {o}) = p.now o (lexeme sorts.End [] o ∷ []) (refl, tt)
 

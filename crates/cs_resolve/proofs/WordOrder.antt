@@ -1,6 +1,6 @@
 -- The words of a cut stand one behind the other.
 use Rattle.std.proofs.Common.{◌≡◌, ℕ, zero, suc, ◌≤◌, List, [], ◌∷◌, take, Some, arith}
-use Rattle.cs_grammar.specs.Cut.{Lexeme, lexeme, Cut, blank, new_line, comment, token, finish, comma_if}
+use Rattle.cs_grammar.specs.Cut.{Lexeme, lexeme, Cut, blank, new_line, comment, attribute, token, finish, comma_if}
 use Rattle.cs_grammar.specs.Spelling.{sort_of}
 use Rattle.cs_grammar.specs.TokenWords.{kind_of, word, words}
 use Rattle.cs_grammar.specs.Words as W
@@ -63,6 +63,7 @@ pub from_cut : {bs : List ℕ} {o : ℕ} {l : LineState} {ks : List Lexeme} → 
 from_cut (blank h k) = later (omega arith) (from_cut k)
 from_cut (new_line {o} {l} {ks} h k) = from_comma l o ks (later (omega arith) (from_cut k))
 from_cut (comment {o} {bs} {l} {ks} h k) = from_comma l o ks (later (omega arith) (from_cut k))
+from_cut (attribute h k) = absurd cc
 from_cut (token {n} {o} {s} {bs} b k) =
     let long = long_token n s bs b.token.spelled in
     let at = start_word_of (kind_of s (take n bs)) (take n bs) o in

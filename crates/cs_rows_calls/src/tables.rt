@@ -3,6 +3,7 @@
 use crate::{
     documents, fillings, instances, items, places, schema_texts, tokens, trees, validity, ways,
 };
+use cs_grammar::Profile;
 use std::alloc::{AllocError, Global};
 use std::test::Fail;
 
@@ -11,6 +12,8 @@ use std::test::Fail;
 pub(crate) enum Row {
     /// A source, and its tokens or the fault of `lex`.
     Tokens,
+    /// The same in the wide profile.
+    WideTokens,
     /// A source, and the bodies of its definitions.
     Bodies,
     /// The text of a document, paths into it, and where these lead.
@@ -67,7 +70,8 @@ fn check_row(alloc: Global, row: &str, rows: Row) -> Result<(), Fail> {
 
 fn holds(alloc: Global, row: &str, rows: Row) -> Result<bool, Fail> {
     match rows {
-        Row::Tokens => tokens::are_cut(alloc, row),
+        Row::Tokens => tokens::are_cut(alloc, Profile::Default, row),
+        Row::WideTokens => tokens::are_cut(alloc, Profile::Wide, row),
         Row::Bodies => trees::are_parsed(alloc, row),
         Row::Places => places::are_found(alloc, row),
         Row::Text => documents::is_rewritten(alloc, row),

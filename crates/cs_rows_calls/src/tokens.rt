@@ -1,7 +1,7 @@
 // The tokens of sources.
 use crate::tables::{Row, cell, check};
-use cs_grammar::Token;
-use cs_syntax::lex;
+use cs_grammar::{Profile, Token};
+use cs_syntax::lex_in;
 use std::alloc::{AllocError, Global};
 use std::test::Fail;
 
@@ -39,22 +39,61 @@ _;_|_;_h;"t";1;; => Top _ 0|Inserted  1|Bottom _|_ 2|Inserted  5|Hidden _h 6|Ins
 #A: 1.5 => NoToken { offset: 4 }
 #A: - & 9223372036854775808 => IntegerRange { offset: 8 }
 9223372036854775808 ' => IntegerRange { offset: 0 }
-' 9223372036854775808 => NoToken { offset: 0 }"##;
+' 9223372036854775808 => NoToken { offset: 0 }
+a @go(A) => NoToken { offset: 2 }"##;
 
 /// The same with control characters, which texts and blanks take.
 const CONTROLS: &str = "#P \r; => Definition #P 0|Inserted  4|End  5|
 \tx// c\r#A => Name x 1|Inserted  2|End  9|
 \"\0\t\r\u{1}\u{7f}\" => Text \"\0\t\r\u{1}\u{7f}\" 0|Inserted  7|End  7|";
 
-/// Whether `lex` answers so for the row's source.
-pub(crate) fn are_cut(alloc: Global, row: &str) -> Result<bool, Fail> {
+/// Sources of the wide profile with attributes, and their tokens.
+const ATTRIBUTES: &str = r##"@go(A) => End  6|
+a @go(A), @protobuf(x,"y)") b => Name a 0|Mark , 8|Name b 28|Inserted  29|End  29|
+a @go(A);@x();b => Name a 0|Inserted  8|Name b 14|Inserted  15|End  15|
+a@b(c)d => Name a 0|Name d 6|Inserted  7|End  7|
+a @b(;);c => Name a 0|Inserted  7|Name c 8|Inserted  9|End  9|
+a @b( // ),;) c => Name a 0|Name c 14|Inserted  15|End  15|
+a: @b(c);1 => Name a 0|Mark : 1|Integer 1 9|Inserted  10|End  10|
+- @b() 9223372036854775808 => Mark - 0|Integer 9223372036854775808 7|Inserted  26|End  26|
+@_(([{}])[()]) a => Name a 15|Inserted  16|End  16|
+@$a_1("\")\\", 1.5, 'b) => NoToken { offset: 0 }
+@$a_1("\")\\", 1.5, é, +) a => Name a 27|Inserted  28|End  28|
+// @b(;@b("// )") a => Name a 18|Inserted  19|End  19|
+"@b(c)" => Text "@b(c)" 0|Inserted  7|End  7|
+a @b(@c(d)) => Name a 0|Inserted  11|End  11|
+@b(⟨9×(⟩⟨9×)⟩) => End  22|
+a @ => NoToken { offset: 2 }
+a @b => NoToken { offset: 2 }
+a @b (c) => NoToken { offset: 2 }
+a @(c) => NoToken { offset: 2 }
+a @1(c) => NoToken { offset: 2 }
+a @#b(c) => NoToken { offset: 2 }
+a @b(c => NoToken { offset: 2 }
+a @b((c) => NoToken { offset: 2 }
+a @b(c]) => NoToken { offset: 2 }
+a @b([c)] => NoToken { offset: 2 }
+a @b("c) => NoToken { offset: 2 }
+a @b("c;") => NoToken { offset: 2 }
+a @b("\(c)") => NoToken { offset: 2 }
+a @b("\c") => NoToken { offset: 2 }
+a @b('c') => NoToken { offset: 2 }
+a @b(#""#) => NoToken { offset: 2 }
+a @b("""c""") => NoToken { offset: 2 }
+a @b("""""") => NoToken { offset: 2 }
+a @b(// c) => NoToken { offset: 2 }
+@b(c) @b(d => NoToken { offset: 6 }
+@b(c) 1.5 => NoToken { offset: 6 }"##;
+
+/// Whether `lex_in` answers so for the row's source.
+pub(crate) fn are_cut(alloc: Global, profile: Profile, row: &str) -> Result<bool, Fail> {
     let (source, wanted) = cell(row);
-    Ok(lexed(alloc, source)?.as_str() == wanted)
+    Ok(lexed(alloc, profile, source)?.as_str() == wanted)
 }
 
-/// What `lex` answers, as text: sort, text and start of each token, or the fault.
-fn lexed(alloc: Global, source: &str) -> Result<String, AllocError> {
-    match lex(alloc, source) {
+/// What `lex_in` answers, as text: sort, text and start of each token, or the fault.
+fn lexed(alloc: Global, profile: Profile, source: &str) -> Result<String, AllocError> {
+    match lex_in(alloc, profile, source) {
         Ok(tokens) => shown(alloc, &tokens),
         Err(fault) => format!(in alloc; "{fault:?}"),
     }
@@ -72,4 +111,9 @@ fn shown(alloc: Global, tokens: &[Token<'_>]) -> Result<String, AllocError> {
 fn sources_are_cut_into_tokens(rt: HostRuntime) -> Result<(), Fail> {
     check(rt.alloc(), CUTS, Row::Tokens)?;
     check(rt.alloc(), CONTROLS, Row::Tokens)
+}
+
+#[test]
+fn attributes_stand_for_nothing(rt: HostRuntime) -> Result<(), Fail> {
+    check(rt.alloc(), ATTRIBUTES, Row::WideTokens)
 }

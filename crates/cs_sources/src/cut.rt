@@ -1,25 +1,34 @@
 // The tokens of any text: where it can't be cut, cutting goes on behind what no token begins with.
 use crate::stuck::stuck_piece;
-use cs_grammar::{Sort, SyntaxFault, Token};
-use cs_lexer::lex;
+use cs_grammar::{Profile, Sort, SyntaxFault, Token};
+use cs_lexer::lex_in;
 use std::alloc::{AllocError, Global};
 
-/// The tokens of a text, and its end. What no token begins with is one too: an integer, a text, or a mark that is left out.
-/// Each byte is read twice at most, however often the text is stuck.
-pub(crate) fn tokens_of<'a>(alloc: Global, text: &'a str) -> Result<Vec<Token<'a>>, AllocError> {
+/// The tokens of a text in a profile, and its end. What no token begins with is one too: an integer, a text, or a mark that is left
+/// out. Each byte is read three times at most, however often the text is stuck.
+pub(crate) fn tokens_of<'a>(
+    alloc: Global,
+    mut profile: Profile,
+    text: &'a str,
+) -> Result<Vec<Token<'a>>, AllocError> {
     let mut tokens = Vec::new(alloc);
     let mut from = 0;
     // Each round goes on behind a character at least.
     for _ in 0..text.len().saturating_add(1) {
         let rest = text.get(from..).unwrap_or("");
-        match lex(alloc, rest) {
+        match lex_in(alloc, profile, rest) {
             Ok(found) if from == 0 => return Ok(found),
             Ok(found) => {
                 add_shifted(&mut tokens, &found, from)?;
                 return Ok(tokens);
             }
             Err(SyntaxFault::NoToken { offset } | SyntaxFault::IntegerRange { offset }) => {
-                add_front(alloc, &mut tokens, rest.get(..offset).unwrap_or(""), from)?;
+                let front = rest.get(..offset).unwrap_or("");
+                add_front(alloc, profile, &mut tokens, front, from)?;
+                // To find that an attribute has no end may have taken the whole text, so it is the last that is looked for.
+                if rest.as_bytes().get(offset) == Some(&b'@') {
+                    profile = Profile::Default;
+                }
                 from = add_stuck(&mut tokens, text, from.saturating_add(offset))?;
             }
             Err(SyntaxFault::OutOfMemory) => return Err(AllocError),
@@ -45,11 +54,12 @@ fn add_shifted<'a>(
 /// Adds the tokens before a place where the text is stuck, without the comma and the end that the place itself stands for.
 fn add_front<'a>(
     alloc: Global,
+    profile: Profile,
     tokens: &mut Vec<Token<'a>>,
     front: &'a str,
     from: usize,
 ) -> Result<(), AllocError> {
-    match lex(alloc, front) {
+    match lex_in(alloc, profile, front) {
         Ok(found) => {
             let count = found.partition_point(|token| token.start < front.len());
             add_shifted(tokens, found.get(..count).unwrap_or(&[]), from)

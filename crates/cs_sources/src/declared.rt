@@ -39,7 +39,7 @@ impl<'s, 'a> Declared<'s, 'a> {
 
     /// Whether a part is a struct literal in which an expression is embedded.
     pub fn embeds(&self, part: Part<'_, '_>) -> bool {
-        let literal = part.unwrapped();
+        let literal = part.bare();
         let bracket = (part.source.file, part.source.own(literal.from));
         literal.inside("{").is_some() && self.embedding.binary_search(&bracket).is_ok()
     }

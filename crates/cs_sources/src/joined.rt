@@ -1,4 +1,4 @@
-// Where literals with embeddings declare what they stand for.
+// Where literals with embeddings, and operands of `&` that are put together, declare what they stand for.
 use crate::declared::Declared;
 use crate::near::Near;
 use crate::outline::Separator;
@@ -12,7 +12,7 @@ const MOST_DEFINITIONS: usize = 64;
 /// How many declarations are passed on the way to one. Sources that stand for others have no more nodes.
 const MOST_PASSED: usize = 50_000;
 
-/// One of the alternatives that a literal with embeddings stands for: its number, and how many there are.
+/// One of the alternatives that a literal with embeddings stands for, or operands of `&`: its number, and how many there are.
 #[derive(Clone, Copy, Drop)]
 pub struct Alternative {
     pub number: usize,
@@ -25,10 +25,12 @@ pub const ONLY: Alternative = Alternative {
     count: 1,
 };
 
-/// Declarations, of which those from a place on are still to come.
+/// Declarations, or operands that are embedded one by one, of which those from a place on are still to come.
 #[derive(Clone, Copy)]
 struct Coming<'s, 'a> {
-    declarations: Part<'s, 'a>,
+    parts: Part<'s, 'a>,
+    /// What is between them.
+    separator: Separator,
     next: usize,
     /// Whether they are in an alternative of what the literal embeds; where all alternatives are followed, whether they are in a value.
     is_chosen: bool,
@@ -63,17 +65,17 @@ fn is_field(declaration: Part<'_, '_>) -> bool {
 }
 
 impl<'s, 'a> Way<'s, 'a> {
-    /// The next declaration, and whether it is in an alternative; none where there are no more.
+    /// The next declaration or operand, and whether it is in an alternative; none where there are no more.
     fn next(&mut self) -> Result<Option<(Part<'s, 'a>, bool)>, AllocError> {
         for _ in 0..MOST_PASSED {
             let Some(coming) = self.coming.pop() else {
                 return Ok(None);
             };
-            let found = coming.declarations.part(Separator::Comma, coming.next);
-            if let Some(declaration) = found {
+            let found = coming.parts.part(coming.separator, coming.next);
+            if let Some(part) = found {
                 let next = coming.next.saturating_add(1);
                 self.coming.push(Coming { next, ..coming })?;
-                return Ok(Some((declaration, coming.is_chosen)));
+                return Ok(Some((part, coming.is_chosen)));
             }
         }
         Ok(None)
@@ -81,9 +83,20 @@ impl<'s, 'a> Way<'s, 'a> {
 
     /// Declarations come next.
     fn put(&mut self, declarations: Part<'s, 'a>, is_chosen: bool) -> Result<(), AllocError> {
+        self.put_each(declarations, Separator::Comma, is_chosen)
+    }
+
+    /// What is between separators comes next.
+    fn put_each(
+        &mut self,
+        parts: Part<'s, 'a>,
+        separator: Separator,
+        is_chosen: bool,
+    ) -> Result<(), AllocError> {
         let next = 0;
         self.coming.push(Coming {
-            declarations,
+            parts,
+            separator,
             next,
             is_chosen,
         })?;
@@ -102,6 +115,9 @@ impl<'s, 'a> Way<'s, 'a> {
         }
         if whole.count(Separator::Bar) > 0 {
             return self.choose(whole, is_chosen);
+        }
+        if whole.count(Separator::Amp) > 0 {
+            return self.embed_operands(whole, is_chosen);
         }
         let here = first.here();
         if here.sort == Sort::Definition && whole.from.checked_add(1) == Some(whole.to) {
@@ -129,12 +145,27 @@ impl<'s, 'a> Way<'s, 'a> {
         Ok(true)
     }
 
+    /// The operands of `&` come next, one behind the other; whether they are put together. They are where an alternative of theirs is followed,
+    /// and aren't where a definition closed one of them.
+    fn embed_operands(
+        &mut self,
+        operands: Part<'s, 'a>,
+        is_chosen: bool,
+    ) -> Result<bool, AllocError> {
+        if self.alternative.is_none() && operands.closed_by().is_some() {
+            return Ok(false);
+        }
+        self.put_each(operands, Separator::Amp, is_chosen)?;
+        Ok(true)
+    }
+
     /// The operand of a disjunction comes next that the alternative has. The first one of several disjunctions has the alternatives of those
     /// behind it with each of its operands. It isn't known where an operand has alternatives of its own.
     fn choose(&mut self, disjunction: Part<'s, 'a>, is_chosen: bool) -> Result<bool, AllocError> {
         let operands = disjunction.count(Separator::Bar).saturating_add(1);
         let Some(Alternative { number, count }) = self.alternative else {
-            return self.follow_all(disjunction, is_chosen);
+            self.put_each(disjunction, Separator::Bar, is_chosen)?;
+            return Ok(true);
         };
         let each = count.checked_div(operands).unwrap_or(0);
         let is_whole = each.saturating_mul(operands) == count;
@@ -153,20 +184,6 @@ impl<'s, 'a> Way<'s, 'a> {
         Ok(true)
     }
 
-    /// All operands of a disjunction come next.
-    fn follow_all(
-        &mut self,
-        disjunction: Part<'s, 'a>,
-        is_chosen: bool,
-    ) -> Result<bool, AllocError> {
-        for place in (0..=disjunction.count(Separator::Bar)).rev() {
-            if let Some(operand) = disjunction.part(Separator::Bar, place) {
-                self.put(operand, is_chosen)?;
-            }
-        }
-        Ok(true)
-    }
-
     /// What literals embed in the value of a field, at any depth, comes next.
     fn follow_inside(&mut self, field: Part<'s, 'a>) -> Result<(), AllocError> {
         let source = field.source;
@@ -182,7 +199,8 @@ impl<'s, 'a> Way<'s, 'a> {
 
 impl<'s, 'a> Declared<'s, 'a> {
     /// The declaration of a field at a place among those that an alternative of a literal with embeddings has: its own ones and, in the place
-    /// of each embedding, those of what is embedded; none where it isn't known which one that is. Only memory can run out.
+    /// of each embedding, those of what is embedded; none where it isn't known which one that is. Operands of `&` have those of a literal that
+    /// embeds one after the other. Only memory can run out.
     pub fn joined(
         &'s self,
         alloc: Global,
@@ -196,7 +214,7 @@ impl<'s, 'a> Declared<'s, 'a> {
             met: Vec::new(alloc),
             alternative: Some(alternative),
         };
-        way.put(literal, false)?;
+        way.put(literal.bare(), false)?;
         let mut left = place;
         for _ in 0..MOST_PASSED {
             let Some((declaration, is_chosen)) = way.next()? else {
@@ -214,15 +232,15 @@ impl<'s, 'a> Declared<'s, 'a> {
         Ok(None)
     }
 
-    /// The only declaration that a literal with embeddings has for a label, whichever alternative is meant; none where it has several. Only
-    /// memory can run out.
+    /// The only declaration that a literal with embeddings, or operands of `&`, have for a label, whichever alternative is meant; none where
+    /// there are several. Only memory can run out.
     pub fn joined_once(
         &'s self,
         alloc: Global,
         literal: Part<'s, 'a>,
         label: Option<&str>,
     ) -> Result<Option<Part<'s, 'a>>, AllocError> {
-        let embedded = self.embedded(alloc, literal)?;
+        let embedded = self.embedded(alloc, literal.bare())?;
         // It isn't known then what else is embedded.
         if embedded.other.is_some() {
             return Ok(None);
@@ -239,7 +257,7 @@ impl<'s, 'a> Declared<'s, 'a> {
         Ok(found)
     }
 
-    /// All that a part embeds: declarations of a literal, or what is embedded in one. Only memory can run out.
+    /// All that a part embeds: declarations of a literal, or what is embedded in one, as operands of `&` are. Only memory can run out.
     pub fn embedded(
         &'s self,
         alloc: Global,

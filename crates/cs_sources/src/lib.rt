@@ -12,6 +12,7 @@ mod source;
 mod stuck;
 mod tokens;
 
+pub use cs_grammar::Profile;
 pub use declared::{Declared, declared_in};
 pub use joined::{Alternative, Embedded, ONLY};
 pub use near::Near;

@@ -13,6 +13,11 @@ pub struct Near<'s, 'a> {
     pub place: usize,
 }
 
+/// The place behind a separator; that of the first token where there is none.
+fn behind(separator: Option<usize>) -> usize {
+    separator.map_or(0, |place| place.saturating_add(1))
+}
+
 impl<'s, 'a> Near<'s, 'a> {
     /// The token that starts at an offset, or the next one behind it.
     pub fn at(source: &'s Source<'a>, offset: usize) -> Option<Near<'s, 'a>> {
@@ -95,6 +100,24 @@ impl<'s, 'a> Near<'s, 'a> {
     pub fn begins_declaration(self) -> bool {
         precedes_declaration(self.before(1))
             && matches!(self.inside(), Inside::File | Inside::Struct)
+    }
+
+    /// Whether the field of a struct begins with the token.
+    pub(crate) fn begins_field(self) -> bool {
+        precedes_declaration(self.before(1))
+            && self.inside() == Inside::Struct
+            && self.part().count(Separator::Colon) > 0
+    }
+
+    /// The operands of `&` that the token is in, in the same bracket.
+    pub fn conjunction(self) -> Option<Part<'s, 'a>> {
+        let (part, place) = (self.part(), self.place);
+        let bar = self.source.last_separator(Separator::Bar, place);
+        let colon = self.source.last_separator(Separator::Colon, place);
+        let from = part.from.max(behind(bar)).max(behind(colon));
+        let to = self.source.separator(Separator::Bar, place, part.to, 0);
+        let whole = part.between(from, to.unwrap_or(part.to));
+        (whole.count(Separator::Amp) > 0).then_some(whole)
     }
 
     /// Whether an expression that a struct embeds begins with the token: a declaration without a colon of its own.

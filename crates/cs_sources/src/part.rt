@@ -72,27 +72,87 @@ impl<'s, 'a> Part<'s, 'a> {
         (is_whole && is_mark(first.here(), open)).then_some(held)
     }
 
+    /// What the parentheses around have inside.
+    fn in_parentheses(self) -> Option<Part<'s, 'a>> {
+        let inner = self.inside("(")?;
+        // The end of a line may have inserted a comma at the end.
+        let last = inner.to.saturating_sub(1);
+        let is_comma = self.source.token(last).sort == Sort::Inserted;
+        Some(inner.between(inner.from, if is_comma { last } else { inner.to }))
+    }
+
     /// It without the parentheses around, which say nothing.
     pub(crate) fn unwrapped(self) -> Part<'s, 'a> {
         let mut left = self;
         for _ in self.from..self.to {
-            let Some(inner) = left.inside("(") else { break };
-            // The end of a line may have inserted a comma at the end.
-            let last = inner.to.saturating_sub(1);
-            let is_comma = self.source.token(last).sort == Sort::Inserted;
-            left = inner.between(inner.from, if is_comma { last } else { inner.to });
+            let Some(inner) = left.in_parentheses() else {
+                break;
+            };
+            left = inner;
         }
         left
     }
 
+    /// What is behind `close`, if it begins with that name.
+    fn behind_close(self) -> Part<'s, 'a> {
+        match self.first() {
+            Some(first) if first.here().text == "close" => {
+                self.between(self.from.saturating_add(1), self.to)
+            }
+            _ => self,
+        }
+    }
+
+    /// It without the parentheses around, and without `close` before them: of a value both say nothing.
+    pub(crate) fn bare(self) -> Part<'s, 'a> {
+        let mut left = self;
+        for _ in self.from..self.to {
+            let Some(inner) = left.behind_close().in_parentheses() else {
+                break;
+            };
+            left = inner;
+        }
+        left
+    }
+
+    /// Whether it is operands that `&` joins, in parentheses or not.
+    pub fn is_conjunction(self) -> bool {
+        let whole = self.unwrapped();
+        whole.count(Separator::Bar) == 0 && whole.count(Separator::Amp) > 0
+    }
+
+    /// The first reference in it that closes what it stands for: one that is no value of a field, or that stands anywhere in what a literal
+    /// embeds.
+    pub fn closed_by(self) -> Option<Near<'s, 'a>> {
+        let source = self.source;
+        let mut place = self.from;
+        let mut embedded_to = self.from;
+        for _ in self.from..self.to {
+            let near = Near { source, place };
+            if place >= self.to {
+                return None;
+            }
+            if near.here().sort == Sort::Definition {
+                return Some(near);
+            }
+            let is_passed = place >= embedded_to && near.begins_field();
+            if near.begins_embedding() {
+                embedded_to = embedded_to.max(near.part().to);
+            }
+            let next = if is_passed { near.part().to } else { place };
+            place = next.max(place.saturating_add(1));
+        }
+        None
+    }
+
     /// Its operand at a place.
     pub fn operand(self, separator: Separator, place: usize) -> Option<Part<'s, 'a>> {
-        self.unwrapped().part(separator, place)
+        self.bare().part(separator, place)
     }
 
     /// Its declaration at a place, which begins with the label: of a struct literal, or the one field of a short form.
     pub fn declaration(self, place: usize) -> Option<Part<'s, 'a>> {
-        let whole = self.unwrapped();
+        let whole = self.bare();
         match whole.inside("{") {
             Some(inner) => inner.part(Separator::Comma, place),
             None if place == 0 => Some(whole),
@@ -138,7 +198,7 @@ impl<'s, 'a> Part<'s, 'a> {
 
     /// Its fixed element at a place.
     pub fn element(self, place: usize) -> Option<Part<'s, 'a>> {
-        self.unwrapped().inside("[")?.part(Separator::Comma, place)
+        self.bare().inside("[")?.part(Separator::Comma, place)
     }
 
     /// What is asked behind so many fixed elements.
@@ -148,8 +208,8 @@ impl<'s, 'a> Part<'s, 'a> {
         is_mark(end.first()?.here(), "...").then_some(behind)
     }
 
-    /// Where it begins, without parentheses.
+    /// Where it begins, without parentheses and `close`.
     pub fn offset(self) -> Option<usize> {
-        Some(self.unwrapped().first()?.here().start)
+        Some(self.bare().first()?.here().start)
     }
 }

@@ -4,7 +4,7 @@ use crate::near::Near;
 use crate::outline::{Inside, Outline, Separator};
 use crate::part::Part;
 use crate::tokens::{is_behind_label, is_mark};
-use cs_grammar::{Sort, Token};
+use cs_grammar::{Profile, Sort, Token};
 use cs_place::Named;
 use std::alloc::{AllocError, Global};
 use std::str;
@@ -23,11 +23,16 @@ pub struct Source<'a> {
 }
 
 impl<'a> Source<'a> {
-    /// A source, cut into tokens. Whatever it is, that takes no more than sorting its commas, colons and operators. Only memory can run
+    /// A source, cut into tokens as in a profile; what the default one accepts has the same ones in either. Whatever it is, that takes no more than sorting its commas, colons and operators. Only memory can run
     /// out.
-    pub fn new(alloc: Global, named: Named<'a>, file: usize) -> Result<Source<'a>, AllocError> {
+    pub fn new(
+        alloc: Global,
+        profile: Profile,
+        named: Named<'a>,
+        file: usize,
+    ) -> Result<Source<'a>, AllocError> {
         let tokens = match str::from_utf8(named.text) {
-            Ok(text) => tokens_of(alloc, text)?,
+            Ok(text) => tokens_of(alloc, profile, text)?,
             Err(_) => Vec::new(alloc),
         };
         let outline = Outline::new(alloc, &tokens)?;
@@ -142,11 +147,15 @@ impl<'a> Source<'a> {
     }
 }
 
-/// Sources, each cut into tokens, in their order. Only memory can run out.
-pub fn sources_of<'a>(alloc: Global, named: &[Named<'a>]) -> Result<Vec<Source<'a>>, AllocError> {
+/// Sources, each cut into tokens as in a profile, in their order. Only memory can run out.
+pub fn sources_of<'a>(
+    alloc: Global,
+    profile: Profile,
+    named: &[Named<'a>],
+) -> Result<Vec<Source<'a>>, AllocError> {
     let mut sources = Vec::with_capacity(alloc, named.len())?;
     for (file, named) in named.iter().enumerate() {
-        sources.push(Source::new(alloc, *named, file)?)?;
+        sources.push(Source::new(alloc, profile, *named, file)?)?;
     }
     Ok(sources)
 }

@@ -5,9 +5,10 @@ use Rattle.cs_grammar.specs.Atom as atoms
 use Rattle.cs_grammar.specs.Atom.{Relation, top, bottom, integer, text, not_integer, not_text, not_null}
 use Rattle.cs_grammar.specs.Words.{Words, relation}
 use Rattle.cs_grammar.specs.Tree.{Tree, Trees, Fields, Declarations, End}
-use Rattle.cs_grammar.specs.Spells.{Comma, explicit, inserted, ClosesParen, paren_here, paren_after, ClosesList, list_here, list_after, ClosesStruct, struct_here, struct_after, SpellsNumber, positive, negative, SpellsBound, limit_is, other_number, other_text, other_null, SpellsOpening, unopened, opened, SpellsExpr, one_branch, disjunction_is, SpellsBars, no_bar, a_bar, SpellsBranch, unmarked, marked_is, SpellsConj, one_operand, conjunction_is, SpellsAmps, no_amp, an_amp, SpellsOperand, top_is, bottom_is, reference_is, name_is, number_is, text_is, bound_is, paren_is, struct_is, list_is, wide_struct_is, SpellsMore, no_more, next_declaration, SpellsFields, no_more_fields, next_field, SpellsElements, no_more_elements, next_element, SpellsEnd, closed_is, rest_is}
+use Rattle.cs_grammar.specs.Spells.{Comma, explicit, inserted, ClosesParen, paren_here, paren_after, ClosesList, list_here, list_after, ClosesStruct, struct_here, struct_after, SpellsNumber, positive, negative, SpellsBound, limit_is, other_number, other_text, other_null, SpellsOpening, unopened, opened, SpellsExpr, one_branch, disjunction_is, SpellsBars, no_bar, a_bar, SpellsBranch, unmarked, marked_is, SpellsConj, one_operand, conjunction_is, SpellsAmps, no_amp, an_amp, SpellsOperand, top_is, bottom_is, reference_is, name_is, number_is, text_is, bound_is, paren_is, struct_is, list_is, call_paren_is, shut_is, wide_struct_is, SpellsMore, no_more, next_declaration, SpellsFields, no_more_fields, next_field, SpellsElements, no_more_elements, next_element, SpellsEnd, closed_is, rest_is}
 use Rattle.cs_syntax.specs.Reading.{after, begins_with, begins_comma, goes_on_label, begins_field}
 use Rattle.cs_syntax.proofs.BracketLabels.{list_no_label}
+use Rattle.cs_syntax.proofs.Calls.{close_stands}
 
 -- ---- what follows an expression
 
@@ -16,21 +17,30 @@ pub record Quiet (ts : Words) : Type 0 where
   pub no_amp_here : after kinds.Amp ts ≡ None
   pub no_bar_here : after kinds.Bar ts ≡ None
   pub no_label : goes_on_label ts ≡ false
+  pub no_call : begins_with kinds.OpenCall ts ≡ false
+
+-- no `&` goes on here, and `close` isn't called
+pub record Ended (ts : Words) : Type 0 where
+  pub no_amp_here : after kinds.Amp ts ≡ None
+  pub no_call : begins_with kinds.OpenCall ts ≡ false
+
+pub quiet_ended : {ts : Words} → Quiet ts → Ended ts
+quiet_ended q = record { no_amp_here = q.no_amp_here; no_call = q.no_call }
 
 pub quiet_comma : {ts r : Words} → Comma ts r → Quiet ts
-quiet_comma explicit = record { no_amp_here = refl; no_bar_here = refl; no_label = refl }
-quiet_comma inserted = record { no_amp_here = refl; no_bar_here = refl; no_label = refl }
+quiet_comma explicit = record { no_amp_here = refl; no_bar_here = refl; no_label = refl; no_call = refl }
+quiet_comma inserted = record { no_amp_here = refl; no_bar_here = refl; no_label = refl; no_call = refl }
 
 pub quiet_closes_paren : {ts r : Words} → ClosesParen ts r → Quiet ts
-quiet_closes_paren paren_here = record { no_amp_here = refl; no_bar_here = refl; no_label = refl }
-quiet_closes_paren paren_after = record { no_amp_here = refl; no_bar_here = refl; no_label = refl }
+quiet_closes_paren paren_here = record { no_amp_here = refl; no_bar_here = refl; no_label = refl; no_call = refl }
+quiet_closes_paren paren_after = record { no_amp_here = refl; no_bar_here = refl; no_label = refl; no_call = refl }
 
 pub quiet_closes_list : {ts r : Words} → ClosesList ts r → Quiet ts
-quiet_closes_list list_here = record { no_amp_here = refl; no_bar_here = refl; no_label = refl }
+quiet_closes_list list_here = record { no_amp_here = refl; no_bar_here = refl; no_label = refl; no_call = refl }
 quiet_closes_list (list_after c) = quiet_comma c
 
 quiet_closes_struct : {ts r : Words} → ClosesStruct ts r → Quiet ts
-quiet_closes_struct struct_here = record { no_amp_here = refl; no_bar_here = refl; no_label = refl }
+quiet_closes_struct struct_here = record { no_amp_here = refl; no_bar_here = refl; no_label = refl; no_call = refl }
 quiet_closes_struct (struct_after c) = quiet_comma c
 
 pub quiet_opening : {b : Bool} {ts r : Words} → SpellsOpening b ts r → Quiet ts
@@ -47,16 +57,20 @@ quiet_more (next_declaration c d) q = quiet_comma c
 
 pub quiet_end : {end : End} {ts r : Words} → SpellsEnd end ts r → Quiet ts
 quiet_end (closed_is c) = quiet_closes_list c
-quiet_end (rest_is s) = record { no_amp_here = refl; no_bar_here = refl; no_label = refl }
+quiet_end (rest_is s) = record { no_amp_here = refl; no_bar_here = refl; no_label = refl; no_call = refl }
 
 pub quiet_elements : {es : Trees} {ts r : Words} → SpellsElements es ts r → Quiet r → Quiet ts
 quiet_elements no_more_elements q = q
-quiet_elements (next_element e es) q = record { no_amp_here = refl; no_bar_here = refl; no_label = refl }
+quiet_elements (next_element e es) q = record { no_amp_here = refl; no_bar_here = refl; no_label = refl; no_call = refl }
 
 -- an operator of the outer level ends the inner one
-pub no_amp-bars : {es : Trees} {ts r : Words} → SpellsBars es ts r → after kinds.Amp r ≡ None → after kinds.Amp ts ≡ None
-no_amp-bars no_bar h = h
-no_amp-bars (a_bar c b) h = refl
+pub ended-bars : {es : Trees} {ts r : Words} → SpellsBars es ts r → Ended r → Ended ts
+ended-bars no_bar h = h
+ended-bars (a_bar c b) h = record { no_amp_here = refl; no_call = refl }
+
+pub no_call-amps : {es : Trees} {ts r : Words} → SpellsAmps es ts r → begins_with kinds.OpenCall r ≡ false → begins_with kinds.OpenCall ts ≡ false
+no_call-amps no_amp h = h
+no_call-amps (an_amp o a) h = refl
 
 no_label-bars : {es : Trees} {ts r : Words} → SpellsBars es ts r → goes_on_label r ≡ false → goes_on_label ts ≡ false
 no_label-bars no_bar h = h
@@ -103,6 +117,8 @@ operand_open text_is = record { no_list_end = refl; no_dots = refl; not_list_end
 operand_open (bound_is b) = bound_open b
 operand_open (paren_is e c) = record { no_list_end = refl; no_dots = refl; not_list_end = refl; no_struct_end = refl; not_struct_end = refl; not_dots = refl; no_comma = refl }
 operand_open (struct_is s) = record { no_list_end = refl; no_dots = refl; not_list_end = refl; no_struct_end = refl; not_struct_end = refl; not_dots = refl; no_comma = refl }
+operand_open (call_paren_is e c) = record { no_list_end = refl; no_dots = refl; not_list_end = refl; no_struct_end = refl; not_struct_end = refl; not_dots = refl; no_comma = refl }
+operand_open (shut_is s e c) = record { no_list_end = refl; no_dots = refl; not_list_end = refl; no_struct_end = refl; not_struct_end = refl; not_dots = refl; no_comma = refl }
 operand_open (wide_struct_is e s) = record { no_list_end = refl; no_dots = refl; not_list_end = refl; no_struct_end = refl; not_struct_end = refl; not_dots = refl; no_comma = refl }
 operand_open (list_is s) = record { no_list_end = refl; no_dots = refl; not_list_end = refl; no_struct_end = refl; not_struct_end = refl; not_dots = refl; no_comma = refl }
 
@@ -133,6 +149,8 @@ operand_no_field (bound_is other_text) q = refl
 operand_no_field (bound_is (other_null h)) q = refl
 operand_no_field (paren_is e c) q = refl
 operand_no_field (struct_is s) q = refl
+operand_no_field (call_paren_is e c) q = refl
+operand_no_field (shut_is {s} h e c) q = rw (close_stands s h) refl
 operand_no_field (wide_struct_is e s) q = refl
 operand_no_field (list_is s) q = list_no_label s q
 
@@ -170,6 +188,8 @@ operand_no_star (bound_is (other_null h)) = refl
 operand_no_star (paren_is e c) = refl
 operand_no_star (struct_is s) = refl
 operand_no_star (list_is s) = refl
+operand_no_star (call_paren_is e c) = refl
+operand_no_star (shut_is s e c) = refl
 operand_no_star (wide_struct_is e s) = refl
 
 pub conj_no_star : {e : Tree} {ts r : Words} → SpellsConj e ts r → after kinds.Star ts ≡ None

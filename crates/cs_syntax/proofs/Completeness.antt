@@ -1,7 +1,7 @@
 -- What is spelled so is read.
 use Rattle.std.proofs.Common.{◌≡◌, ℕ, zero, suc, ◌<◌, ◌≤◌, ℤ, pos, Bool, true, false, List, [], ◌∷◌, length, Option, Some, None, Ok, refl, ap, arith}
 use Rattle.std.proofs.lemmas.Bool.Decides.{nat_tests}
-use Rattle.std.specs.Prelude.{FitsSigned, neg_ℤ, ◌||◌, max}
+use Rattle.std.specs.Prelude.{FitsSigned, neg_ℤ, ◌&&◌, ◌||◌, max}
 use Rattle.std.specs.Int.{w64}
 use Rattle.std.specs.Option.{unwrap_or}
 use Rattle.cs_grammar.specs.declared.kind.Kind.TheVariants as kinds
@@ -11,11 +11,11 @@ use Rattle.cs_grammar.specs.declared.ast.FieldMark.TheVariants.{Every}
 use Rattle.cs_grammar.specs.Words.{Words, comma, name, open_list, colon, quoted, top_mark, bottom_mark, definition_name, unequal, close_struct, close_list, dots, finish}
 use Rattle.cs_grammar.specs.Tree.{Label, Tree, atom, reference, closed, named, Trees, none, more, Fields, no_field, field, Declarations, no_declaration, declared, embedded, End, DefinitionTree, body, FileTree}
 use Rattle.cs_grammar.specs.View.{trees_of, fields_of, Seen, declarations_of, SeenDeclaration, field_seen, embedding_seen}
-use Rattle.cs_grammar.specs.Spells.{is_reserved, is_null, is_string, every_label, start_at, literal_of, literal, Comma, explicit, inserted, ClosesParen, paren_here, paren_after, ClosesList, list_here, list_after, ClosesStruct, struct_here, struct_after, SpellsNumber, positive, negative, SpellsBound, limit_is, other_number, other_text, other_null, SpellsLabel, bare_label, quoted_label, SpellsMark, regular, optional, required, SpellsOpening, unopened, opened, SpellsValue, long, short, SpellsField, labelled, every_key, SpellsExpr, one_branch, disjunction_is, SpellsBars, no_bar, a_bar, SpellsBranch, unmarked, marked_is, SpellsConj, one_operand, conjunction_is, SpellsAmps, no_amp, an_amp, SpellsOperand, top_is, bottom_is, reference_is, name_is, number_is, text_is, bound_is, paren_is, struct_is, list_is, wide_struct_is, SpellsWideStruct, no_declarations, wide_dots_alone, some_declarations, a_field, an_embedding, SpellsMore, no_more, next_declaration, SpellsStruct, no_fields, dots_alone, fields, SpellsFields, no_more_fields, next_field, SpellsList, no_elements, rest_alone, elements, SpellsElements, no_more_elements, next_element, SpellsEnd, closed_is, rest_is, SpellsRest, any_is, each_is, SpellsDefinition, defined, SpellsDefinitions, no_definition, next_definition, SpellsPackage, no_clause, clause, SpellsFile, spelled}
+use Rattle.cs_grammar.specs.Spells.{is_reserved, is_null, is_string, is_close, every_label, start_at, literal_of, literal, Comma, explicit, inserted, ClosesParen, paren_here, paren_after, ClosesList, list_here, list_after, ClosesStruct, struct_here, struct_after, SpellsNumber, positive, negative, SpellsBound, limit_is, other_number, other_text, other_null, SpellsLabel, bare_label, quoted_label, SpellsMark, regular, optional, required, SpellsOpening, unopened, opened, SpellsValue, long, short, SpellsField, labelled, every_key, SpellsExpr, one_branch, disjunction_is, SpellsBars, no_bar, a_bar, SpellsBranch, unmarked, marked_is, SpellsConj, one_operand, conjunction_is, SpellsAmps, no_amp, an_amp, SpellsOperand, top_is, bottom_is, reference_is, name_is, number_is, text_is, bound_is, paren_is, struct_is, list_is, call_paren_is, shut_is, wide_struct_is, SpellsWideStruct, no_declarations, wide_dots_alone, some_declarations, a_field, an_embedding, SpellsMore, no_more, next_declaration, SpellsStruct, no_fields, dots_alone, fields, SpellsFields, no_more_fields, next_field, SpellsList, no_elements, rest_alone, elements, SpellsElements, no_more_elements, next_element, SpellsEnd, closed_is, rest_is, SpellsRest, any_is, each_is, SpellsDefinition, defined, SpellsDefinitions, no_definition, next_definition, SpellsPackage, no_clause, clause, SpellsFile, spelled}
 use Rattle.cs_grammar.proofs.Rests.{no_longer, of_field, of_expr, of_branch, of_operand, of_definition}
-use Rattle.cs_syntax.specs.Reading.{◌>>=◌, Read, after, comma_at, close_at, paren_end, goes_on_label, begins_field, another_field, another_element, opening_at, may_end, many, signed, number_at, bound_at, unequal_at, integer_at, unbracketed_at, label_at, mark_at, every_key_at, head_at, expected, field_with, fields_with, struct_with, declaration_with, declarations_with, wide_struct_with, rest_with, end_with, elements_with, list_with, operand_with, amps_with, conj_with, branch_with, bars_with, expr_with, inner, definition_at, line_at, before_end, definitions_at, clause_at, package_at, file_with, file_at}
+use Rattle.cs_syntax.specs.Reading.{◌>>=◌, Read, after, begins_with, comma_at, close_at, paren_end, goes_on_label, begins_field, another_field, another_element, opening_at, may_end, many, signed, number_at, bound_at, unequal_at, integer_at, unbracketed_at, label_at, mark_at, every_key_at, head_at, expected, field_with, fields_with, struct_with, declaration_with, declarations_with, wide_struct_with, rest_with, end_with, elements_with, list_with, paren_with, uncalled_with, operand_with, amps_with, conj_with, branch_with, bars_with, expr_with, inner, definition_at, line_at, before_end, definitions_at, clause_at, package_at, file_with, file_at}
 use Rattle.cs_syntax.specs.Nesting.{nesting}
-use Rattle.cs_syntax.proofs.Boundaries.{Quiet, IsOpen, quiet_comma, quiet_closes_paren, quiet_closes_list, quiet_opening, quiet_fields, quiet_more, quiet_end, quiet_elements, no_amp-bars, expr_open, expr_no_field, conj_no_star}
+use Rattle.cs_syntax.proofs.Boundaries.{Quiet, IsOpen, quiet_comma, quiet_closes_paren, quiet_closes_list, quiet_opening, quiet_fields, quiet_more, quiet_end, quiet_elements, Ended, quiet_ended, ended-bars, no_call-amps, expr_open, expr_no_field, conj_no_star}
 use Rattle.cs_syntax.proofs.NestingBounds.{inside, inside_all, inside_elements, inside_fields, inside_declarations, inside_literal, inside_end, inside_definitions, inside_file, inside_low, max_left, max_right}
 
 -- a comma takes a word
@@ -104,21 +104,26 @@ read_reference : (s : List ℕ) (p : ℕ) (r : Words) → unbracketed_at (defini
 unfolding unbracketed_at
 read_reference s p r = refl
 
-read_name : (s : List ℕ) (e : Tree) (p : ℕ) (r : Words) → is_reserved s ≡ false → e ≡ unwrap_or (literal_of s) (named s p) → unbracketed_at (name s p ∷ r) ≡ Ok (e, r)
-unfolding unbracketed_at
-read_name s e p r k is = rw (k, is) refl
+and_false : (b : Bool) → b && false ≡ false
+and_false true = refl
+and_false false = refl
+
+-- a name that isn't called
+read_name : (f : Bool → Read Tree) (s : List ℕ) (e : Tree) (p : ℕ) (r : Words) → is_reserved s ≡ false → e ≡ unwrap_or (literal_of s) (named s p) → begins_with kinds.OpenCall r ≡ false → operand_with f (name s p ∷ r) ≡ Ok (e, r)
+unfolding operand_with uncalled_with unbracketed_at
+read_name f s e p r k is q = rw (q, and_false (is_close s), k, is) refl
 
 read_text : (s : List ℕ) (p : ℕ) (r : Words) → unbracketed_at (quoted s p ∷ r) ≡ Ok (atom (text s), r)
 unfolding unbracketed_at
 read_text s p r = refl
 
 plain_number : {z : ℤ} {ts r : Words} → SpellsNumber z ts r → (r' : Bool → Read Tree) → operand_with r' ts ≡ (number_at ts >>= λ y. Ok (atom (integer y.0), y.1))
-unfolding operand_with unbracketed_at integer_at
+unfolding operand_with uncalled_with unbracketed_at integer_at
 plain_number (positive h) r' = refl
 plain_number (negative e h) r' = refl
 
 plain_bound : {e : Tree} {ts r : Words} → SpellsBound e ts r → (r' : Bool → Read Tree) → operand_with r' ts ≡ unbracketed_at ts
-unfolding operand_with
+unfolding operand_with uncalled_with
 plain_bound (limit_is n) r' = refl
 plain_bound (other_number n) r' = refl
 plain_bound other_text r' = refl
@@ -291,7 +296,7 @@ expr_embedded d ts s n h = rw (n, h, s) refl
 -- ---- the whole grammar
 
 mutual
-  unfolding operand_with conj_with branch_with expr_with inner field_with rest_with
+  unfolding operand_with uncalled_with paren_with conj_with branch_with expr_with inner field_with rest_with
 
   read_value : {e : Tree} {ts r : Words} → SpellsValue e ts r → (d : ℕ) → inside e ≤ d → Quiet r → inner (suc d) true ts ≡ Ok (e, r)
   read_value (long s) d h q = rw (expr_no_field s q.no_label) (read_expr s d h q)
@@ -304,40 +309,44 @@ mutual
   read_field (every_key {s} {o} {p} {q = b} {c} {ts} k v) (suc d) h q = rw (every_head s o p b c ts k, read_value v d (omega (arith, h)) q) refl
 
   read_expr : {e : Tree} {ts r : Words} → SpellsExpr e ts r → (d : ℕ) → inside e ≤ d → Quiet r → expr_with (inner d) ts ≡ Ok (e, r)
-  read_expr (one_branch {e} {ts} {r} c) d h q = rw (read_branch c d h q.no_amp_here, many_end (after kinds.Bar) (branch_with (inner d)) (length r) r q.no_bar_here) refl
-  read_expr (disjunction_is {fs = fs} {us = us} c b) d h q = rw (read_branch c d (max_left _ _ h) (no_amp-bars b q.no_amp_here), read_bars b d (length us) (max_right _ _ h) (omega arith) q, trees_back fs) refl
+  read_expr (one_branch {e} {ts} {r} c) d h q = rw (read_branch c d h (quiet_ended q), many_end (after kinds.Bar) (branch_with (inner d)) (length r) r q.no_bar_here) refl
+  read_expr (disjunction_is {fs = fs} {us = us} c b) d h q = rw (read_branch c d (max_left _ _ h) (ended-bars b (quiet_ended q)), read_bars b d (length us) (max_right _ _ h) (omega arith) q, trees_back fs) refl
 
   read_bars : {es : Trees} {ts r : Words} → SpellsBars es ts r → (d n : ℕ) → inside_all es ≤ d → length ts ≤ n → Quiet r → bars_with (inner d) n ts ≡ Ok (trees_in es, r)
   read_bars (no_bar {r}) d n h k q = many_end (after kinds.Bar) (branch_with (inner d)) n r q.no_bar_here
   read_bars (a_bar c b) d zero h k q = let never : ⊥ = omega arith in absurd never
-  read_bars (a_bar c b) d (suc n) h k q = many_next (after kinds.Bar) (branch_with (inner d)) n refl (read_branch c d (max_left _ _ h) (no_amp-bars b q.no_amp_here)) (read_bars b d n (max_right _ _ h) (omega (arith, no_longer (of_branch c))) q)
+  read_bars (a_bar c b) d (suc n) h k q = many_next (after kinds.Bar) (branch_with (inner d)) n refl (read_branch c d (max_left _ _ h) (ended-bars b (quiet_ended q))) (read_bars b d n (max_right _ _ h) (omega (arith, no_longer (of_branch c))) q)
 
-  read_branch : {e : Tree} {ts r : Words} → SpellsBranch e ts r → (d : ℕ) → inside e ≤ d → after kinds.Amp r ≡ None → branch_with (inner d) ts ≡ Ok (e, r)
+  read_branch : {e : Tree} {ts r : Words} → SpellsBranch e ts r → (d : ℕ) → inside e ≤ d → Ended r → branch_with (inner d) ts ≡ Ok (e, r)
   read_branch (unmarked c) d h q = rw (conj_no_star c) (read_conj c d h q)
   read_branch (marked_is c) d h q = rw (read_conj c d h q) refl
 
-  read_conj : {e : Tree} {ts r : Words} → SpellsConj e ts r → (d : ℕ) → inside e ≤ d → after kinds.Amp r ≡ None → conj_with (inner d) ts ≡ Ok (e, r)
-  read_conj (one_operand {e} {ts} {r} o) d h q = rw (read_operand o d h, many_end (after kinds.Amp) (operand_with (inner d)) (length r) r q) refl
-  read_conj (conjunction_is {fs = fs} {us = us} o a) d h q = rw (read_operand o d (max_left _ _ h), read_amps a d (length us) (max_right _ _ h) (omega arith) q, trees_back fs) refl
+  read_conj : {e : Tree} {ts r : Words} → SpellsConj e ts r → (d : ℕ) → inside e ≤ d → Ended r → conj_with (inner d) ts ≡ Ok (e, r)
+  read_conj (one_operand {e} {ts} {r} o) d h q = rw (read_operand o d h q.no_call, many_end (after kinds.Amp) (operand_with (inner d)) (length r) r q.no_amp_here) refl
+  read_conj (conjunction_is {fs = fs} {us = us} o a) d h q = rw (read_operand o d (max_left _ _ h) (no_call-amps a q.no_call), read_amps a d (length us) (max_right _ _ h) (omega arith) q, trees_back fs) refl
 
-  read_amps : {es : Trees} {ts r : Words} → SpellsAmps es ts r → (d n : ℕ) → inside_all es ≤ d → length ts ≤ n → after kinds.Amp r ≡ None → amps_with (inner d) n ts ≡ Ok (trees_in es, r)
-  read_amps (no_amp {r}) d n h k q = many_end (after kinds.Amp) (operand_with (inner d)) n r q
+  read_amps : {es : Trees} {ts r : Words} → SpellsAmps es ts r → (d n : ℕ) → inside_all es ≤ d → length ts ≤ n → Ended r → amps_with (inner d) n ts ≡ Ok (trees_in es, r)
+  read_amps (no_amp {r}) d n h k q = many_end (after kinds.Amp) (operand_with (inner d)) n r q.no_amp_here
   read_amps (an_amp o a) d zero h k q = let never : ⊥ = omega arith in absurd never
-  read_amps (an_amp o a) d (suc n) h k q = many_next (after kinds.Amp) (operand_with (inner d)) n refl (read_operand o d (max_left _ _ h)) (read_amps a d n (max_right _ _ h) (omega (arith, no_longer (of_operand o))) q)
+  read_amps (an_amp o a) d (suc n) h k q = many_next (after kinds.Amp) (operand_with (inner d)) n refl (read_operand o d (max_left _ _ h) (no_call-amps a q.no_call)) (read_amps a d n (max_right _ _ h) (omega (arith, no_longer (of_operand o))) q)
 
-  read_operand : {e : Tree} {ts r : Words} → SpellsOperand e ts r → (d : ℕ) → inside e ≤ d → operand_with (inner d) ts ≡ Ok (e, r)
-  read_operand (top_is {p} {r}) d h = read_top p r
-  read_operand (bottom_is {p} {r}) d h = read_bottom p r
-  read_operand (reference_is {s} {p} {r}) d h = read_reference s p r
-  read_operand (name_is {s} {e} {p} {r} k is) d h = read_name s e p r k is
-  read_operand (number_is n) d h = rw (plain_number n (inner d), read_number n) refl
-  read_operand (text_is {s} {p} {r}) d h = read_text s p r
-  read_operand (bound_is b) d h = rw (plain_bound b (inner d)) (read_bound b)
-  read_operand (paren_is e c) zero h = let never : ⊥ = omega (arith, h) in absurd never
-  read_operand (paren_is e c) (suc d) h = rw (read_expr e d (omega (arith, h)) (quiet_closes_paren c), paren_end_is c) refl
-  read_operand (struct_is {fs = fs} s) d h = rw (read_struct s d h, fields_back fs) refl
-  read_operand (wide_struct_is {p} {ds} {b} is s) d h = rw (read_wide_struct s d (literal_inside p ds b is h), declarations_back ds, is) refl
-  read_operand (list_is {es = es} s) d h = rw (read_list s d h, trees_back es) refl
+  read_operand : {e : Tree} {ts r : Words} → SpellsOperand e ts r → (d : ℕ) → inside e ≤ d → begins_with kinds.OpenCall r ≡ false → operand_with (inner d) ts ≡ Ok (e, r)
+  read_operand (top_is {p} {r}) d h q = read_top p r
+  read_operand (bottom_is {p} {r}) d h q = read_bottom p r
+  read_operand (reference_is {s} {p} {r}) d h q = read_reference s p r
+  read_operand (name_is {s} {e} {p} {r} k is) d h q = read_name (inner d) s e p r k is q
+  read_operand (number_is n) d h q = rw (plain_number n (inner d), read_number n) refl
+  read_operand (text_is {s} {p} {r}) d h q = read_text s p r
+  read_operand (bound_is b) d h q = rw (plain_bound b (inner d)) (read_bound b)
+  read_operand (paren_is e c) zero h q = let never : ⊥ = omega (arith, h) in absurd never
+  read_operand (paren_is e c) (suc d) h q = rw (read_expr e d (omega (arith, h)) (quiet_closes_paren c), paren_end_is c) refl
+  read_operand (call_paren_is e c) zero h q = let never : ⊥ = omega (arith, h) in absurd never
+  read_operand (call_paren_is e c) (suc d) h q = rw (read_expr e d (omega (arith, h)) (quiet_closes_paren c), paren_end_is c) refl
+  read_operand (shut_is s e c) zero h q = let never : ⊥ = omega (arith, h) in absurd never
+  read_operand (shut_is s e c) (suc d) h q = rw (s, read_expr e d (omega (arith, h)) (quiet_closes_paren c), paren_end_is c) refl
+  read_operand (struct_is {fs = fs} s) d h q = rw (read_struct s d h, fields_back fs) refl
+  read_operand (wide_struct_is {p} {ds} {b} is s) d h q = rw (read_wide_struct s d (literal_inside p ds b is h), declarations_back ds, is) refl
+  read_operand (list_is {es = es} s) d h q = rw (read_list s d h, trees_back es) refl
 
   read_struct : {fs : Fields} {b : Bool} {ts r : Words} → SpellsStruct fs b ts r → (d : ℕ) → inside_fields fs ≤ d → struct_with (inner d) ts ≡ Ok ((fields_in fs, b), r)
   read_struct (no_fields {p} {r}) d h = empty_struct (inner d) p r

@@ -1,4 +1,4 @@
--- The words of the default profile have no `*` and no `{` of the wide one, so the files that they spell have no form of the wide profile.
+-- The words of the default profile have no `*` and no `{` or `(` of the wide one, so the files that they spell have no form of the wide profile.
 use Rattle.std.proofs.Common.{◌≡◌, ℕ, Bool, true, false, cond, List, [], ◌∷◌, Option, Some, None, refl, sym, ap, ◌∙◌}
 use Rattle.std.proofs.lemmas.Slice.Eq.{bytes_eq-Decides}
 use Rattle.std.specs.Prelude.{◌==◌, codes}
@@ -14,19 +14,20 @@ use Rattle.cs_grammar.specs.declared.line.LineState.{LineState}
 use Rattle.cs_grammar.specs.declared.line.LineState.TheVariants.{Plain, WantsComma, Minus}
 use Rattle.cs_grammar.specs.declared.token.Sort.{Sort}
 use Rattle.cs_grammar.specs.declared.token.Sort.TheVariants as sorts
-use Rattle.cs_grammar.specs.Cut.{Lexeme, lexeme, comma_if, Cut, blank, new_line, comment, token, finish}
+use Rattle.cs_grammar.specs.Cut.{Lexeme, lexeme, comma_if, Cut, blank, new_line, comment, attribute, token, finish}
 use Rattle.cs_grammar.specs.DefaultForms.{IsDefault, AreDefault, AreDefaultFields, IsDefaultEnd, IsDefaultFile}
 use Rattle.cs_grammar.specs.Source.{IsSpelledBy}
 use Rattle.cs_grammar.specs.Spelling.{is_letter, is_digit, is_name_byte, is_integer, is_definition_rest, text_value, used_marks, left_out_marks, sort_if, underscore_sort, sort_of}
-use Rattle.cs_grammar.specs.Spells.{is_null, literal_of, SpellsBound, limit_is, other_number, other_text, other_null, SpellsValue, long, short, SpellsField, labelled, every_key, SpellsExpr, one_branch, disjunction_is, SpellsBars, no_bar, a_bar, SpellsBranch, unmarked, marked_is, SpellsConj, one_operand, conjunction_is, SpellsAmps, no_amp, an_amp, SpellsOperand, top_is, bottom_is, reference_is, name_is, number_is, text_is, bound_is, paren_is, struct_is, list_is, wide_struct_is, SpellsStruct, no_fields, dots_alone, fields, SpellsFields, no_more_fields, next_field, SpellsList, no_elements, rest_alone, elements, SpellsElements, no_more_elements, next_element, SpellsEnd, closed_is, rest_is, SpellsRest, any_is, each_is, SpellsDefinition, defined, SpellsDefinitions, no_definition, next_definition, SpellsFile, spelled}
+use Rattle.cs_grammar.specs.Spells.{is_null, literal_of, SpellsBound, limit_is, other_number, other_text, other_null, SpellsValue, long, short, SpellsField, labelled, every_key, SpellsExpr, one_branch, disjunction_is, SpellsBars, no_bar, a_bar, SpellsBranch, unmarked, marked_is, SpellsConj, one_operand, conjunction_is, SpellsAmps, no_amp, an_amp, SpellsOperand, top_is, bottom_is, reference_is, name_is, number_is, text_is, bound_is, paren_is, struct_is, list_is, call_paren_is, shut_is, wide_struct_is, SpellsStruct, no_fields, dots_alone, fields, SpellsFields, no_more_fields, next_field, SpellsList, no_elements, rest_alone, elements, SpellsElements, no_more_elements, next_element, SpellsEnd, closed_is, rest_is, SpellsRest, any_is, each_is, SpellsDefinition, defined, SpellsDefinitions, no_definition, next_definition, SpellsFile, spelled}
 use Rattle.cs_grammar.specs.TokenWords.{mark_kind, word_of, word, words}
 use Rattle.cs_grammar.specs.Tree as T
 use Rattle.cs_grammar.specs.Tree.{Label, Tree, named, Trees, Fields, End, DefinitionTree, body, FileTree}
-use Rattle.cs_grammar.specs.Words.{Word, Words, open_wide, star}
+use Rattle.cs_grammar.specs.Words.{Word, Words, open_wide, open_call, star}
 
 abbrev is_wide_word : Word → Bool
 is_wide_word (star o) = true
 is_wide_word (open_wide o) = true
+is_wide_word (open_call o) = true
 is_wide_word _ = false
 
 -- none of the words is one of the wide profile alone
@@ -95,6 +96,8 @@ mutual
   operand_default (paren_is e c) h = expr_default e h.1
   operand_default (struct_is s) h = struct_default s h.1
   operand_default (list_is s) h = list_default s h.1
+  operand_default (call_paren_is e c) h = let never : true ≡ false = h.0 in absurd cc
+  operand_default (shut_is s e c) h = let never : true ≡ false = h.1.0 in absurd cc
   operand_default (wide_struct_is e s) h = let never : true ≡ false = h.0 in absurd cc
 
   struct_default : {fs : Fields} {b : Bool} {ts r : Words} → SpellsStruct fs b ts r → Narrow ts → AreDefaultFields fs
@@ -138,6 +141,7 @@ file_default (spelled p ds) h = definitions_default ds (kept (R.of_package p) h)
 abbrev is_wide_kind : Kind → Bool
 is_wide_kind kinds.Star = true
 is_wide_kind kinds.OpenWide = true
+is_wide_kind kinds.OpenCall = true
 is_wide_kind _ = false
 
 record Other (k : Kind) : Type 0 where
@@ -224,6 +228,7 @@ sort_other (x ∷ xs) =
 word_narrow : (k : Kind) (t : List ℕ) (o : ℕ) → is_wide_kind k ≡ false → is_wide_word (word_of k t o) ≡ false
 word_narrow kinds.Star t o h = h
 word_narrow kinds.OpenWide t o h = h
+word_narrow kinds.OpenCall t o h = h
 word_narrow k t o h = refl
 
 token_narrow : (s : Sort) (t : List ℕ) (o : ℕ) → sort_of t ≡ Some s → is_wide_word (word (lexeme s t o)) ≡ false
@@ -240,6 +245,7 @@ cut_narrow : {bs : List ℕ} {o : ℕ} {l : LineState} {ks : List Lexeme} → Cu
 cut_narrow (blank h k) = cut_narrow k
 cut_narrow (new_line {o = o} {l = l} {ks = ks} h k) = comma_narrow l o ks (cut_narrow k)
 cut_narrow (comment {o = o} {l = l} {ks = ks} h k) = comma_narrow l o ks (cut_narrow k)
+cut_narrow (attribute h k) = absurd cc
 cut_narrow (token h k) = (token_narrow _ _ _ h.token.spelled, cut_narrow k)
 cut_narrow (finish {o} {l}) = comma_narrow l o _ (refl, tt)
 

@@ -8,7 +8,7 @@ use Rattle.cs_grammar.specs.declared.line.LineState.TheVariants.{Plain, WantsCom
 use Rattle.cs_grammar.specs.declared.profile.Profile.TheVariants as profiles
 use Rattle.cs_grammar.specs.declared.token.Sort.TheVariants as sorts
 use Rattle.cs_grammar.proofs.CutSamples.{begins}
-use Rattle.cs_grammar.specs.Cut.{Lexeme, lexeme, IsCut, blank, token, finish}
+use Rattle.cs_grammar.specs.Cut.{Lexeme, lexeme, IsCutIn, blank, token, finish}
 use Rattle.cs_grammar.specs.Spells.{every_label}
 use Rattle.cs_grammar.specs.Taken.{wide_sort, taken}
 use Rattle.cs_grammar.specs.TokenWords.{kind_of, words}
@@ -19,7 +19,7 @@ use Rattle.cs_grammar.specs.Words.{Words}
 use Rattle.cs_syntax.specs.Answer.{IsSpelledIn}
 use Rattle.cs_grammar.specs.Height.{height}
 use Rattle.cs_syntax.specs.Nesting.{nesting}
-use Rattle.cs_syntax.specs.Reading.{word_kind, unbracketed_at, many, label_at, every_key_at, head_at, field_with, struct_with, declaration_with, wide_struct_with, operand_with, conj_with, branch_with, expr_with, inner, definition_at, line_at, package_at, file_with, file_at}
+use Rattle.cs_syntax.specs.Reading.{word_kind, unbracketed_at, many, label_at, every_key_at, head_at, field_with, struct_with, declaration_with, wide_struct_with, operand_with, uncalled_with, paren_with, conj_with, branch_with, expr_with, inner, definition_at, line_at, package_at, file_with, file_at}
 use Rattle.cs_syntax.proofs.Soundness.{file_found}
 
 -- ---- a whole source: `#A: {#B, b: _}`
@@ -33,7 +33,7 @@ tokens =
     ∷ lexeme sorts.Mark (codes ",") 7 ∷ lexeme sorts.Name (codes "b") 9 ∷ lexeme sorts.Mark (codes ":") 10 ∷ lexeme sorts.Top (codes "_") 12
     ∷ lexeme sorts.Mark (codes "}") 13 ∷ lexeme sorts.Inserted [] 14 ∷ lexeme sorts.End [] 14 ∷ []
 
-cut : IsCut source tokens
+cut : IsCutIn profiles.Wide source tokens
 cut =
     token {n = 2} (begins Plain (codes "#A: {#B, b: _}") 2 sorts.Definition refl refl refl refl refl refl refl) (
     token {n = 1} (begins WantsComma (codes ": {#B, b: _}") 1 sorts.Mark refl refl refl refl refl refl refl) (
@@ -79,11 +79,11 @@ abbrev tree : Tree
 tree = T.wide (T.merged 4 (T.embedded 5 base (T.declared b Regular any_value T.no_declaration)) false)
 
 wide_read : file_at (words (taken profiles.Wide tokens)) ≡ Ok (one_file tree)
-unfolding unbracketed_at many label_at head_at field_with declaration_with wide_struct_with operand_with conj_with branch_with expr_with inner definition_at line_at package_at file_with
+unfolding unbracketed_at many label_at head_at field_with declaration_with wide_struct_with operand_with uncalled_with paren_with conj_with branch_with expr_with inner definition_at line_at package_at file_with
 wide_read = refl
 
 default_read : file_at (words (taken profiles.Default tokens)) ≡ Err (Syntax 5)
-unfolding label_at head_at field_with struct_with operand_with conj_with branch_with expr_with inner many definition_at line_at package_at file_with
+unfolding label_at head_at field_with struct_with operand_with uncalled_with paren_with conj_with branch_with expr_with inner many definition_at line_at package_at file_with
 default_read = refl
 
 pub embedded_spelled : IsSpelledIn profiles.Wide source (one_file tree)
@@ -102,32 +102,32 @@ wide_body ts = one_body (W.open_wide 4 ∷ ts)
 
 -- `{}`, `{...}`, `{b?: _}` and `{[string]: _, ...}` are literals of the default profile
 empty : file_at (wide_body (W.close_struct 5 ∷ W.nl 6 ∷ W.finish 6 ∷ [])) ≡ Ok (one_file (T.struct 4 T.no_field false))
-unfolding many wide_struct_with operand_with conj_with branch_with expr_with inner definition_at line_at package_at file_with
+unfolding many wide_struct_with operand_with uncalled_with paren_with conj_with branch_with expr_with inner definition_at line_at package_at file_with
 empty = refl
 
 opened : file_at (wide_body (W.dots 5 ∷ W.close_struct 8 ∷ W.nl 9 ∷ W.finish 9 ∷ [])) ≡ Ok (one_file (T.struct 4 T.no_field true))
-unfolding many wide_struct_with operand_with conj_with branch_with expr_with inner definition_at line_at package_at file_with
+unfolding many wide_struct_with operand_with uncalled_with paren_with conj_with branch_with expr_with inner definition_at line_at package_at file_with
 opened = refl
 
 one_field : file_at (wide_body (W.name (codes "b") 5 ∷ W.question 6 ∷ W.colon 7 ∷ W.top_mark 9 ∷ W.close_struct 10 ∷ W.nl 11 ∷ W.finish 11 ∷ [])) ≡ Ok (one_file (T.struct 4 (T.field b Optional any_value T.no_field) false))
-unfolding unbracketed_at many label_at head_at field_with declaration_with wide_struct_with operand_with conj_with branch_with expr_with inner definition_at line_at package_at file_with
+unfolding unbracketed_at many label_at head_at field_with declaration_with wide_struct_with operand_with uncalled_with paren_with conj_with branch_with expr_with inner definition_at line_at package_at file_with
 one_field = refl
 
 every_field : file_at (wide_body (W.open_list 5 ∷ W.name (codes "string") 6 ∷ W.close_list 12 ∷ W.colon 13 ∷ W.top_mark 15 ∷ W.comma 16 ∷ W.dots 18 ∷ W.close_struct 21 ∷ W.nl 22 ∷ W.finish 22 ∷ [])) ≡ Ok (one_file (T.struct 4 (T.field every_label (Every 6) any_value T.no_field) true))
-unfolding unbracketed_at many every_key_at head_at field_with declaration_with wide_struct_with operand_with conj_with branch_with expr_with inner definition_at line_at package_at file_with
+unfolding unbracketed_at many every_key_at head_at field_with declaration_with wide_struct_with operand_with uncalled_with paren_with conj_with branch_with expr_with inner definition_at line_at package_at file_with
 every_field = refl
 
 -- `{#B}`, `{b}` and `{"b"}`: an embedding alone
 alone : file_at (wide_body (W.definition_name (codes "B") 5 ∷ W.close_struct 7 ∷ W.nl 8 ∷ W.finish 8 ∷ [])) ≡ Ok (one_file (T.wide (T.merged 4 (T.embedded 5 base T.no_declaration) false)))
-unfolding unbracketed_at many declaration_with wide_struct_with operand_with conj_with branch_with expr_with inner definition_at line_at package_at file_with
+unfolding unbracketed_at many declaration_with wide_struct_with operand_with uncalled_with paren_with conj_with branch_with expr_with inner definition_at line_at package_at file_with
 alone = refl
 
 name_alone : file_at (wide_body (W.name (codes "b") 5 ∷ W.close_struct 6 ∷ W.nl 7 ∷ W.finish 7 ∷ [])) ≡ Ok (one_file (T.wide (T.merged 4 (T.embedded 5 (T.named (codes "b") 5) T.no_declaration) false)))
-unfolding unbracketed_at many declaration_with wide_struct_with operand_with conj_with branch_with expr_with inner definition_at line_at package_at file_with
+unfolding unbracketed_at many declaration_with wide_struct_with operand_with uncalled_with paren_with conj_with branch_with expr_with inner definition_at line_at package_at file_with
 name_alone = refl
 
 text_alone : file_at (wide_body (W.quoted (codes "b") 5 ∷ W.close_struct 8 ∷ W.nl 9 ∷ W.finish 9 ∷ [])) ≡ Ok (one_file (T.wide (T.merged 4 (T.embedded 5 (T.atom (T.text (codes "b"))) T.no_declaration) false)))
-unfolding unbracketed_at many declaration_with wide_struct_with operand_with conj_with branch_with expr_with inner definition_at line_at package_at file_with
+unfolding unbracketed_at many declaration_with wide_struct_with operand_with uncalled_with paren_with conj_with branch_with expr_with inner definition_at line_at package_at file_with
 text_alone = refl
 
 -- `{b: _, #B, b: _, ...}`, with fields before and behind
@@ -135,7 +135,7 @@ abbrev between : Words
 between = wide_body (W.name (codes "b") 5 ∷ W.colon 6 ∷ W.top_mark 8 ∷ W.comma 9 ∷ W.definition_name (codes "B") 11 ∷ W.nl 13 ∷ W.name (codes "b") 15 ∷ W.colon 16 ∷ W.top_mark 18 ∷ W.comma 19 ∷ W.dots 21 ∷ W.comma 24 ∷ W.close_struct 25 ∷ W.nl 26 ∷ W.finish 26 ∷ [])
 
 between_read : file_at between ≡ Ok (one_file (T.wide (T.merged 4 (T.declared b Regular any_value (T.embedded 11 (T.reference (codes "B") 11) (T.declared b Regular any_value T.no_declaration))) true)))
-unfolding unbracketed_at many label_at head_at field_with declaration_with wide_struct_with operand_with conj_with branch_with expr_with inner definition_at line_at package_at file_with
+unfolding unbracketed_at many label_at head_at field_with declaration_with wide_struct_with operand_with uncalled_with paren_with conj_with branch_with expr_with inner definition_at line_at package_at file_with
 between_read = refl
 
 -- `{{b: _}, b: _}`, whose inner literal has no embedding
@@ -146,7 +146,7 @@ abbrev one_field_at : ℕ → Tree
 one_field_at o = T.struct o (T.field b Regular any_value T.no_field) false
 
 inside_read : file_at inside ≡ Ok (one_file (T.wide (T.merged 4 (T.embedded 5 (one_field_at 5) (T.declared b Regular any_value T.no_declaration)) false)))
-unfolding unbracketed_at many label_at head_at field_with declaration_with wide_struct_with operand_with conj_with branch_with expr_with inner definition_at line_at package_at file_with
+unfolding unbracketed_at many label_at head_at field_with declaration_with wide_struct_with operand_with uncalled_with paren_with conj_with branch_with expr_with inner definition_at line_at package_at file_with
 inside_read = refl
 
 -- `{b: _, {b: _} | *{b: _}}`, whose second declaration is the whole disjunction
@@ -156,29 +156,29 @@ choice =
     ∷ W.bar 18 ∷ W.star 20 ∷ W.open_wide 21 ∷ W.name (codes "b") 22 ∷ W.colon 23 ∷ W.top_mark 25 ∷ W.close_struct 26 ∷ W.close_struct 27 ∷ W.nl 28 ∷ W.finish 28 ∷ [])
 
 choice_read : file_at choice ≡ Ok (one_file (T.wide (T.merged 4 (T.declared b Regular any_value (T.embedded 11 (T.disjunction (T.more (one_field_at 11) (T.more (T.wide (T.marked 20 (one_field_at 21))) T.none))) T.no_declaration)) false)))
-unfolding unbracketed_at many label_at head_at field_with declaration_with wide_struct_with operand_with conj_with branch_with expr_with inner definition_at line_at package_at file_with
+unfolding unbracketed_at many label_at head_at field_with declaration_with wide_struct_with operand_with uncalled_with paren_with conj_with branch_with expr_with inner definition_at line_at package_at file_with
 choice_read = refl
 
 -- ---- out of place: `{#B b: _}`, `{#B: _}`, `{#B ...}`, `{#B, let}`, whose name begins a label, and a bracket that isn't closed
 
 no_comma : file_at (wide_body (W.definition_name (codes "B") 5 ∷ W.name (codes "b") 8 ∷ W.colon 9 ∷ W.top_mark 11 ∷ W.close_struct 12 ∷ W.nl 13 ∷ W.finish 13 ∷ [])) ≡ Err (Syntax 8)
-unfolding unbracketed_at many declaration_with wide_struct_with operand_with conj_with branch_with expr_with inner definition_at line_at package_at file_with
+unfolding unbracketed_at many declaration_with wide_struct_with operand_with uncalled_with paren_with conj_with branch_with expr_with inner definition_at line_at package_at file_with
 no_comma = refl
 
 no_label : file_at (wide_body (W.definition_name (codes "B") 5 ∷ W.colon 7 ∷ W.top_mark 9 ∷ W.close_struct 10 ∷ W.nl 11 ∷ W.finish 11 ∷ [])) ≡ Err (Syntax 7)
-unfolding unbracketed_at many declaration_with wide_struct_with operand_with conj_with branch_with expr_with inner definition_at line_at package_at file_with
+unfolding unbracketed_at many declaration_with wide_struct_with operand_with uncalled_with paren_with conj_with branch_with expr_with inner definition_at line_at package_at file_with
 no_label = refl
 
 no_comma_before_dots : file_at (wide_body (W.definition_name (codes "B") 5 ∷ W.dots 8 ∷ W.close_struct 11 ∷ W.nl 12 ∷ W.finish 12 ∷ [])) ≡ Err (Syntax 8)
-unfolding unbracketed_at many declaration_with wide_struct_with operand_with conj_with branch_with expr_with inner definition_at line_at package_at file_with
+unfolding unbracketed_at many declaration_with wide_struct_with operand_with uncalled_with paren_with conj_with branch_with expr_with inner definition_at line_at package_at file_with
 no_comma_before_dots = refl
 
 a_left_out_name : file_at (wide_body (W.definition_name (codes "B") 5 ∷ W.comma 7 ∷ W.name (codes "let") 9 ∷ W.close_struct 12 ∷ W.nl 13 ∷ W.finish 13 ∷ [])) ≡ Err (Syntax 12)
-unfolding unbracketed_at many label_at head_at field_with declaration_with wide_struct_with operand_with conj_with branch_with expr_with inner definition_at line_at package_at file_with
+unfolding unbracketed_at many label_at head_at field_with declaration_with wide_struct_with operand_with uncalled_with paren_with conj_with branch_with expr_with inner definition_at line_at package_at file_with
 a_left_out_name = refl
 
 not_closed : file_at (wide_body (W.definition_name (codes "B") 5 ∷ W.nl 7 ∷ W.finish 7 ∷ [])) ≡ Err (Syntax 7)
-unfolding unbracketed_at many declaration_with wide_struct_with operand_with conj_with branch_with expr_with inner definition_at line_at package_at file_with
+unfolding unbracketed_at many declaration_with wide_struct_with operand_with uncalled_with paren_with conj_with branch_with expr_with inner definition_at line_at package_at file_with
 not_closed = refl
 
 -- ---- heights and nesting
@@ -190,16 +190,22 @@ heights = refl
 nestings : map nesting (between ∷ inside ∷ choice ∷ words_with (W.open_wide 4) ∷ words_with (W.open_struct 4) ∷ []) ≡ 1 ∷ 2 ∷ 2 ∷ 1 ∷ 1 ∷ []
 nestings = refl
 
--- ---- the sort, the kind and the word of `{` in each profile, and of other marks and sorts
+-- ---- the sort, the kind and the word of `{` and `(` in each profile, and of other marks and sorts
 
 sorts_taken : map (λ s. wide_sort s (codes "{")) (sorts.LeftOut ∷ sorts.Mark ∷ sorts.Wide ∷ sorts.Text ∷ []) ≡ sorts.LeftOut ∷ sorts.Wide ∷ sorts.Wide ∷ sorts.Text ∷ []
 sorts_taken = refl
 
-marks_kept : map (wide_sort sorts.Mark) (codes "}" ∷ codes "[" ∷ codes "(" ∷ codes "{{" ∷ codes "*" ∷ [] ∷ []) ≡ sorts.Mark ∷ sorts.Mark ∷ sorts.Mark ∷ sorts.Mark ∷ sorts.Mark ∷ sorts.Mark ∷ []
+parens_taken : map (λ s. wide_sort s (codes "(")) (sorts.LeftOut ∷ sorts.Mark ∷ sorts.Wide ∷ sorts.Text ∷ []) ≡ sorts.LeftOut ∷ sorts.Wide ∷ sorts.Wide ∷ sorts.Text ∷ []
+parens_taken = refl
+
+marks_kept : map (wide_sort sorts.Mark) (codes "}" ∷ codes "[" ∷ codes ")" ∷ codes "{{" ∷ codes "*" ∷ [] ∷ []) ≡ sorts.Mark ∷ sorts.Mark ∷ sorts.Mark ∷ sorts.Mark ∷ sorts.Mark ∷ sorts.Mark ∷ []
 marks_kept = refl
 
 kinds_of : map (λ s. kind_of s (codes "{")) (sorts.Mark ∷ sorts.Wide ∷ sorts.LeftOut ∷ []) ≡ kinds.OpenStruct ∷ kinds.OpenWide ∷ kinds.LeftOut ∷ []
 kinds_of = refl
 
-kinds_of_words : map word_kind (W.open_struct 7 ∷ W.open_wide 7 ∷ W.close_struct 7 ∷ []) ≡ kinds.OpenStruct ∷ kinds.OpenWide ∷ kinds.CloseStruct ∷ []
+kinds_of_parens : map (λ s. kind_of s (codes "(")) (sorts.Mark ∷ sorts.Wide ∷ sorts.LeftOut ∷ []) ≡ kinds.OpenParen ∷ kinds.OpenCall ∷ kinds.LeftOut ∷ []
+kinds_of_parens = refl
+
+kinds_of_words : map word_kind (W.open_struct 7 ∷ W.open_wide 7 ∷ W.close_struct 7 ∷ W.open_paren 7 ∷ W.open_call 7 ∷ []) ≡ kinds.OpenStruct ∷ kinds.OpenWide ∷ kinds.CloseStruct ∷ kinds.OpenParen ∷ kinds.OpenCall ∷ []
 kinds_of_words = refl

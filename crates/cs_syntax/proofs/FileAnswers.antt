@@ -4,7 +4,7 @@ use Rattle.std.proofs.lemmas.Bool.Decides.{nat_tests}
 use Rattle.std.specs.Prelude.{◌⊎◌, Bool, IfOk, IfErr, nat_lt, nat_le, max}
 use Rattle.cs_grammar.specs.declared.fault.SyntaxFault.{SyntaxFault}
 use Rattle.cs_grammar.specs.declared.fault.SyntaxFault.TheVariants as faults
-use Rattle.cs_grammar.specs.Cut.{Lexeme, IsCut}
+use Rattle.cs_grammar.specs.Cut.{Lexeme, IsCutIn}
 use Rattle.cs_grammar.specs.Words.{Words}
 use Rattle.cs_grammar.specs.Tree.{FileTree}
 use Rattle.cs_grammar.specs.Height.{file_height}
@@ -15,7 +15,7 @@ use Rattle.cs_grammar.specs.TokenWords.{words}
 use Rattle.cs_grammar.specs.declared.profile.Profile.{Profile}
 use Rattle.cs_syntax.specs.Reading.{◌>>=◌, Gives, file_at}
 use Rattle.cs_syntax.specs.Within.{if_low, if_deep, file_within}
-use Rattle.cs_lexer.specs.Lexed.{Answers, IsRefusal}
+use Rattle.cs_lexer.specs.Lexed.{Answers, IsRefusalIn}
 use Rattle.cs_syntax.specs.Answer.{IsSpelledIn}
 use Rattle.cs_syntax.specs.Refusal.{IsFileRefusalIn}
 use Rattle.cs_lexer.proofs.CutUnique.{cut_once, cut_not_stuck}
@@ -98,7 +98,7 @@ within_refused ts f is = by (nat_lt 28 (nesting ts)) refl is
     by false e k = read_refused ts f (file_at ts) (is_at_most (nesting ts) e) refl k
 
 module _ {X : Type 0} (p : Profile) (view : X → FileTree) (source : List ℕ) where
-  pub stuck_only : (e : SyntaxFault) → IsRefusal source e → (f : FileTree) → IsSpelledIn p source f → Answers {X = X} view (Err e) f
+  pub stuck_only : (e : SyntaxFault) → IsRefusalIn p source e → (f : FileTree) → IsSpelledIn p source f → Answers {X = X} view (Err e) f
   stuck_only faults.OutOfMemory h f s = tt
   stuck_only (faults.NoToken o) h f s = cut_not_stuck s.cut h
   stuck_only (faults.Syntax o) h f s = cut_not_stuck s.cut h
@@ -106,7 +106,7 @@ module _ {X : Type 0} (p : Profile) (view : X → FileTree) (source : List ℕ) 
   stuck_only (faults.IntegerRange o) h f s = cut_not_stuck s.cut h
   stuck_only faults.TooHigh h f s = cut_not_stuck s.cut h
 
-  pub spelled_found : (r : Result X SyntaxFault) (ks : List Lexeme) → IsCut source ks → Gives view r (file_within (words (taken p ks))) → IfOk r (λ x. IsSpelledIn p source (view x))
+  pub spelled_found : (r : Result X SyntaxFault) (ks : List Lexeme) → IsCutIn p source ks → Gives view r (file_within (words (taken p ks))) → IfOk r (λ x. IsSpelledIn p source (view x))
   spelled_found (Ok x) ks cut g = let w = within_sound (words (taken p ks)) (view x) g in record { tokens = ks; cut = cut; nested = w.0; spelled = w.1; low = w.2 }
   spelled_found (Err e) ks cut g = tt
 
@@ -119,13 +119,13 @@ module _ {X : Type 0} (p : Profile) (view : X → FileTree) (source : List ℕ) 
   answered (Err (faults.IntegerRange o)) f g = cc
   answered (Err faults.TooHigh) f g = cc
 
-  pub spelled_only : (r : Result X SyntaxFault) (ks : List Lexeme) → IsCut source ks → Gives view r (file_within (words (taken p ks))) → (f : FileTree) → IsSpelledIn p source f → Answers view r f
+  pub spelled_only : (r : Result X SyntaxFault) (ks : List Lexeme) → IsCutIn p source ks → Gives view r (file_within (words (taken p ks))) → (f : FileTree) → IsSpelledIn p source f → Answers view r f
   spelled_only r ks cut g f s =
       let same : s.tokens ≡ ks = cut_once s.cut cut in
       let read : file_within (words (taken p ks)) ≡ Ok f = sym (ap (λ js. file_within (words (taken p js))) same) ∙ within_complete (words (taken p s.tokens)) f s.nested s.spelled s.low in
       answered r f (subst (λ m. Gives view r m) read g)
 
-module _ (p : Profile) (source : List ℕ) (ks : List Lexeme) (cut : IsCut source ks) where
+module _ (p : Profile) (source : List ℕ) (ks : List Lexeme) (cut : IsCutIn p source ks) where
   fault_read : (e : SyntaxFault) (f : FileTree) → nesting (words (taken p ks)) ≤ 28 → file_at (words (taken p ks)) ≡ Err e → SpellsFile f (words (taken p ks)) → ⊥
   fault_read e f n h s = apart (sym h ∙ read_file n s)
     where
@@ -149,7 +149,7 @@ module _ (p : Profile) (source : List ℕ) (ks : List Lexeme) (cut : IsCut sourc
   refusal faults.TooHigh (inl h) = record { tokens = ks; cut = cut; high = h.1 }
   refusal faults.TooHigh (inr h) = absurd (never faults.TooHigh refl h.1)
 
-pub file_refused : {X : Type 0} (p : Profile) (view : X → FileTree) (source : List ℕ) (r : Result X SyntaxFault) (ks : List Lexeme) → IsCut source ks → Gives view r (file_within (words (taken p ks))) → IfErr r (λ f. IsFileRefusalIn p source f)
+pub file_refused : {X : Type 0} (p : Profile) (view : X → FileTree) (source : List ℕ) (r : Result X SyntaxFault) (ks : List Lexeme) → IsCutIn p source ks → Gives view r (file_within (words (taken p ks))) → IfErr r (λ f. IsFileRefusalIn p source f)
 file_refused p view source (Ok x) ks cut g = tt
 file_refused p view source (Err faults.OutOfMemory) ks cut g = tt
 file_refused p view source (Err (faults.Syntax o)) ks cut g = refusal p source ks cut (faults.Syntax o) (within_refused (words (taken p ks)) (faults.Syntax o) g)

@@ -4,7 +4,7 @@ use Rattle.std.specs.List.{AllByRecursion}
 use Rattle.std.specs.Option.{option_map}
 use Rattle.cs_grammar.specs.declared.ast.FieldMark.{FieldMark}
 use Rattle.cs_grammar.specs.Labels.{HasLabel, IsLabelled, AreLabelled, AreLabelledFields, AreLabelledDeclarations, IsLabelledEnd, IsLabelledFile}
-use Rattle.cs_grammar.specs.Spells.{fields_alone, literal_if, literal, Comma, explicit, inserted, ClosesParen, paren_here, paren_after, ClosesList, list_here, list_after, ClosesStruct, struct_here, struct_after, SpellsNumber, positive, negative, SpellsBound, limit_is, other_number, other_text, other_null, SpellsLabel, bare_label, quoted_label, SpellsMark, regular, optional, required, SpellsOpening, unopened, opened, SpellsValue, long, short, SpellsField, labelled, every_key, SpellsExpr, one_branch, disjunction_is, SpellsBars, no_bar, a_bar, SpellsBranch, unmarked, marked_is, SpellsConj, one_operand, conjunction_is, SpellsAmps, no_amp, an_amp, SpellsOperand, top_is, bottom_is, reference_is, name_is, number_is, text_is, bound_is, paren_is, struct_is, list_is, wide_struct_is, SpellsWideStruct, no_declarations, wide_dots_alone, some_declarations, SpellsDeclarations, a_field, an_embedding, SpellsMore, no_more, next_declaration, SpellsStruct, no_fields, dots_alone, fields, SpellsFields, no_more_fields, next_field, SpellsList, no_elements, rest_alone, elements, SpellsElements, no_more_elements, next_element, SpellsEnd, closed_is, rest_is, SpellsRest, any_is, each_is, SpellsDefinition, defined, SpellsDefinitions, no_definition, next_definition, SpellsPackage, no_clause, clause, SpellsFile, spelled}
+use Rattle.cs_grammar.specs.Spells.{fields_alone, literal_if, literal, Comma, explicit, inserted, ClosesParen, paren_here, paren_after, ClosesList, list_here, list_after, ClosesStruct, struct_here, struct_after, SpellsNumber, positive, negative, SpellsBound, limit_is, other_number, other_text, other_null, SpellsLabel, bare_label, quoted_label, SpellsMark, regular, optional, required, SpellsOpening, unopened, opened, SpellsValue, long, short, SpellsField, labelled, every_key, SpellsExpr, one_branch, disjunction_is, SpellsBars, no_bar, a_bar, SpellsBranch, unmarked, marked_is, SpellsConj, one_operand, conjunction_is, SpellsAmps, no_amp, an_amp, SpellsOperand, top_is, bottom_is, reference_is, name_is, number_is, text_is, bound_is, paren_is, struct_is, list_is, call_paren_is, shut_is, wide_struct_is, SpellsWideStruct, no_declarations, wide_dots_alone, some_declarations, SpellsDeclarations, a_field, an_embedding, SpellsMore, no_more, next_declaration, SpellsStruct, no_fields, dots_alone, fields, SpellsFields, no_more_fields, next_field, SpellsList, no_elements, rest_alone, elements, SpellsElements, no_more_elements, next_element, SpellsEnd, closed_is, rest_is, SpellsRest, any_is, each_is, SpellsDefinition, defined, SpellsDefinitions, no_definition, next_definition, SpellsPackage, no_clause, clause, SpellsFile, spelled}
 use Rattle.cs_grammar.specs.Tree.{Label, Tree, Trees, Fields, field, Declarations, no_declaration, declared, embedded, End, DefinitionTree, body, FileTree}
 use Rattle.cs_grammar.specs.Words.{Word, Words, close_list, colon, question, bang}
 
@@ -139,6 +139,8 @@ mutual
   of_operand (paren_is e c) is h = record { quiet = refl; apart = (refl, (of_expr e is (of_paren_end c h.apart)).apart) }
   of_operand (struct_is s) is h = record { quiet = refl; apart = (refl, (of_struct s is h).apart) }
   of_operand (list_is s) is h = record { quiet = refl; apart = (refl, (of_list s is.0 is.1 h).apart) }
+  of_operand (call_paren_is e c) is h = record { quiet = refl; apart = (refl, (of_expr e is (of_paren_end c h.apart)).apart) }
+  of_operand (shut_is s e c) is h = record { quiet = refl; apart = (refl, (refl, (of_expr e is (of_paren_end c h.apart)).apart)) }
   of_operand (wide_struct_is {p} {ds} {b} e s) is h = record { quiet = refl; apart = (refl, (of_wide_struct s (literal_labelled p ds b (subst IsLabelled e is)) h).apart) }
 
   of_wide_struct : {ds : Declarations} {b : Bool} {ts r : Words} → SpellsWideStruct ds b ts r → AreLabelledDeclarations ds → Follows r → Follows ts

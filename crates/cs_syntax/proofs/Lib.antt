@@ -6,6 +6,7 @@
 pub mod WordKinds
 pub mod QuotedTexts
 pub mod Reader
+pub mod Calls
 -- completeness, with the lists that a label's bracket begins, and what begins and follows an expression
 pub mod BracketLabels
 pub mod Boundaries

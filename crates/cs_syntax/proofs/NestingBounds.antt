@@ -8,7 +8,7 @@ use Rattle.cs_grammar.specs.declared.ast.FieldMark.{FieldMark}
 use Rattle.cs_grammar.specs.Words.{Word, Words, name, quoted, open_list, close_list, comma, nl, colon}
 use Rattle.cs_grammar.specs.Tree as T
 use Rattle.cs_grammar.specs.Tree.{Label, Tree, Trees, none, more, Fields, no_field, field, Declarations, no_declaration, declared, embedded, End, DefinitionTree, body, FileTree, definitions}
-use Rattle.cs_grammar.specs.Spells.{is_null, is_string, literal_of, fields_alone, literal_if, literal, Comma, explicit, inserted, ClosesParen, paren_here, paren_after, ClosesList, list_here, list_after, ClosesStruct, struct_here, struct_after, SpellsNumber, positive, negative, SpellsBound, limit_is, other_number, other_text, other_null, SpellsLabel, bare_label, quoted_label, SpellsMark, regular, optional, required, SpellsOpening, unopened, opened, SpellsValue, long, short, SpellsField, labelled, every_key, SpellsExpr, one_branch, disjunction_is, SpellsBars, no_bar, a_bar, SpellsBranch, unmarked, marked_is, SpellsConj, one_operand, conjunction_is, SpellsAmps, no_amp, an_amp, SpellsOperand, top_is, bottom_is, reference_is, name_is, number_is, text_is, bound_is, paren_is, struct_is, list_is, wide_struct_is, SpellsWideStruct, no_declarations, wide_dots_alone, some_declarations, SpellsDeclarations, a_field, an_embedding, SpellsMore, no_more, next_declaration, SpellsStruct, no_fields, dots_alone, fields, SpellsFields, no_more_fields, next_field, SpellsList, no_elements, rest_alone, elements, SpellsElements, no_more_elements, next_element, SpellsEnd, closed_is, rest_is, SpellsRest, any_is, each_is, defined, SpellsDefinitions, no_definition, next_definition, SpellsPackage, no_clause, clause, SpellsFile, spelled}
+use Rattle.cs_grammar.specs.Spells.{is_null, is_string, literal_of, fields_alone, literal_if, literal, Comma, explicit, inserted, ClosesParen, paren_here, paren_after, ClosesList, list_here, list_after, ClosesStruct, struct_here, struct_after, SpellsNumber, positive, negative, SpellsBound, limit_is, other_number, other_text, other_null, SpellsLabel, bare_label, quoted_label, SpellsMark, regular, optional, required, SpellsOpening, unopened, opened, SpellsValue, long, short, SpellsField, labelled, every_key, SpellsExpr, one_branch, disjunction_is, SpellsBars, no_bar, a_bar, SpellsBranch, unmarked, marked_is, SpellsConj, one_operand, conjunction_is, SpellsAmps, no_amp, an_amp, SpellsOperand, top_is, bottom_is, reference_is, name_is, number_is, text_is, bound_is, paren_is, struct_is, list_is, call_paren_is, shut_is, wide_struct_is, SpellsWideStruct, no_declarations, wide_dots_alone, some_declarations, SpellsDeclarations, a_field, an_embedding, SpellsMore, no_more, next_declaration, SpellsStruct, no_fields, dots_alone, fields, SpellsFields, no_more_fields, next_field, SpellsList, no_elements, rest_alone, elements, SpellsElements, no_more_elements, next_element, SpellsEnd, closed_is, rest_is, SpellsRest, any_is, each_is, defined, SpellsDefinitions, no_definition, next_definition, SpellsPackage, no_clause, clause, SpellsFile, spelled}
 use Rattle.cs_syntax.specs.Nesting.{OpenLevels, ends_with_chained_label, is_short, counted_if, behind, nesting_at, nesting_from, nesting}
 use Rattle.cs_syntax.proofs.NestingCounts.{nesting-cons}
 
@@ -28,6 +28,7 @@ abbrev mutual
   pub inside_wide : T.Wide → ℕ
   inside_wide (T.marked o e) = inside e
   inside_wide (T.merged o ds b) = inside_declarations ds
+  inside_wide (T.shut o e) = suc (inside e)
 
   pub inside_declarations : Declarations → ℕ
   inside_declarations no_declaration = 0
@@ -272,6 +273,8 @@ mutual
   operand_low {n = n} {ns = ns} (paren_is e c) h = let x = expr_low e (pass h) in (one_in _ n ns x.0, paren_goes c x.1.1)
   operand_low (struct_is s) h = struct_low s refl (pass h)
   operand_low (list_is s) h = list_low s (pass h)
+  operand_low {n = n} {ns = ns} (call_paren_is e c) h = let x = expr_low e (pass h) in (one_in _ n ns x.0, paren_goes c x.1.1)
+  operand_low {n = n} {ns = ns} (shut_is s e c) h = let x = expr_low e (pass (pass h)) in (one_in _ n ns x.0, paren_goes c x.1.1)
   operand_low (wide_struct_is {p} {ds} {b} e s) h = let x = wide_struct_low s refl (pass h) in (omega (arith, x.0, ap inside e, inside_literal p ds b), x.1)
 
   struct_low : {k n : ℕ} {fs : Fields} {b : Bool} {ws ts r : Words} {ns : OpenLevels} → SpellsStruct fs b ts r → begins_colon ws ≡ false → Runs k ws (0 ∷ n ∷ ns) ts → Fits k (inside_fields fs) (n ∷ ns) × Goes k (n ∷ ns) r

@@ -8,7 +8,7 @@ use Rattle.cs_grammar.specs.declared.kind.Kind.{Kind}
 use Rattle.cs_grammar.specs.declared.kind.Kind.TheVariants as kinds
 use Rattle.cs_syntax.specs.declared.parser.nesting.PrecedingToken.{PrecedingToken}
 use Rattle.cs_syntax.specs.declared.parser.nesting.PrecedingToken.TheVariants as before
-use Rattle.cs_grammar.specs.Words.{Word, Words, name, quoted, open_struct, open_wide, close_struct, open_list, close_list, open_paren, close_paren, comma, nl, colon, question, bang, relation}
+use Rattle.cs_grammar.specs.Words.{Word, Words, name, quoted, open_struct, open_wide, close_struct, open_list, close_list, open_paren, open_call, close_paren, comma, nl, colon, question, bang, relation}
 use Rattle.cs_grammar.specs.Spells.{is_string}
 use Rattle.cs_syntax.specs.Reading.{word_kind, names_string}
 use Rattle.cs_syntax.specs.Nesting.{ends_with_chained_label, ends_with_chained_string, is_short, closed, counted_if, behind, nesting_at, nesting_from}
@@ -262,6 +262,7 @@ levels_is ws (open_struct o) n ns = open_is n ns
 levels_is ws (open_wide o) n ns = open_is n ns
 levels_is ws (open_list o) n ns = open_is n ns
 levels_is ws (open_paren o) n ns = open_is n ns
+levels_is ws (open_call o) n ns = open_is n ns
 levels_is ws (close_struct o) n ns = close_is n ns
 levels_is ws (close_list o) n ns = close_is n ns
 levels_is ws (close_paren o) n ns = close_is n ns

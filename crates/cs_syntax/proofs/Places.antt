@@ -13,17 +13,18 @@ use Rattle.cs_grammar.specs.declared.profile.Profile.{Profile}
 use Rattle.cs_grammar.specs.declared.profile.Profile.TheVariants as profiles
 use Rattle.cs_grammar.specs.declared.token.Sort.TheVariants as sorts
 use Rattle.cs_grammar.specs.Taken.{taken}
-use Rattle.cs_grammar.specs.Cut.{Lexeme, lexeme, comma_if, Cut, blank, new_line, comment, token, finish}
-use Rattle.cs_grammar.specs.Stuck.{Stuck, no_token, too_large, past_blank, past_line, past_comment, past_token}
+use Rattle.cs_grammar.specs.Cut.{Lexeme, lexeme, comma_if, CutIn, blank, new_line, comment, attribute, token, finish}
+use Rattle.cs_grammar.specs.Stuck.{StuckIn, no_token, too_large, past_blank, past_line, past_comment, past_attribute, past_token}
 use Rattle.cs_grammar.specs.Words as W
 use Rattle.std.specs.Prelude.{◌&&◌, ◌||◌, not, cond}
-use Rattle.cs_grammar.specs.Words.{Word, Words, start, name, quoted, definition_name, numeral, top_mark, bottom_mark, open_paren, open_struct, open_wide, open_list, relation, unequal, minus}
+use Rattle.cs_grammar.specs.Words.{Word, Words, start, name, quoted, definition_name, numeral, top_mark, bottom_mark, open_paren, open_call, open_struct, open_wide, open_list, relation, unequal, minus}
 use Rattle.cs_grammar.specs.Tree.{Tree, atom, not_integer, DefinitionTree, FileTree, file}
 use Rattle.cs_grammar.specs.Spells.{is_reserved, is_null, literal_of}
 use Rattle.cs_grammar.specs.TokenWords.{words}
-use Rattle.cs_syntax.specs.Reading.{◌>>=◌, Read, word_kind, begins_with, begins_comma, fault_at, behind_if, after, after_comma, or_fault, beyond, comma_at, close_at, paren_end, expected, signed, number_or, number_at, name_or, null_or, bound_at, unequal_at, integer_at, unbracketed_at, or_more, many, another_field, another_element, opening, opening_if, opening_at, rest_behind, may_end, label_at, mark_if, mark_at, begins_string, string_at, every_key_at, head_if, head_at, field_with, fields_with, struct_if, struct_with, declaration_if, declaration_with, declarations_with, wide_struct_if, wide_struct_with, rest_if, rest_with, end_if, end_with, elements_with, list_if, list_with, operand_with, amps_with, conj_with, branch_if, branch_with, bars_with, expr_with, value_if, begins_field, inner, definition_at, line_at, before_end, definitions_at, is_clause, clause_at, package_if, package_at, whole, file_with, file_at}
+use Rattle.cs_syntax.specs.Reading.{◌>>=◌, Read, word_kind, begins_with, begins_comma, fault_at, behind_if, after, after_comma, or_fault, beyond, comma_at, close_at, paren_end, expected, signed, number_or, number_at, name_or, null_or, bound_at, unequal_at, integer_at, unbracketed_at, or_more, many, another_field, another_element, opening, opening_if, opening_at, rest_behind, may_end, label_at, mark_if, mark_at, begins_string, string_at, every_key_at, head_if, head_at, field_with, fields_with, struct_if, struct_with, declaration_if, declaration_with, declarations_with, wide_struct_if, wide_struct_with, rest_if, rest_with, end_if, end_with, elements_with, list_if, list_with, paren_with, uncalled_with, operand_if, operand_with, begins_shut, amps_with, conj_with, branch_if, branch_with, bars_with, expr_with, value_if, begins_field, inner, definition_at, line_at, before_end, definitions_at, is_clause, clause_at, package_if, package_at, whole, file_with, file_at}
 use Rattle.cs_syntax.specs.Place.{is_left_out, fault_if, Ends, same, past, IsFaultIn}
-use Rattle.cs_lexer.specs.Lexed.{IsRefusal}
+use Rattle.cs_lexer.specs.Lexed.{IsRefusalIn}
+use Rattle.cs_syntax.proofs.Calls.{Shut, is_shut, shut_of}
 use Rattle.cs_syntax.specs.Refusal.{IsFileRefusalIn}
 
 -- ---- the words of a source end with the end
@@ -46,10 +47,11 @@ end_last : (p : Profile) (o : ℕ) → WellEnded (words (taken p (lexeme sorts.E
 end_last profiles.Default o = last
 end_last profiles.Wide o = last
 
-pub cut_ended : (p : Profile) {bs : List ℕ} {o : ℕ} {l : LineState} {ks : List Lexeme} → Cut bs o l ks → WellEnded (words (taken p ks))
+pub cut_ended : (p : Profile) {bs : List ℕ} {o : ℕ} {l : LineState} {ks : List Lexeme} → CutIn p bs o l ks → WellEnded (words (taken p ks))
 cut_ended p (blank h k) = cut_ended p k
 cut_ended p (new_line {o = o} {l = l} {ks = ks} h k) = comma_ended p l o ks (cut_ended p k)
 cut_ended p (comment {o = o} {l = l} {ks = ks} h k) = comma_ended p l o ks (cut_ended p k)
+cut_ended p (attribute h k) = cut_ended p k
 cut_ended p (token h k) = one_before p _ _ (cut_ended p k)
 cut_ended p (finish {o} {l}) = comma_ended p l o _ (end_last p o)
 
@@ -245,6 +247,9 @@ field_skips ts e = behind_goes (λ us. begins_comma us && not (begins_with kinds
 element_skips : (ts : Words) → WellEnded ts → GoesBehind ts (another_element ts)
 element_skips ts e = behind_goes (λ us. begins_with kinds.Comma us && not (begins_with kinds.CloseList (drop 1 us) || begins_with kinds.Dots (drop 1 us))) (λ p. refl) ts e
 
+shut_goes : {ts us : Words} → Shut ts us → WellEnded ts → Ends ts us × WellEnded us
+shut_goes (is_shut h) (before (before e)) = (past (past same), e)
+
 module _ (r : Bool → Read Tree) (h : (b : Bool) → IsGoing (r b)) where
   field_goes : IsGoing (field_with r)
   unfolding field_with
@@ -301,13 +306,26 @@ module _ (r : Bool → Read Tree) (h : (b : Bool) → IsGoing (r b)) where
       by None (Some us) g k = moved ts us (list_if r ts None (Some us)) k.0 (then us (rest_with r us) _ (rest_goes us k.1) (λ x l. (same, l)))
       by None None g k = then ts (r false ts) _ (h false ts e) (λ x l. then x.1 (elements_with r (length x.1) x.1) _ (many_goes another_element element_skips (r false) (h false) (length x.1) x.1 l) (λ es m. then es.1 (end_with r es.1) _ (end_goes es.1 m) (λ b n. (same, n))))
 
+  paren_goes : IsGoing (paren_with r)
+  unfolding paren_with
+  paren_goes ts e = then ts (r false ts) _ (h false ts e) (λ x k. then_to x.1 (paren_end x.1) _ (paren_end_goes x.1 k) (λ us l. (same, l)))
+
+  uncalled_goes : IsGoing (uncalled_with r)
+  unfolding uncalled_with
+  uncalled_goes (open_paren o ∷ ts) (before e) = moved (open_paren o ∷ ts) ts (uncalled_with r (open_paren o ∷ ts)) (past same) (then ts (paren_with r ts) _ (paren_goes ts e) (λ x k. (same, k)))
+  uncalled_goes (open_call o ∷ ts) (before e) = moved (open_call o ∷ ts) ts (uncalled_with r (open_call o ∷ ts)) (past same) (then ts (paren_with r ts) _ (paren_goes ts e) (λ x k. (same, k)))
+  uncalled_goes (open_struct o ∷ ts) (before e) = moved (open_struct o ∷ ts) ts (uncalled_with r (open_struct o ∷ ts)) (past same) (then ts (struct_with r ts) _ (struct_goes ts e) (λ x k. (same, k)))
+  uncalled_goes (open_wide o ∷ ts) (before e) = moved (open_wide o ∷ ts) ts (uncalled_with r (open_wide o ∷ ts)) (past same) (then ts (wide_struct_with r ts) _ (wide_struct_goes ts e) (λ x k. (same, k)))
+  uncalled_goes (open_list o ∷ ts) (before e) = moved (open_list o ∷ ts) ts (uncalled_with r (open_list o ∷ ts)) (past same) (then ts (list_with r ts) _ (list_goes ts e) (λ x k. (same, k)))
+  uncalled_goes ts e = plain_goes ts e
+
   operand_goes : IsGoing (operand_with r)
   unfolding operand_with
-  operand_goes (open_paren o ∷ ts) (before e) = moved (open_paren o ∷ ts) ts (operand_with r (open_paren o ∷ ts)) (past same) (then ts (r false ts) _ (h false ts e) (λ x k. then_to x.1 (paren_end x.1) _ (paren_end_goes x.1 k) (λ us l. (same, l))))
-  operand_goes (open_struct o ∷ ts) (before e) = moved (open_struct o ∷ ts) ts (operand_with r (open_struct o ∷ ts)) (past same) (then ts (struct_with r ts) _ (struct_goes ts e) (λ x k. (same, k)))
-  operand_goes (open_wide o ∷ ts) (before e) = moved (open_wide o ∷ ts) ts (operand_with r (open_wide o ∷ ts)) (past same) (then ts (wide_struct_with r ts) _ (wide_struct_goes ts e) (λ x k. (same, k)))
-  operand_goes (open_list o ∷ ts) (before e) = moved (open_list o ∷ ts) ts (operand_with r (open_list o ∷ ts)) (past same) (then ts (list_with r ts) _ (list_goes ts e) (λ x k. (same, k)))
-  operand_goes ts e = plain_goes ts e
+  operand_goes ts e = by (begins_shut ts) refl
+    where
+      by : (b : Bool) → begins_shut ts ≡ b → Goes ts (operand_if r b ts)
+      by true k = let us = drop 1 (drop 1 ts) in let g = shut_goes (shut_of ts k) e in moved ts us (operand_if r true ts) g.0 (then us (paren_with r us) _ (paren_goes us g.1) (λ x l. (same, l)))
+      by false k = uncalled_goes ts e
 
   conj_goes : IsGoing (conj_with r)
   unfolding conj_with
@@ -396,15 +414,16 @@ is_lexical (faults.NoToken o) = true
 is_lexical (faults.IntegerRange o) = true
 is_lexical _ = false
 
-stuck_lexical : {bs : List ℕ} {o : ℕ} {l : LineState} {f : SyntaxFault} → Stuck bs o l f → is_lexical f ≡ true
-stuck_lexical (no_token h) = refl
+stuck_lexical : {p : Profile} {bs : List ℕ} {o : ℕ} {l : LineState} {f : SyntaxFault} → StuckIn p bs o l f → is_lexical f ≡ true
+stuck_lexical (no_token h i) = refl
 stuck_lexical (too_large h) = refl
 stuck_lexical (past_blank h k) = stuck_lexical k
 stuck_lexical (past_line h k) = stuck_lexical k
 stuck_lexical (past_comment h k) = stuck_lexical k
+stuck_lexical (past_attribute h k) = stuck_lexical k
 stuck_lexical (past_token h k) = stuck_lexical k
 
-pub stuck_refused : (p : Profile) (source : List ℕ) (f : SyntaxFault) → IsRefusal source f → IsFileRefusalIn p source f
+pub stuck_refused : (p : Profile) (source : List ℕ) (f : SyntaxFault) → IsRefusalIn p source f → IsFileRefusalIn p source f
 stuck_refused p source faults.OutOfMemory h = tt
 stuck_refused p source (faults.NoToken o) h = h
 stuck_refused p source (faults.IntegerRange o) h = h

@@ -15,7 +15,7 @@ use Rattle.cs_grammar.specs.Spelling.{is_letter, is_digit, is_name_byte, is_inte
 use Rattle.cs_grammar.specs.declared.profile.Profile.{Profile}
 use Rattle.cs_grammar.specs.declared.profile.Profile.TheVariants as profiles
 use Rattle.cs_grammar.specs.Taken.{wide_sort, taken}
-use Rattle.cs_grammar.specs.Cut.{Lexeme, lexeme, comma_if, Cut, blank, new_line, comment, token, finish}
+use Rattle.cs_grammar.specs.Cut.{Lexeme, lexeme, comma_if, CutIn, blank, new_line, comment, attribute, token, finish}
 use Rattle.cs_grammar.specs.View.{lexemes_view}
 use Rattle.cs_grammar.specs.TokenWords.{mark_kind, wide_kind, kind_of}
 use Rattle.cs_lexer.specs.Quoted.{begins_quote, is_quoted, are_quoted}
@@ -77,10 +77,11 @@ comma_quoted Plain o ks h = h
 comma_quoted WantsComma o ks h = h
 comma_quoted Minus o ks h = h
 
-pub cut_quoted : {bs : List ℕ} {o : ℕ} {l : LineState} {ks : List Lexeme} → Cut bs o l ks → are_quoted ks ≡ true
+pub cut_quoted : {p : Profile} {bs : List ℕ} {o : ℕ} {l : LineState} {ks : List Lexeme} → CutIn p bs o l ks → are_quoted ks ≡ true
 cut_quoted (blank h k) = cut_quoted k
 cut_quoted (new_line {l} h k) = comma_quoted l _ _ (cut_quoted k)
 cut_quoted (comment {l} h k) = comma_quoted l _ _ (cut_quoted k)
+cut_quoted (attribute h k) = cut_quoted k
 cut_quoted (token h k) = rw (sort_quoted _ _ h.token.spelled, cut_quoted k) refl
 cut_quoted (finish {l}) = comma_quoted l _ _ refl
 
@@ -91,11 +92,12 @@ wide_quoted sorts.LeftOut t h = by (bytes_eq t (codes "*"))
     by : (b : Bool) → is_quoted (cond b sorts.Mark sorts.LeftOut) t ≡ true
     by true = refl
     by false = refl
-wide_quoted sorts.Mark t h = by (bytes_eq t (codes "{"))
+wide_quoted sorts.Mark t h = by (bytes_eq t (codes "{")) (bytes_eq t (codes "("))
   where
-    by : (b : Bool) → is_quoted (cond b sorts.Wide sorts.Mark) t ≡ true
-    by true = refl
-    by false = refl
+    by : (a b : Bool) → is_quoted (cond a sorts.Wide (cond b sorts.Wide sorts.Mark)) t ≡ true
+    by true b = refl
+    by false true = refl
+    by false false = refl
 wide_quoted s t h = h
 
 pub taken_quoted : (p : Profile) (ks : List Lexeme) → are_quoted ks ≡ true → are_quoted (taken p ks) ≡ true
@@ -143,7 +145,7 @@ mark_no_text t =
     record { is = refl }))))))))))))))))))))
 
 wide_no_text : (t : List ℕ) → OtherKind (wide_kind t)
-wide_no_text t = unless (bytes_eq t (codes "{")) kinds.OpenWide refl (record { is = refl })
+wide_no_text t = unless (bytes_eq t (codes "{")) kinds.OpenWide refl (unless (bytes_eq t (codes "(")) kinds.OpenCall refl (record { is = refl }))
 
 text_quoted : (s : Sort) (t : List ℕ) → kind_of s t ≡ kinds.Text → is_quoted s t ≡ true → begins_quote t ≡ true
 text_quoted sorts.Text t k h = h

@@ -8,11 +8,12 @@ use Rattle.cs_grammar.specs.declared.kind.Kind.TheVariants as kinds
 use Rattle.cs_grammar.specs.declared.ast.FieldMark.{FieldMark}
 use Rattle.cs_grammar.specs.declared.ast.FieldMark.TheVariants.{Every}
 use Rattle.cs_grammar.specs.Atom as atoms
-use Rattle.cs_grammar.specs.Words.{Words, name, quoted, definition_name, top_mark, bottom_mark, numeral, open_paren, open_struct, open_wide, open_list, close_paren, close_struct, close_list, comma, nl, colon, question, bang, amp, bar, dots, relation, unequal, minus, star, finish}
-use Rattle.cs_grammar.specs.Tree.{Label, Tree, atom, not_integer, End, DefinitionTree, FileTree, file}
+use Rattle.cs_grammar.specs.Words.{Words, name, quoted, definition_name, top_mark, bottom_mark, numeral, open_paren, open_call, open_struct, open_wide, open_list, close_paren, close_struct, close_list, comma, nl, colon, question, bang, amp, bar, dots, relation, unequal, minus, star, finish}
+use Rattle.cs_grammar.specs.Tree.{Label, Tree, atom, wide, shut, not_integer, End, DefinitionTree, FileTree, file}
 use Rattle.cs_grammar.specs.View.{trees_of, fields_of, Seen, declarations_of, SeenDeclaration, field_seen, embedding_seen}
-use Rattle.cs_grammar.specs.Spells.{is_reserved, is_null, is_package, is_string, every_label, start_at, literal_of, Comma, explicit, inserted, ClosesParen, paren_here, paren_after, ClosesList, list_here, list_after, ClosesStruct, struct_here, struct_after, SpellsNumber, positive, negative, SpellsBound, limit_is, other_number, other_text, other_null, SpellsLabel, bare_label, quoted_label, SpellsMark, regular, optional, required, SpellsOpening, unopened, opened, SpellsValue, long, short, SpellsField, labelled, every_key, SpellsExpr, one_branch, disjunction_is, SpellsBars, no_bar, a_bar, SpellsBranch, unmarked, marked_is, SpellsConj, one_operand, conjunction_is, SpellsAmps, no_amp, an_amp, SpellsOperand, top_is, bottom_is, reference_is, name_is, number_is, text_is, bound_is, paren_is, struct_is, list_is, wide_struct_is, SpellsWideStruct, no_declarations, wide_dots_alone, some_declarations, SpellsDeclarations, a_field, an_embedding, SpellsMore, no_more, next_declaration, SpellsStruct, no_fields, dots_alone, fields, SpellsFields, no_more_fields, next_field, SpellsList, no_elements, rest_alone, elements, SpellsElements, no_more_elements, next_element, SpellsEnd, closed_is, rest_is, SpellsRest, any_is, each_is, SpellsDefinition, defined, SpellsDefinitions, no_definition, next_definition, SpellsPackage, no_clause, clause, SpellsFile, spelled}
-use Rattle.cs_syntax.specs.Reading.{◌>>=◌, Read, expected, begins_with, behind_if, begins_comma, comma_at, close_at, paren_end, another_field, another_element, opening, opening_if, opening_at, rest_behind, may_end, signed, number_or, number_at, name_or, null_or, bound_at, unequal_at, integer_at, unbracketed_at, or_fault, or_more, many, label_at, mark_at, string_at, every_key_at, head_at, field_with, fields_with, struct_with, declaration_if, declaration_with, declarations_with, wide_struct_with, rest_if, rest_with, end_if, end_with, elements_with, list_with, operand_with, amps_with, conjunction_of, conj_with, branch_with, bars_with, disjunction_of, expr_with, value_if, begins_field, inner, definition_at, line_at, before_end, definitions_at, clause_at, package_if, package_at, whole, file_with, file_at}
+use Rattle.cs_grammar.specs.Spells.{is_reserved, is_null, is_package, is_string, every_label, start_at, literal_of, Comma, explicit, inserted, ClosesParen, paren_here, paren_after, ClosesList, list_here, list_after, ClosesStruct, struct_here, struct_after, SpellsNumber, positive, negative, SpellsBound, limit_is, other_number, other_text, other_null, SpellsLabel, bare_label, quoted_label, SpellsMark, regular, optional, required, SpellsOpening, unopened, opened, SpellsValue, long, short, SpellsField, labelled, every_key, SpellsExpr, one_branch, disjunction_is, SpellsBars, no_bar, a_bar, SpellsBranch, unmarked, marked_is, SpellsConj, one_operand, conjunction_is, SpellsAmps, no_amp, an_amp, SpellsOperand, top_is, bottom_is, reference_is, name_is, number_is, text_is, bound_is, paren_is, struct_is, list_is, call_paren_is, shut_is, wide_struct_is, SpellsWideStruct, no_declarations, wide_dots_alone, some_declarations, SpellsDeclarations, a_field, an_embedding, SpellsMore, no_more, next_declaration, SpellsStruct, no_fields, dots_alone, fields, SpellsFields, no_more_fields, next_field, SpellsList, no_elements, rest_alone, elements, SpellsElements, no_more_elements, next_element, SpellsEnd, closed_is, rest_is, SpellsRest, any_is, each_is, SpellsDefinition, defined, SpellsDefinitions, no_definition, next_definition, SpellsPackage, no_clause, clause, SpellsFile, spelled}
+use Rattle.cs_syntax.specs.Reading.{◌>>=◌, Read, expected, begins_with, behind_if, begins_comma, comma_at, close_at, paren_end, another_field, another_element, opening, opening_if, opening_at, rest_behind, may_end, signed, number_or, number_at, name_or, null_or, bound_at, unequal_at, integer_at, unbracketed_at, or_fault, or_more, many, label_at, mark_at, string_at, every_key_at, head_at, field_with, fields_with, struct_with, declaration_if, declaration_with, declarations_with, wide_struct_with, rest_if, rest_with, end_if, end_with, elements_with, list_with, paren_with, uncalled_with, operand_if, operand_with, begins_shut, amps_with, conjunction_of, conj_with, branch_with, bars_with, disjunction_of, expr_with, value_if, begins_field, inner, definition_at, line_at, before_end, definitions_at, clause_at, package_if, package_at, whole, file_with, file_at}
+use Rattle.cs_syntax.proofs.Calls.{Shut, is_shut, shut_of}
 
 -- P of what was read and of what is left
 abbrev IfRead : {A : Type 0} → (A → Words → Type 0) → Result (A × Words) SyntaxFault → Type 0
@@ -272,6 +273,15 @@ record IsSound (r : Bool → Read Tree) : Type 0 where
   values : (ts : Words) → IfRead (λ e us. SpellsValue e ts us) (r true ts)
   exprs : (ts : Words) → IfRead (λ e us. SpellsExpr e ts us) (r false ts)
 
+-- what is in a parenthesis, behind its bracket
+record InParen (ts : Words) (e : Tree) (us : Words) : Type 0 where
+  behind : Words
+  spelled : SpellsExpr e ts behind
+  closes : ClosesParen behind us
+
+shut_made : {ts us vs : Words} {e : Tree} → Shut ts us → InParen us e vs → SpellsOperand (wide (shut (start_at ts) e)) ts vs
+shut_made (is_shut h) s = shut_is h s.spelled s.closes
+
 abbrev FieldOf : Words → Seen → Words → Type 0
 FieldOf ts f us = SpellsField f.label f.mark f.value ts us
 
@@ -402,13 +412,26 @@ module _ (r : Bool → Read Tree) (h : IsSound r) where
   list_of (relation atoms.less p ∷ ts) = first_element_of (relation atoms.less p ∷ ts)
   list_of ts = first_element_of ts
 
+  paren_of : (ts : Words) → IfRead (InParen ts) (paren_with r ts)
+  unfolding paren_with
+  paren_of ts = if_bind (λ e us. SpellsExpr e ts us) (InParen ts) (r false ts) _ (h.exprs ts) (λ e us s. if_left (ClosesParen us) (InParen ts) (paren_end us) _ (closes_paren_of us) (λ vs c. record { behind = us; spelled = s; closes = c }))
+
+  uncalled_of : (ts : Words) → IfRead (λ e us. SpellsOperand e ts us) (uncalled_with r ts)
+  unfolding uncalled_with
+  uncalled_of (open_paren p ∷ ts) = if_bind (InParen ts) (λ e us. SpellsOperand e (open_paren p ∷ ts) us) (paren_with r ts) _ (paren_of ts) (λ e us s. paren_is s.spelled s.closes)
+  uncalled_of (open_call p ∷ ts) = if_bind (InParen ts) (λ e us. SpellsOperand e (open_call p ∷ ts) us) (paren_with r ts) _ (paren_of ts) (λ e us s. call_paren_is s.spelled s.closes)
+  uncalled_of (open_struct p ∷ ts) = if_bind (StructOf ts) (λ e us. SpellsOperand e (open_struct p ∷ ts) us) (struct_with r ts) _ (struct_of ts) (λ x us s. struct_is s)
+  uncalled_of (open_wide p ∷ ts) = if_bind (WideStructOf ts) (λ e us. SpellsOperand e (open_wide p ∷ ts) us) (wide_struct_with r ts) _ (wide_struct_of ts) (λ x us s. wide_struct_is refl s)
+  uncalled_of (open_list p ∷ ts) = if_bind (ListOf ts) (λ e us. SpellsOperand e (open_list p ∷ ts) us) (list_with r ts) _ (list_of ts) (λ x us s. list_is s)
+  uncalled_of ts = plain_of ts
+
   operand_of : (ts : Words) → IfRead (λ e us. SpellsOperand e ts us) (operand_with r ts)
   unfolding operand_with
-  operand_of (open_paren p ∷ ts) = if_bind (λ e us. SpellsExpr e ts us) (λ e us. SpellsOperand e (open_paren p ∷ ts) us) (r false ts) _ (h.exprs ts) (λ e us s. if_left (ClosesParen us) (λ e us. SpellsOperand e (open_paren p ∷ ts) us) (paren_end us) _ (closes_paren_of us) (λ vs c. paren_is s c))
-  operand_of (open_struct p ∷ ts) = if_bind (StructOf ts) (λ e us. SpellsOperand e (open_struct p ∷ ts) us) (struct_with r ts) _ (struct_of ts) (λ x us s. struct_is s)
-  operand_of (open_wide p ∷ ts) = if_bind (WideStructOf ts) (λ e us. SpellsOperand e (open_wide p ∷ ts) us) (wide_struct_with r ts) _ (wide_struct_of ts) (λ x us s. wide_struct_is refl s)
-  operand_of (open_list p ∷ ts) = if_bind (ListOf ts) (λ e us. SpellsOperand e (open_list p ∷ ts) us) (list_with r ts) _ (list_of ts) (λ x us s. list_is s)
-  operand_of ts = plain_of ts
+  operand_of ts = by (begins_shut ts) refl
+    where
+      by : (b : Bool) → begins_shut ts ≡ b → IfRead (λ e us. SpellsOperand e ts us) (operand_if r b ts)
+      by true k = if_bind (InParen (drop 1 (drop 1 ts))) (λ e us. SpellsOperand e ts us) (paren_with r (drop 1 (drop 1 ts))) _ (paren_of (drop 1 (drop 1 ts))) (λ e us s. shut_made (shut_of ts k) s)
+      by false k = uncalled_of ts
 
   abbrev AmpsOf : Words → List Tree → Words → Type 0
   AmpsOf ts es us = SpellsAmps (trees_of es) ts us

@@ -1,5 +1,6 @@
 -- The words of a source of the default profile, as the wide one takes them: they spell the same file and nest as deep.
 use Rattle.std.proofs.Common.{◌≡◌, ℕ, ℤ, max, Bool, true, false, ◌||◌, cond, List, [], ◌∷◌, map, Option, Some, refl, sym, ap, ap₂, ◌∙◌}
+use Rattle.std.proofs.lemmas.Slice.Eq.{bytes_eq-Decides}
 use Rattle.std.specs.Prelude.{codes}
 use Rattle.std.specs.Str.{bytes_eq}
 use Rattle.cs_grammar.specs.declared.ast.FieldMark.{FieldMark}
@@ -7,16 +8,17 @@ use Rattle.cs_grammar.specs.declared.kind.Kind.{Kind}
 use Rattle.cs_grammar.specs.declared.kind.Kind.TheVariants as kinds
 use Rattle.cs_grammar.specs.declared.token.Sort.TheVariants as sorts
 use Rattle.cs_grammar.specs.Cut.{Lexeme, lexeme}
-use Rattle.cs_grammar.specs.Spells.{start_at, fields_alone, literal, Comma, explicit, inserted, ClosesParen, paren_here, paren_after, ClosesList, list_here, list_after, ClosesStruct, struct_here, struct_after, SpellsNumber, positive, negative, SpellsBound, limit_is, other_number, other_text, other_null, SpellsLabel, bare_label, quoted_label, SpellsMark, regular, optional, required, SpellsOpening, unopened, opened, SpellsValue, long, short, SpellsField, labelled, every_key, SpellsExpr, one_branch, disjunction_is, SpellsBars, no_bar, a_bar, SpellsBranch, unmarked, marked_is, SpellsConj, one_operand, conjunction_is, SpellsAmps, no_amp, an_amp, SpellsOperand, top_is, bottom_is, reference_is, name_is, number_is, text_is, bound_is, paren_is, struct_is, list_is, wide_struct_is, SpellsWideStruct, no_declarations, wide_dots_alone, some_declarations, SpellsDeclarations, a_field, an_embedding, SpellsMore, no_more, next_declaration, SpellsStruct, no_fields, dots_alone, fields, SpellsFields, no_more_fields, next_field, SpellsList, no_elements, rest_alone, elements, SpellsElements, no_more_elements, next_element, SpellsEnd, closed_is, rest_is, SpellsRest, any_is, each_is, SpellsDefinition, defined, SpellsDefinitions, no_definition, next_definition, SpellsPackage, no_clause, clause, SpellsFile, spelled}
+use Rattle.cs_grammar.specs.Spells.{start_at, fields_alone, literal, Comma, explicit, inserted, ClosesParen, paren_here, paren_after, ClosesList, list_here, list_after, ClosesStruct, struct_here, struct_after, SpellsNumber, positive, negative, SpellsBound, limit_is, other_number, other_text, other_null, SpellsLabel, bare_label, quoted_label, SpellsMark, regular, optional, required, SpellsOpening, unopened, opened, SpellsValue, long, short, SpellsField, labelled, every_key, SpellsExpr, one_branch, disjunction_is, SpellsBars, no_bar, a_bar, SpellsBranch, unmarked, marked_is, SpellsConj, one_operand, conjunction_is, SpellsAmps, no_amp, an_amp, SpellsOperand, top_is, bottom_is, reference_is, name_is, number_is, text_is, bound_is, paren_is, struct_is, list_is, call_paren_is, shut_is, wide_struct_is, SpellsWideStruct, no_declarations, wide_dots_alone, some_declarations, SpellsDeclarations, a_field, an_embedding, SpellsMore, no_more, next_declaration, SpellsStruct, no_fields, dots_alone, fields, SpellsFields, no_more_fields, next_field, SpellsList, no_elements, rest_alone, elements, SpellsElements, no_more_elements, next_element, SpellsEnd, closed_is, rest_is, SpellsRest, any_is, each_is, SpellsDefinition, defined, SpellsDefinitions, no_definition, next_definition, SpellsPackage, no_clause, clause, SpellsFile, spelled}
 use Rattle.cs_grammar.specs.Taken.{wide_lexeme}
 use Rattle.cs_grammar.specs.TokenWords.{mark_kind, word_of, word}
 use Rattle.cs_grammar.specs.Tree.{Label, Tree, struct, Trees, Fields, no_field, field, Declarations, no_declaration, declared, End, DefinitionTree, FileTree}
-use Rattle.cs_grammar.specs.Words.{Word, Words, name, quoted, open_struct, open_wide, open_list, close_list, colon, question, bang, left_out}
+use Rattle.cs_grammar.specs.Words.{Word, Words, name, quoted, open_struct, open_wide, open_paren, open_call, open_list, close_list, colon, question, bang, left_out}
 use Rattle.cs_syntax.specs.Nesting.{OpenLevels, ends_with_chained_label, ends_with_chained_string, is_short, counted_if, behind, nesting_at, nesting_from, nesting}
 
 -- a word as the wide profile takes it
 abbrev pub widened : Word → Word
 widened (open_struct o) = open_wide o
+widened (open_paren o) = open_call o
 widened w = w
 
 abbrev pub all_widened : Words → Words
@@ -25,6 +27,7 @@ all_widened ts = map widened ts
 start_same : (ts : Words) → start_at (all_widened ts) ≡ start_at ts
 start_same [] = refl
 start_same (open_struct o ∷ ts) = refl
+start_same (open_paren o ∷ ts) = refl
 start_same (w ∷ ts) = refl
 
 -- ---- fields as declarations
@@ -120,7 +123,9 @@ mutual
   wide_operand (number_is n) = number_is (wide_number n)
   wide_operand text_is = text_is
   wide_operand (bound_is b) = bound_is (wide_bound b)
-  wide_operand (paren_is e c) = paren_is (wide_expr e) (wide_paren_end c)
+  wide_operand (paren_is e c) = call_paren_is (wide_expr e) (wide_paren_end c)
+  wide_operand (call_paren_is e c) = call_paren_is (wide_expr e) (wide_paren_end c)
+  wide_operand (shut_is s e c) = shut_is s (wide_expr e) (wide_paren_end c)
   wide_operand (struct_is {p} {fs} {b} s) = wide_struct_is (literal_from p fs b) (wide_struct s)
   wide_operand (list_is s) = list_is (wide_list s)
   wide_operand (wide_struct_is e s) = wide_struct_is e (wide_wide_struct s)
@@ -189,6 +194,9 @@ label_same (quoted s o ∷ colon p ∷ ws) = refl
 label_same (name s o ∷ open_struct p ∷ ws) = refl
 label_same (quoted s o ∷ open_struct p ∷ ws) = refl
 label_same (open_struct o ∷ ws) = refl
+label_same (name s o ∷ open_paren p ∷ ws) = refl
+label_same (quoted s o ∷ open_paren p ∷ ws) = refl
+label_same (open_paren o ∷ ws) = refl
 label_same ws = refl
 
 string_same : (ws : Words) → ends_with_chained_string (all_widened ws) ≡ ends_with_chained_string ws
@@ -197,6 +205,10 @@ string_same (close_list o ∷ name s p ∷ open_list q ∷ open_struct r ∷ ws)
 string_same (close_list o ∷ name s p ∷ open_struct q ∷ ws) = refl
 string_same (close_list o ∷ open_struct p ∷ ws) = refl
 string_same (open_struct o ∷ ws) = refl
+string_same (close_list o ∷ name s p ∷ open_list q ∷ open_paren r ∷ ws) = refl
+string_same (close_list o ∷ name s p ∷ open_paren q ∷ ws) = refl
+string_same (close_list o ∷ open_paren p ∷ ws) = refl
+string_same (open_paren o ∷ ws) = refl
 string_same ws = refl
 
 short_same : (ws : Words) → is_short (all_widened ws) ≡ is_short ws
@@ -204,11 +216,13 @@ short_same (question o ∷ ws) = label_same ws
 short_same (bang o ∷ ws) = label_same ws
 short_same [] = refl
 short_same (open_struct o ∷ ws) = refl
+short_same (open_paren o ∷ ws) = refl
 short_same (w ∷ ws) = ap₂ (λ a b. a || b) (label_same (w ∷ ws)) (string_same (w ∷ ws))
 
 behind_same : (ws : Words) (w : Word) (ns : OpenLevels) → behind (all_widened ws) (widened w) ns ≡ behind ws w ns
 behind_same ws (colon o) ns = ap (λ b. counted_if b ns) (short_same ws)
 behind_same ws (open_struct o) ns = refl
+behind_same ws (open_paren o) ns = refl
 behind_same ws w ns = refl
 
 nesting_from_same : (ws : Words) (ns : OpenLevels) (ts : Words) → nesting_from (all_widened ws) ns (all_widened ts) ≡ nesting_from ws ns ts
@@ -223,6 +237,7 @@ nesting_widened ts = nesting_from_same [] (0 ∷ []) ts
 
 abbrev opens : Kind → Bool
 opens kinds.OpenStruct = true
+opens kinds.OpenParen = true
 opens _ = false
 
 record Other (k : Kind) : Type 0 where
@@ -232,13 +247,12 @@ unless : (b : Bool) (k : Kind) {l : Kind} → opens k ≡ false → Other l → 
 unless true k h i = record { is = h }
 unless false k h i = i
 
--- a mark other than `{`
-mark_other : (t : List ℕ) → bytes_eq t (codes "{") ≡ false → Other (mark_kind t)
-mark_other t h = rw h (
+-- a mark other than `{` and `(`
+mark_other : (t : List ℕ) → bytes_eq t (codes "{") ≡ false → bytes_eq t (codes "(") ≡ false → Other (mark_kind t)
+mark_other t h j = rw (h, j) (
     unless (bytes_eq t (codes "}")) kinds.CloseStruct refl (
     unless (bytes_eq t (codes "[")) kinds.OpenList refl (
     unless (bytes_eq t (codes "]")) kinds.CloseList refl (
-    unless (bytes_eq t (codes "(")) kinds.OpenParen refl (
     unless (bytes_eq t (codes ")")) kinds.CloseParen refl (
     unless (bytes_eq t (codes ",")) kinds.Comma refl (
     unless (bytes_eq t (codes ":")) kinds.Colon refl (
@@ -254,18 +268,20 @@ mark_other t h = rw h (
     unless (bytes_eq t (codes "!=")) kinds.Unequal refl (
     unless (bytes_eq t (codes "-")) kinds.Minus refl (
     unless (bytes_eq t (codes "*")) kinds.Star refl (
-    record { is = refl }))))))))))))))))))))
+    record { is = refl })))))))))))))))))))
 
 word_same : (k : Kind) (t : List ℕ) (o : ℕ) → opens k ≡ false → word_of k t o ≡ widened (word_of k t o)
 word_same kinds.OpenStruct t o h = absurd cc
+word_same kinds.OpenParen t o h = absurd cc
 word_same k t o h = refl
 
 mark_widened : (t : List ℕ) (o : ℕ) → word (wide_lexeme (lexeme sorts.Mark t o)) ≡ widened (word (lexeme sorts.Mark t o))
-mark_widened t o = by (bytes_eq t (codes "{")) refl
+mark_widened t o = by (bytes_eq t (codes "{")) (bytes_eq t (codes "(")) refl refl
   where
-    by : (b : Bool) → bytes_eq t (codes "{") ≡ b → word (lexeme (cond b sorts.Wide sorts.Mark) t o) ≡ widened (word (lexeme sorts.Mark t o))
-    by true e = rw e refl
-    by false e = word_same (mark_kind t) t o (mark_other t e).is
+    by : (a b : Bool) → bytes_eq t (codes "{") ≡ a → bytes_eq t (codes "(") ≡ b → word (lexeme (cond a sorts.Wide (cond b sorts.Wide sorts.Mark)) t o) ≡ widened (word (lexeme sorts.Mark t o))
+    by true b e f = rw e refl
+    by false true e f = let same : t ≡ codes "(" = (bytes_eq-Decides t (codes "(")).0 f in rw same refl
+    by false false e f = word_same (mark_kind t) t o (mark_other t e f).is
 
 -- a word of a form that is left out
 abbrev pub is_left_out : Word → Bool
@@ -275,9 +291,10 @@ is_left_out _ = false
 pub lexeme_widened : (k : Lexeme) → is_left_out (word k) ≡ false → word (wide_lexeme k) ≡ widened (word k)
 lexeme_widened (lexeme sorts.LeftOut t o) h = let never : true ≡ false = h in absurd cc
 lexeme_widened (lexeme sorts.Mark t o) h = mark_widened t o
-lexeme_widened (lexeme sorts.Wide t o) h = by (bytes_eq t (codes "{"))
+lexeme_widened (lexeme sorts.Wide t o) h = by (bytes_eq t (codes "{")) (bytes_eq t (codes "("))
   where
-    by : (b : Bool) → word_of (cond b kinds.OpenWide kinds.LeftOut) t o ≡ widened (word_of (cond b kinds.OpenWide kinds.LeftOut) t o)
-    by true = refl
-    by false = refl
+    by : (a b : Bool) → word_of (cond a kinds.OpenWide (cond b kinds.OpenCall kinds.LeftOut)) t o ≡ widened (word_of (cond a kinds.OpenWide (cond b kinds.OpenCall kinds.LeftOut)) t o)
+    by true b = refl
+    by false true = refl
+    by false false = refl
 lexeme_widened (lexeme s t o) h = refl

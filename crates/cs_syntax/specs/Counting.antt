@@ -48,6 +48,7 @@ levels_next b kinds.OpenStruct l = level_opened l
 levels_next b kinds.OpenWide l = level_opened l
 levels_next b kinds.OpenList l = level_opened l
 levels_next b kinds.OpenParen l = level_opened l
+levels_next b kinds.OpenCall l = level_opened l
 levels_next b kinds.CloseStruct l = level_closed l l.outer
 levels_next b kinds.CloseList l = level_closed l l.outer
 levels_next b kinds.CloseParen l = level_closed l l.outer

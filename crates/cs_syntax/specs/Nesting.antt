@@ -1,7 +1,7 @@
 -- How deep words nest, whatever they spell (own rule): at a word, the brackets that are open, and on each open level the short colons since that level's last comma.
 use Rattle.std.specs.Prelude.{ℕ, suc, ◌+◌, ◌-◌, max, Bool, true, false, ◌||◌, List, [], ◌∷◌, length}
 use Rattle.std.specs.List.{sum}
-use Rattle.cs_grammar.specs.Words.{Word, Words, name, definition_name, hidden, top_mark, bottom_mark, numeral, quoted, open_struct, open_wide, close_struct, open_list, close_list, open_paren, close_paren, comma, nl, colon, question, bang, amp, bar, dots, relation, unequal, minus, star, left_out, finish}
+use Rattle.cs_grammar.specs.Words.{Word, Words, name, definition_name, hidden, top_mark, bottom_mark, numeral, quoted, open_struct, open_wide, close_struct, open_list, close_list, open_paren, open_call, close_paren, comma, nl, colon, question, bang, amp, bar, dots, relation, unequal, minus, star, left_out, finish}
 use Rattle.cs_grammar.specs.Spells.{is_string}
 
 -- These words, the newest first, end with a name or a text that is directly behind a colon.
@@ -49,6 +49,7 @@ behind before (open_struct o) ns = 0 ∷ ns
 behind before (open_wide o) ns = 0 ∷ ns
 behind before (open_list o) ns = 0 ∷ ns
 behind before (open_paren o) ns = 0 ∷ ns
+behind before (open_call o) ns = 0 ∷ ns
 behind before (close_struct o) ns = closed ns
 behind before (close_list o) ns = closed ns
 behind before (close_paren o) ns = closed ns

@@ -9,12 +9,12 @@ use Rattle.cs_grammar.specs.Atom as atoms
 use Rattle.cs_grammar.specs.Atom.{Relation, top, bottom, integer, text, bound, not_integer, not_text, not_null}
 use Rattle.cs_grammar.specs.declared.fault.SyntaxFault.{SyntaxFault}
 use Rattle.cs_grammar.specs.declared.fault.SyntaxFault.TheVariants as faults
-use Rattle.cs_grammar.specs.Words.{Word, Words, name, definition_name, hidden, top_mark, bottom_mark, numeral, quoted, open_struct, open_wide, close_struct, open_list, close_list, open_paren, close_paren, comma, nl, colon, question, bang, amp, bar, dots, relation, unequal, minus, star, left_out, finish}
+use Rattle.cs_grammar.specs.Words.{Word, Words, name, definition_name, hidden, top_mark, bottom_mark, numeral, quoted, open_struct, open_wide, close_struct, open_list, close_list, open_paren, open_call, close_paren, comma, nl, colon, question, bang, amp, bar, dots, relation, unequal, minus, star, left_out, finish}
 use Rattle.cs_grammar.specs.declared.ast.FieldMark.{FieldMark}
 use Rattle.cs_grammar.specs.declared.ast.FieldMark.TheVariants.{Regular, Optional, Required, Every}
-use Rattle.cs_grammar.specs.Tree.{Label, Tree, atom, named, reference, conjunction, disjunction, paren, struct, list, wide, marked, End, closed, any, each, DefinitionTree, definition, FileTree, file}
+use Rattle.cs_grammar.specs.Tree.{Label, Tree, atom, named, reference, conjunction, disjunction, paren, struct, list, wide, marked, shut, End, closed, any, each, DefinitionTree, definition, FileTree, file}
 use Rattle.cs_grammar.specs.View.{trees_of, fields_of, Seen, declarations_of, SeenDeclaration, field_seen, embedding_seen}
-use Rattle.cs_grammar.specs.Spells.{is_reserved, is_null, is_package, is_string, every_label, literal_of, literal, start_at}
+use Rattle.cs_grammar.specs.Spells.{is_reserved, is_null, is_package, is_string, is_close, every_label, literal_of, literal, start_at}
 use Rattle.cs_syntax.specs.Place.{fault_of}
 use Rattle.cs_syntax.specs.Nesting.{most_nested}
 
@@ -58,6 +58,7 @@ word_kind (close_struct o) = kinds.CloseStruct
 word_kind (open_list o) = kinds.OpenList
 word_kind (close_list o) = kinds.CloseList
 word_kind (open_paren o) = kinds.OpenParen
+word_kind (open_call o) = kinds.OpenCall
 word_kind (close_paren o) = kinds.CloseParen
 word_kind (comma o) = kinds.Comma
 word_kind (nl o) = kinds.Inserted
@@ -168,6 +169,19 @@ begins_field (name s p ∷ ts) = is_reserved s || goes_on_label ts
 begins_field (quoted s p ∷ ts) = goes_on_label ts
 begins_field (open_list p ∷ ts) = goes_on_bracket ts
 begins_field ts = false
+
+-- the name `close`
+abbrev pub names_close : Word → Bool
+names_close (name s p) = is_close s
+names_close w = false
+
+abbrev pub begins_close : Words → Bool
+begins_close [] = false
+begins_close (w ∷ ts) = names_close w
+
+-- `close` and its parenthesis
+abbrev pub begins_shut : Words → Bool
+begins_shut ts = begins_close ts && begins_with kinds.OpenCall (drop 1 ts)
 
 -- behind a comma: another field, another element, or `...`
 abbrev pub another_field : Words → Option Words
@@ -410,21 +424,40 @@ list_with r ts = list_if r ts (after kinds.CloseList ts) (after kinds.Dots ts)
 
 -- ---- expressions
 
-unfoldable pub operand_with : (Bool → Read Tree) → Read Tree
-operand_with r (open_paren p ∷ ts) = do
+-- what is behind the bracket of a parenthesis
+unfoldable pub paren_with : (Bool → Read Tree) → Read Tree
+paren_with r ts = do
   e ← r false ts
   us ← paren_end e.1
-  Ok (paren e.0, us)
-operand_with r (open_struct p ∷ ts) = do
+  Ok (e.0, us)
+
+-- an operand without `close`
+unfoldable pub uncalled_with : (Bool → Read Tree) → Read Tree
+uncalled_with r (open_paren p ∷ ts) = do
+  x ← paren_with r ts
+  Ok (paren x.0, x.1)
+uncalled_with r (open_call p ∷ ts) = do
+  x ← paren_with r ts
+  Ok (paren x.0, x.1)
+uncalled_with r (open_struct p ∷ ts) = do
   x ← struct_with r ts
   Ok (struct p (fields_of x.0.0) x.0.1, x.1)
-operand_with r (open_wide p ∷ ts) = do
+uncalled_with r (open_wide p ∷ ts) = do
   x ← wide_struct_with r ts
   Ok (literal p (declarations_of x.0.0) x.0.1, x.1)
-operand_with r (open_list p ∷ ts) = do
+uncalled_with r (open_list p ∷ ts) = do
   x ← list_with r ts
   Ok (list (trees_of x.0.0) x.0.1, x.1)
-operand_with r ts = unbracketed_at ts
+uncalled_with r ts = unbracketed_at ts
+
+abbrev pub operand_if : (Bool → Read Tree) → Bool → Read Tree
+operand_if r true ts = do
+  x ← paren_with r (drop 1 (drop 1 ts))
+  Ok (wide (shut (start_at ts) x.0), x.1)
+operand_if r false ts = uncalled_with r ts
+
+unfoldable pub operand_with : (Bool → Read Tree) → Read Tree
+operand_with r ts = operand_if r (begins_shut ts) ts
 
 -- { `&` Operand }
 abbrev pub amps_with : (Bool → Read Tree) → ℕ → Read (List Tree)

@@ -2,8 +2,8 @@
 use Rattle.std.specs.Prelude.{◌⊎◌, ℕ, ◌<◌, ◌≤◌, List}
 use Rattle.cs_grammar.specs.declared.fault.SyntaxFault.{SyntaxFault}
 use Rattle.cs_grammar.specs.declared.fault.SyntaxFault.TheVariants as faults
-use Rattle.cs_grammar.specs.Cut.{Lexeme, IsCut}
-use Rattle.cs_grammar.specs.Stuck.{IsStuck}
+use Rattle.cs_grammar.specs.Cut.{Lexeme, IsCutIn}
+use Rattle.cs_grammar.specs.Stuck.{IsStuckIn}
 use Rattle.cs_grammar.specs.Tree.{FileTree}
 use Rattle.cs_grammar.specs.Spells.{SpellsFile}
 use Rattle.cs_grammar.specs.Taken.{taken}
@@ -18,7 +18,7 @@ use Rattle.cs_syntax.specs.Place.{IsFaultIn}
 -- the tokens of a source, as the profile takes them, nest at most 28 deep and spell no file, of whatever height; the fault is that of one of them
 pub record IsMisplacedIn (p : Profile) (source : List ℕ) (f : SyntaxFault) : Type 0 where
   pub tokens : List Lexeme
-  pub cut : IsCut source tokens
+  pub cut : IsCutIn p source tokens
   pub nested : nesting (words (taken p tokens)) ≤ most_nested
   pub no_file : (t : FileTree) → SpellsFile t (words (taken p tokens)) → ⊥
   pub place : IsFaultIn f (words (taken p tokens))
@@ -26,14 +26,14 @@ pub record IsMisplacedIn (p : Profile) (source : List ℕ) (f : SyntaxFault) : T
 -- the tokens of a source, as the profile takes them, nest deeper than 28, or spell a file with a body higher than 28
 pub record IsTooHighIn (p : Profile) (source : List ℕ) : Type 0 where
   pub tokens : List Lexeme
-  pub cut : IsCut source tokens
+  pub cut : IsCutIn p source tokens
   pub high : (most_nested < nesting (words (taken p tokens))) ⊎ ((t : FileTree) × SpellsFile t (words (taken p tokens)) × (most_height < file_height t))
 
 -- why a source is no file of a profile: it is stuck there, its tokens spell none, or it is too high, unless memory ran out
 abbrev pub IsFileRefusalIn : Profile → List ℕ → SyntaxFault → Type 0
 IsFileRefusalIn p source faults.OutOfMemory = Unit {0}
-IsFileRefusalIn p source (faults.NoToken o) = IsStuck source (faults.NoToken o)
-IsFileRefusalIn p source (faults.IntegerRange o) = IsStuck source (faults.IntegerRange o)
+IsFileRefusalIn p source (faults.NoToken o) = IsStuckIn p source (faults.NoToken o)
+IsFileRefusalIn p source (faults.IntegerRange o) = IsStuckIn p source (faults.IntegerRange o)
 IsFileRefusalIn p source (faults.Syntax o) = IsMisplacedIn p source (faults.Syntax o)
 IsFileRefusalIn p source (faults.LeftOut o) = IsMisplacedIn p source (faults.LeftOut o)
 IsFileRefusalIn p source faults.TooHigh = IsTooHighIn p source

@@ -7,6 +7,6 @@ pub use cs_grammar::{
     Declaration, Definition, Expr, Field, FieldMark, File, ListEnd, Profile, Relation, Sort,
     SyntaxFault, Token, Wide,
 };
-pub use cs_lexer::lex;
+pub use cs_lexer::{lex, lex_in};
 pub use parser::file::{one_file, parse_file, parse_file_in};
 pub use parser::profiles::{default_files_have_default_forms, wide_reads_the_default};

@@ -1,25 +1,21 @@
 -- What the default profile accepts stands for itself, in either profile.
-use Rattle.std.proofs.Common.{◌≡◌, ℕ, List, [], ◌∷◌, subst, ◌∙◌}
+use Rattle.std.proofs.Common.{ℕ, List, [], ◌∷◌, refl, subst, ◌∙◌}
 use Rattle.std.specs.List.{AllByRecursion}
 use Rattle.cs_grammar.specs.declared.profile.Profile.TheVariants as profiles
 use Rattle.cs_grammar.specs.DefaultForms.{IsDefaultFile}
-use Rattle.cs_grammar.specs.Source.{IsSpelledBy}
 use Rattle.cs_grammar.specs.Tree.{FileTree}
 use Rattle.cs_syntax.specs.Answer.{IsSpelled, IsSpelledIn}
 use Rattle.cs_package.specs.Environment.{Environment}
 use Rattle.cs_resolve.specs.Resolved.{IsPackage}
 use Rattle.cs_print.specs.Printed.{IsReadAs}
 use Rattle.cs_defaults.specs.Widened.{IsUnmarked}
-use Rattle.cs_embeddings.specs.Without.{IsJoined}
 use Rattle.cs_tool.specs.Accepted.{AreFiles, AreFilesIn, IsAccepted}
 use Rattle.cs_widen.specs.Accepted.{IsAcceptedIn}
 use Rattle.cs_widen.specs.Meant.{IsMeant, IsMeantIn, Declare}
 use Rattle.cs_widen.specs.Stands.{AreMeant}
-use Rattle.cs_widen.proofs.Once.{one_files, one_meant}
-use Rattle.cs_widen.proofs.Printed.{spelled_low}
-
-abbrev pub HaveDefaultForms : Type 0
-HaveDefaultForms = (source : List ℕ) (f : FileTree) → IsSpelledBy source f → IsDefaultFile f
+use Rattle.cs_widen.proofs.DefaultFiles.{package_stands}
+use Rattle.cs_widen.proofs.Once.{one_files}
+use Rattle.cs_widen.proofs.Printed.{HaveDefaultForms, WritesSpelled, all_spelled, spelled_default, spelled_low}
 
 abbrev pub Stay : Type 0
 Stay = (fs : List FileTree) → AllByRecursion IsDefaultFile fs → IsUnmarked fs fs
@@ -27,44 +23,30 @@ Stay = (fs : List FileTree) → AllByRecursion IsDefaultFile fs → IsUnmarked f
 abbrev pub AreReadWide : Type 0
 AreReadWide = (source : List ℕ) (f : FileTree) → IsSpelled source f → IsSpelledIn profiles.Wide source f
 
-all_default : HaveDefaultForms → (ss : List (List ℕ)) (fs : List FileTree) → AreFiles ss fs → AllByRecursion IsDefaultFile fs
-all_default law [] [] h = tt
-all_default law [] (f ∷ fs) h = absurd h
-all_default law (s ∷ ss) [] h = absurd h
-all_default law (s ∷ ss) (f ∷ fs) h =
-    let spelled : IsSpelledBy s f = record { tokens = h.0.tokens; cut = h.0.cut; spelled = h.0.spelled } in
-    (law s f spelled, all_default law ss fs h.1)
-
 all_wide : AreReadWide → (ss : List (List ℕ)) (fs : List FileTree) → AreFiles ss fs → AreFilesIn profiles.Wide ss fs
 all_wide law [] [] h = tt
 all_wide law [] (f ∷ fs) h = absurd h
 all_wide law (s ∷ ss) [] h = absurd h
 all_wide law (s ∷ ss) (f ∷ fs) h = (law s f h.0, all_wide law ss fs h.1)
 
-abbrev pub HaveNoEmbeddings : Type 0
-HaveNoEmbeddings = (fs : List FileTree) → AllByRecursion IsDefaultFile fs → IsJoined fs fs
-
--- files of the default profile stand for themselves
+-- what the default profile accepts stands for itself in the wide one
 abbrev pub StandForThemselves : Type 0
-StandForThemselves = (ss : List (List ℕ)) (fs : List FileTree) → AreFiles ss fs → AreMeant fs fs
+StandForThemselves = (ss : List (List ℕ)) (fs : List FileTree) (E : Environment) → AreFiles ss fs → IsPackage fs E → AreMeant fs fs
 
-pub themselves : HaveDefaultForms → HaveNoEmbeddings → Stay → StandForThemselves
-themselves law unjoined stay ss fs spelled =
-    let forms = all_default law ss fs spelled in
-    record { joined = fs; are_joined = unjoined fs forms; low = spelled_low profiles.Default ss fs spelled; unmarked = stay fs forms }
+pub themselves : HaveDefaultForms → WritesSpelled → Stay → StandForThemselves
+themselves law writes stay ss fs E spelled one_package =
+    let forms = spelled_default law ss fs spelled in
+    let written = all_spelled writes profiles.Default ss fs spelled in
+    record { joined = fs; are_joined = package_stands fs E forms written one_package; low = spelled_low profiles.Default ss fs spelled; unmarked = stay fs forms }
 
-module _ (law : StandForThemselves) (ss : List (List ℕ)) where
-  -- what such files stand for is they
-  only_themselves : (fs gs : List FileTree) → AreFiles ss fs → AreMeant fs gs → gs ≡ fs
-  only_themselves fs gs spelled h = one_meant fs gs fs h (law ss fs spelled)
-
+module _ (ss : List (List ℕ)) where
   pub accepted_in_default : (E : Environment) → IsAccepted ss E → IsAcceptedIn profiles.Default ss E
   accepted_in_default E h = record {
     texts = h.texts;
     files = h.files;
     spelled = h.spelled;
     meant = h.files;
-    stand_for = law ss h.files h.spelled;
+    stand_for = refl;
     one_package = h.one_package;
     guarded = h.guarded;
   }
@@ -74,29 +56,28 @@ module _ (law : StandForThemselves) (ss : List (List ℕ)) where
     texts = h.texts;
     files = h.files;
     spelled = h.spelled;
-    one_package = subst (λ fs. IsPackage fs E) (only_themselves h.files h.meant h.spelled h.stand_for) h.one_package;
+    one_package = subst (λ fs. IsPackage fs E) h.stand_for h.one_package;
     guarded = h.guarded;
   }
 
   pub meant_in_default : (s : List ℕ) (E : Environment) → IsAccepted ss E → IsMeantIn profiles.Default ss s → IsMeant ss s
   meant_in_default s E accepted h =
-      let same = only_themselves h.accepted.files h.accepted.meant h.accepted.spelled h.accepted.stand_for in
-      let files = same ∙ one_files profiles.Default ss h.accepted.files accepted.files h.accepted.spelled accepted.spelled in
+      let files = h.accepted.stand_for ∙ one_files profiles.Default ss h.accepted.files accepted.files h.accepted.spelled accepted.spelled in
       record { environment = E; accepted = accepted; read = subst (λ fs. IsReadAs s fs) files h.read }
 
   pub declare_in_default : (E : Environment) → IsAccepted ss E → Declare profiles.Default ss ss
   declare_in_default E h = record { environment = E; given = accepted_in_default E h; taken = h }
 
-  pub accepted_in_wide : AreReadWide → (E : Environment) → IsAccepted ss E → IsAcceptedIn profiles.Wide ss E
-  accepted_in_wide wide E h = record {
+  pub accepted_in_wide : StandForThemselves → AreReadWide → (E : Environment) → IsAccepted ss E → IsAcceptedIn profiles.Wide ss E
+  accepted_in_wide law wide E h = record {
     texts = h.texts;
     files = h.files;
     spelled = all_wide wide ss h.files h.spelled;
     meant = h.files;
-    stand_for = law ss h.files h.spelled;
+    stand_for = law ss h.files E h.spelled h.one_package;
     one_package = h.one_package;
     guarded = h.guarded;
   }
 
-  pub declare_in_wide : AreReadWide → (E : Environment) → IsAccepted ss E → Declare profiles.Wide ss ss
-  declare_in_wide wide E h = record { environment = E; given = accepted_in_wide wide E h; taken = h }
+  pub declare_in_wide : StandForThemselves → AreReadWide → (E : Environment) → IsAccepted ss E → Declare profiles.Wide ss ss
+  declare_in_wide law wide E h = record { environment = E; given = accepted_in_wide law wide E h; taken = h }

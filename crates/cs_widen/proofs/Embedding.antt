@@ -1,23 +1,26 @@
 -- A literal with embeddings, read as it is written, is what it stands for.
-use Rattle.std.proofs.Common.{◌≡◌, ℕ, zero, suc, Bool, true, false, List, [], ◌∷◌, map, Option, Some, None, refl, ap, ap₂, ◌∙◌}
+use Rattle.std.proofs.Common.{◌≡◌, ℕ, suc, Bool, true, false, cond, List, [], ◌∷◌, map, Option, Some, None, refl, ap, ap₂, ◌∙◌}
+use Rattle.std.proofs.lemmas.Bool.{cond-true}
 use Rattle.std.specs.Prelude.{◌&&◌, ◌||◌}
-use Rattle.std.specs.List.{list_all, list_any}
+use Rattle.std.specs.List.{list_any}
 use Rattle.std.specs.Str.{bytes_eq}
 use Rattle.cs_document.specs.Document.{Document, object, Entry, Members, entries, under}
 use Rattle.cs_grammar.specs.declared.ast.FieldMark.{FieldMark}
 use Rattle.cs_grammar.specs.declared.ast.FieldMark.TheVariants.{Regular, Optional, Required, Every}
-use Rattle.cs_grammar.specs.Tree.{Tree, atom, bottom, named, reference, conjunction, disjunction, paren, struct, list, wide, marked, merged, Trees, none, more, Fields, no_field, field, DefinitionTree}
+use Rattle.cs_grammar.specs.Tree.{Tree, atom, named, reference, conjunction, disjunction, paren, struct, list, wide, marked, merged, shut, Trees, none, more, Fields, field, DefinitionTree}
 use Rattle.cs_instance.specs.Instance.{Rule, node, IsInstance}
 use Rattle.cs_package.specs.Environment.{Environment}
-use Rattle.cs_package.specs.Expression.{Expressions, operands}
+use Rattle.cs_package.specs.Expression.{operands}
 use Rattle.cs_resolve.specs.Refinement.{Refinements, is_every}
 use Rattle.cs_resolve.specs.Resolved.{resolved, resolved_all}
-use Rattle.cs_defaults.specs.Leading.{Leading, nowhere, by_mark, to, leading, first_mark, has_default}
+use Rattle.cs_defaults.specs.Leading.{nowhere, leading, first_mark, has_default}
 use Rattle.cs_defaults.specs.Unmarked.{unmarked, unmarked_each}
 use Rattle.cs_embeddings.specs.Alternatives.{Brought, Alternative, at, alternatives_of}
+use Rattle.cs_embeddings.specs.Held.{first_place}
 use Rattle.cs_embeddings.specs.Joined.{placed, fields_of_brought, literal_of, literals_of, one_of, joined_with, joined_each, joined_value}
-use Rattle.cs_widen.specs.Direct.{declaration_reads, field_reads, fields_read, is_allowed, AreReadDirectly}
-use Rattle.cs_widen.specs.Embedding.{is_declared, declarations_read, alternative_reads, AreEmbeddingsReadDirectly}
+use Rattle.cs_embeddings.specs.United.{unites, united}
+use Rattle.cs_widen.specs.Direct.{declaration_reads, field_reads, fields_read, is_allowed}
+use Rattle.cs_widen.specs.Embedding.{is_declared, declarations_read, alternative_reads, AreEmbeddingsReadDirectly, AreUnionsReadDirectly}
 use Rattle.cs_widen.proofs.Direct.{all_same, read_directly}
 
 -- ---- a value has a default where what it stands for has one
@@ -39,30 +42,48 @@ module _ (v : Option ℕ → Tree → Tree) where
   behind_literals o es (a ∷ []) = refl
   behind_literals o es (a ∷ b ∷ xs) = refl
 
+  -- whether its operands are put together or not
+  module _ (ds : List DefinitionTree) (p : Option ℕ) (es : Trees) where
+    behind_conjunction : (fs : Trees) → first_mark (more (joined_with ds v false p (conjunction es)) fs) ≡ first_mark fs
+    behind_conjunction fs = by (unites ds es)
+      where
+        by : (b : Bool) → first_mark (more (cond b (one_of v false (at p (first_place es)) (united ds p es)) (conjunction (joined_each ds v false p es))) fs) ≡ first_mark fs
+        by true = behind_literals (at p (first_place es)) fs (united ds p es)
+        by false = refl
+
+    conjunction_leads_nowhere : leading (joined_with ds v true p (conjunction es)) ≡ nowhere
+    conjunction_leads_nowhere = by (unites ds es)
+      where
+        by : (b : Bool) → leading (cond b (one_of v true (at p (first_place es)) (united ds p es)) (conjunction (joined_each ds v false p es))) ≡ nowhere
+        by true = literals_lead_nowhere true (at p (first_place es)) (united ds p es)
+        by false = refl
+
 module _ (has : List ℕ → Bool) (ds : List DefinitionTree) (v : Option ℕ → Tree → Tree) where
   same_first : (p : Option ℕ) (es : Trees) → has_default has (first_mark (joined_each ds v false p es)) ≡ has_default has (first_mark es)
   same_first p none = refl
   same_first p (more (atom a) es) = same_first p es
   same_first p (more (named s o) es) = same_first p es
   same_first p (more (reference s o) es) = same_first p es
-  same_first p (more (conjunction es') es) = same_first p es
+  same_first p (more (conjunction es') es) = ap (has_default has) (behind_conjunction v ds p es' (joined_each ds v false p es)) ∙ same_first p es
   same_first p (more (disjunction es') es) = same_first p es
   same_first p (more (paren e) es) = same_first p es
   same_first p (more (struct o fs b) es) = same_first p es
   same_first p (more (list es' end) es) = same_first p es
   same_first p (more (wide (marked o e)) es) = refl
   same_first p (more (wide (merged o cs b)) es) = ap (has_default has) (behind_literals v (at p o) (joined_each ds v false p es) (alternatives_of ds p cs b)) ∙ same_first p es
+  same_first p (more (wide (shut o e)) es) = same_first p es
 
   same_default : (p : Option ℕ) (e : Tree) → has_default has (leading (joined_with ds v true p e)) ≡ has_default has (leading e)
   same_default p (atom a) = refl
   same_default p (named s o) = refl
   same_default p (reference s o) = refl
-  same_default p (conjunction es) = refl
+  same_default p (conjunction es) = ap (has_default has) (conjunction_leads_nowhere v ds p es)
   same_default p (disjunction es) = same_first p es
   same_default p (paren e) = same_default p e
   same_default p (struct o fs b) = refl
   same_default p (list es end) = refl
   same_default p (wide (marked o e)) = refl
+  same_default p (wide (shut o e)) = same_default p e
   same_default p (wide (merged o cs b)) = ap (has_default has) (literals_lead_nowhere v true (at p o) (alternatives_of ds p cs b))
 
 default_stays : (has : List ℕ → Bool) (ds : List DefinitionTree) (n : ℕ) (p : Option ℕ) (e : Tree)
@@ -142,3 +163,10 @@ module _ (E : Environment) (I : Rule → Document → Bool) (is : IsInstance E I
 pub embeddings_read_directly : (E : Environment) (I : Rule → Document → Bool) → IsInstance E I → AreEmbeddingsReadDirectly I
 embeddings_read_directly E I is rs has ds n whole p o cs opened ms =
     of_one E I is rs has (joined_value ds (suc n)) (default_stays has ds n) whole (at p o) (alternatives_of ds p cs opened) ms
+
+pub unions_read_directly : (E : Environment) (I : Rule → Document → Bool) → IsInstance E I → AreUnionsReadDirectly I
+unions_read_directly E I is rs has ds n whole p es ms unite =
+    let V = joined_value ds (suc n) in let o = at p (first_place es) in
+    ap (λ t. I (node (resolved rs (unmarked has t))) (object ms))
+    (cond-true (unites ds es) (one_of V whole o (united ds p es)) (conjunction (joined_each ds V false p es)) unite)
+    ∙ of_one E I is rs has V (default_stays has ds n) whole o (united ds p es) ms

@@ -14,7 +14,7 @@ use Rattle.cs_widen.specs.Accepted.{IsAcceptedIn}
 use Rattle.cs_widen.specs.Calls.{Means, IsExportIn, IsVerdictIn, RefusesIn, IsReadyToVetIn, IsReadyToAgreeIn}
 use Rattle.cs_widen.specs.Meant.{Declare, StandForIn, DeclaresRootIn}
 use Rattle.cs_widen.specs.Refused.{MeantRefusal, MeantRefusalIn, MeansTooMuchAs}
-use Rattle.cs_widen.proofs.Default.{StandForThemselves, declare_in_default, default_accepted}
+use Rattle.cs_widen.proofs.Default.{declare_in_default, default_accepted}
 use Rattle.cs_widen.proofs.Once.{one_environment}
 
 -- ---- which sources are judged
@@ -23,9 +23,9 @@ pub by_meant : (p : Profile) (ss : List (List ℕ)) (s : List ℕ) → StandForI
 by_meant profiles.Default ss s h = absurd cc
 by_meant profiles.Wide ss s h = h.1
 
-pub by_themselves : StandForThemselves → (p : Profile) (ss : List (List ℕ)) → StandForIn p ss None → (E : Environment) → IsAccepted ss E → Declare p ss ss
-by_themselves law profiles.Default ss h E a = declare_in_default law ss E a
-by_themselves law profiles.Wide ss h E a = h
+pub by_themselves : (p : Profile) (ss : List (List ℕ)) → StandForIn p ss None → (E : Environment) → IsAccepted ss E → Declare p ss ss
+by_themselves profiles.Default ss h E a = declare_in_default ss E a
+by_themselves profiles.Wide ss h E a = h
 
 -- ---- answers
 
@@ -70,12 +70,12 @@ module _ (p : Profile) (ss judged : List (List ℕ)) (declare : Declare p ss jud
     within = λ items rules many. r.within items rules (judged, declare, many);
   }
 
-module _ (law : StandForThemselves) (p : Profile) (ss : List (List ℕ)) (stand : StandForIn p ss None) where
+module _ (p : Profile) (ss : List (List ℕ)) (stand : StandForIn p ss None) where
   pub declare_themselves : (E : Environment) → IsAcceptedIn p ss E → Declare p ss ss
   declare_themselves E a = by_profile p stand a
     where
       by_profile : (q : Profile) → StandForIn q ss None → IsAcceptedIn q ss E → Declare q ss ss
-      by_profile profiles.Default s b = declare_in_default law ss E (default_accepted law ss E b)
+      by_profile profiles.Default s b = declare_in_default ss E (default_accepted ss E b)
       by_profile profiles.Wide s b = s
 
   pub ready_themselves : (root : List ℕ) → DeclaresRootIn p ss root → IsReady ss root

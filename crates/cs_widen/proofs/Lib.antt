@@ -1,9 +1,10 @@
 -- What is meant can be printed and is read again (`Printed`), and has the nodes that are counted without embeddings (`Sizes`), what is accepted in
--- the default profile stands for itself (`Default`), sources declare one environment in a profile (`Once`), which refusal is which (`Refusals`), what is printed declares the same environment
+-- the default profile stands for itself (`DefaultFiles`, `Default`), sources declare one environment in a profile (`Once`), which refusal is which (`Refusals`), what is printed declares the same environment
 -- (`printed_package` in `UnplacedPackages`, `Judged`), and so what a call answers of it is the answer in the profile (`Judgements`).
 mod Printed
 mod Sizes
 mod Once
+mod DefaultFiles
 mod Default
 mod Refusals
 mod Judged

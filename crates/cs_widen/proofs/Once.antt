@@ -8,6 +8,7 @@ use Rattle.cs_grammar.specs.Taken.{taken}
 use Rattle.cs_grammar.specs.TokenWords.{words}
 use Rattle.cs_grammar.specs.Tree.{FileTree}
 use Rattle.cs_grammar.specs.declared.profile.Profile.{Profile}
+use Rattle.cs_grammar.specs.declared.profile.Profile.TheVariants as profiles
 use Rattle.cs_lexer.proofs.CutUnique.{cut_once}
 use Rattle.cs_syntax.specs.Answer.{IsSpelledIn}
 use Rattle.cs_syntax.proofs.FileAnswers.{file_once}
@@ -21,7 +22,7 @@ use Rattle.cs_embeddings.specs.Size.{size_of_files}
 use Rattle.cs_embeddings.specs.Without.{IsJoined, IsWithin, flaws_of_files, clashes_of_files, joined_files}
 use Rattle.cs_tool.specs.Accepted.{AreFilesIn}
 use Rattle.cs_widen.specs.Accepted.{IsAcceptedIn}
-use Rattle.cs_widen.specs.Stands.{AreMeant}
+use Rattle.cs_widen.specs.Stands.{AreMeant, AreMeantIn}
 use Rattle.cs_widen.proofs.Sizes.{same_size_files}
 
 one_file : (p : Profile) (s : List ℕ) (f g : FileTree) → IsSpelledIn p s f → IsSpelledIn p s g → f ≡ g
@@ -45,42 +46,50 @@ one_meant fs gs hs a b =
     let joined = a.are_joined.joined ∙ sym b.are_joined.joined in
     a.unmarked.unmarked ∙ ap (λ js. map (unmarked_file (handing_on js)) js) joined ∙ sym b.unmarked.unmarked
 
+pub one_meant_in : (p : Profile) (fs gs hs : List FileTree) → AreMeantIn p fs gs → AreMeantIn p fs hs → gs ≡ hs
+one_meant_in profiles.Default fs gs hs a b = a ∙ sym b
+one_meant_in profiles.Wide fs gs hs a b = one_meant fs gs hs a b
+
 -- what is accepted has the files that the sources spell, and the environment of what these stand for
 module _ (p : Profile) (ss : List (List ℕ)) (fs : List FileTree) (spelled : AreFilesIn p ss fs) (E : Environment) (accepted : IsAcceptedIn p ss E) where
   same_files : accepted.files ≡ fs
   same_files = one_files p ss accepted.files fs accepted.spelled spelled
 
-  stand : AreMeant fs accepted.meant
-  stand = subst (λ hs. AreMeant hs accepted.meant) same_files accepted.stand_for
+  stand : AreMeantIn p fs accepted.meant
+  stand = subst (λ hs. AreMeantIn p hs accepted.meant) same_files accepted.stand_for
 
-  -- nothing is at fault in them, and without embeddings they are neither too high nor too large
-  pub no_flaw : flaws_of_files fs ≡ []
-  no_flaw = stand.are_joined.flawless
-
-  pub no_clash : clashes_of_files fs ≡ []
-  no_clash = stand.are_joined.apart
-
-  small : size_of_files stand.joined ≤ most_nodes
-  small =
-      let same = same_size_files (handing_on stand.joined) stand.joined in
-      let nodes = subst (λ gs. nodes_of_files gs ≤ most_nodes) stand.unmarked.unmarked accepted.one_package.small.nodes in
-      subst (λ n. n ≤ most_nodes) (sym same) nodes
-
-  pub within : IsWithin (joined_files fs)
-  within = subst IsWithin stand.are_joined.joined (record { low = stand.low; small = small })
-
-  pub no_fault : (js : List FileTree) → IsJoined fs js → mark_faults js ≡ []
-  no_fault js joined = subst (λ hs. mark_faults hs ≡ []) (stand.are_joined.joined ∙ sym joined.joined) stand.unmarked.faultless
-
-  module _ (gs : List FileTree) (stand_for : AreMeant fs gs) where
+  module _ (gs : List FileTree) (stand_for : AreMeantIn p fs gs) where
     pub are_package : IsPackage gs E
-    are_package = subst (λ hs. IsPackage hs E) (one_meant fs accepted.meant gs stand stand_for) accepted.one_package
+    are_package = subst (λ hs. IsPackage hs E) (one_meant_in p fs accepted.meant gs stand stand_for) accepted.one_package
 
     pub one_environment_of : (F : Environment) → IsPackage gs F → E ≡ F
     one_environment_of F h = resolve.one_environment gs E F are_package h
 
     pub is_guarded : (F : Environment) → IsPackage gs F → IsGuarded F
     is_guarded F h = subst IsGuarded (one_environment_of F h) accepted.guarded
+
+-- in the wide profile nothing is at fault in them, and without embeddings they are neither too high nor too large
+module _ (ss : List (List ℕ)) (fs : List FileTree) (spelled : AreFilesIn profiles.Wide ss fs) (E : Environment) (accepted : IsAcceptedIn profiles.Wide ss E) where
+  wide_stand : AreMeant fs accepted.meant
+  wide_stand = stand profiles.Wide ss fs spelled E accepted
+
+  pub no_flaw : flaws_of_files fs ≡ []
+  no_flaw = wide_stand.are_joined.flawless
+
+  pub no_clash : clashes_of_files fs ≡ []
+  no_clash = wide_stand.are_joined.apart
+
+  small : size_of_files wide_stand.joined ≤ most_nodes
+  small =
+      let same = same_size_files (handing_on wide_stand.joined) wide_stand.joined in
+      let nodes = subst (λ gs. nodes_of_files gs ≤ most_nodes) wide_stand.unmarked.unmarked accepted.one_package.small.nodes in
+      subst (λ n. n ≤ most_nodes) (sym same) nodes
+
+  pub within : IsWithin (joined_files fs)
+  within = subst IsWithin wide_stand.are_joined.joined (record { low = wide_stand.low; small = small })
+
+  pub no_fault : (js : List FileTree) → IsJoined fs js → mark_faults js ≡ []
+  no_fault js joined = subst (λ hs. mark_faults hs ≡ []) (wide_stand.are_joined.joined ∙ sym joined.joined) wide_stand.unmarked.faultless
 
 pub one_environment : (p : Profile) (ss : List (List ℕ)) (E F : Environment) → IsAcceptedIn p ss E → IsAcceptedIn p ss F → E ≡ F
 one_environment p ss E F a b = one_environment_of p ss b.files b.spelled E a b.meant b.stand_for F b.one_package

@@ -1,19 +1,20 @@
 -- What files stand for can be printed, and what is printed of it is read again.
-use Rattle.std.proofs.Common.{◌≡◌, ℕ, ◌≤◌, List, [], ◌∷◌, ◌++◌, Bool, map, sym, subst, arith}
+use Rattle.std.proofs.Common.{ℕ, ◌≤◌, List, [], ◌∷◌, ◌++◌, Bool, map, sym, subst, arith}
 use Rattle.std.specs.List.{AllByRecursion, flat_map}
 use Rattle.cs_grammar.specs.declared.profile.Profile.{Profile}
+use Rattle.cs_grammar.specs.declared.profile.Profile.TheVariants as profiles
 use Rattle.cs_grammar.specs.DefaultForms.{IsDefaultFile}
-use Rattle.cs_grammar.specs.Height.{height, height_definitions, file_height}
+use Rattle.cs_grammar.specs.Height.{height_definitions, file_height}
 use Rattle.cs_grammar.specs.Limits.{most_height}
-use Rattle.cs_grammar.specs.Source.{IsSpelledByIn}
-use Rattle.cs_grammar.specs.Tree.{DefinitionTree, FileTree, body, definitions}
+use Rattle.cs_grammar.specs.Source.{IsSpelledBy, IsSpelledByIn}
+use Rattle.cs_grammar.specs.Tree.{DefinitionTree, FileTree, definitions}
 use Rattle.cs_grammar.specs.Written.{IsWrittenFile}
 use Rattle.cs_defaults.specs.Unmarked.{unmarked_file}
 use Rattle.cs_defaults.specs.Widened.{IsUnmarked, handing_on}
 use Rattle.cs_embeddings.specs.Without.{IsJoined, IsWithin}
 use Rattle.cs_print.specs.Printed.{IsPrinted, IsReadAs}
-use Rattle.cs_tool.specs.Accepted.{AreFilesIn}
-use Rattle.cs_widen.specs.Stands.{AreMeant}
+use Rattle.cs_tool.specs.Accepted.{AreFiles, AreFilesIn}
+use Rattle.cs_widen.specs.Stands.{AreMeant, AreMeantIn}
 
 -- ---- heights
 
@@ -59,7 +60,7 @@ WritesJoined = (fs gs : List FileTree) → AllByRecursion IsWrittenFile fs → I
 abbrev pub WritesUnmarked : Type 0
 WritesUnmarked = (has : List ℕ → Bool) (f : FileTree) → IsWrittenFile f → IsWrittenFile (unmarked_file has f)
 
-all_spelled : WritesSpelled → (p : Profile) (ss : List (List ℕ)) (fs : List FileTree) → AreFilesIn p ss fs → AllByRecursion IsWrittenFile fs
+pub all_spelled : WritesSpelled → (p : Profile) (ss : List (List ℕ)) (fs : List FileTree) → AreFilesIn p ss fs → AllByRecursion IsWrittenFile fs
 all_spelled law p [] [] h = tt
 all_spelled law p [] (f ∷ fs) h = absurd h
 all_spelled law p (s ∷ ss) [] h = absurd h
@@ -70,6 +71,17 @@ all_spelled law p (s ∷ ss) (f ∷ fs) h =
 all_unmarked : WritesUnmarked → (has : List ℕ → Bool) (fs : List FileTree) → AllByRecursion IsWrittenFile fs → AllByRecursion IsWrittenFile (map (unmarked_file has) fs)
 all_unmarked law has [] h = tt
 all_unmarked law has (f ∷ fs) h = (law has f h.0, all_unmarked law has fs h.1)
+
+abbrev pub HaveDefaultForms : Type 0
+HaveDefaultForms = (source : List ℕ) (f : FileTree) → IsSpelledBy source f → IsDefaultFile f
+
+pub spelled_default : HaveDefaultForms → (ss : List (List ℕ)) (fs : List FileTree) → AreFiles ss fs → AllByRecursion IsDefaultFile fs
+spelled_default law [] [] h = tt
+spelled_default law [] (f ∷ fs) h = absurd h
+spelled_default law (s ∷ ss) [] h = absurd h
+spelled_default law (s ∷ ss) (f ∷ fs) h =
+    let spelled : IsSpelledBy s f = record { tokens = h.0.tokens; cut = h.0.cut; spelled = h.0.spelled } in
+    (law s f spelled, spelled_default law ss fs h.1)
 
 abbrev pub HaveNoMarks : Type 0
 HaveNoMarks = (has : List ℕ → Bool) (f : FileTree) → IsDefaultFile (unmarked_file has f)
@@ -90,15 +102,33 @@ module _ (fs gs : List FileTree) (stand_for : AreMeant fs gs) where
   abbrev has : List ℕ → Bool
   has = handing_on stand_for.joined
 
-  pub meant_written : (p : Profile) (ss : List (List ℕ)) → AreFilesIn p ss fs → WritesSpelled → WritesJoined → WritesUnmarked → AllByRecursion IsWrittenFile gs
-  meant_written p ss spelled law joins keeps =
-      let written = joins fs stand_for.joined (all_spelled law p ss fs spelled) stand_for.are_joined in
+  wide_written : (ss : List (List ℕ)) → AreFilesIn profiles.Wide ss fs → WritesSpelled → WritesJoined → WritesUnmarked → AllByRecursion IsWrittenFile gs
+  wide_written ss spelled law joins keeps =
+      let written = joins fs stand_for.joined (all_spelled law profiles.Wide ss fs spelled) stand_for.are_joined in
       subst (λ hs. AllByRecursion IsWrittenFile hs) (sym stand_for.unmarked.unmarked) (all_unmarked keeps has stand_for.joined written)
 
-  pub meant_default : HaveNoMarks → AllByRecursion IsDefaultFile gs
-  meant_default law = subst (λ hs. AllByRecursion IsDefaultFile hs) (sym stand_for.unmarked.unmarked) (all_default law has stand_for.joined)
+  wide_default : HaveNoMarks → AllByRecursion IsDefaultFile gs
+  wide_default law = subst (λ hs. AllByRecursion IsDefaultFile hs) (sym stand_for.unmarked.unmarked) (all_default law has stand_for.joined)
 
-  pub meant_read : AreNoHigher → AreRead → (s : List ℕ) → IsPrinted s gs → IsReadAs s gs
-  meant_read lower law s printed =
+  wide_read : AreNoHigher → AreRead → (s : List ℕ) → IsPrinted s gs → IsReadAs s gs
+  wide_read lower law s printed =
       let low = unmarked_low lower has stand_for.joined stand_for.low in
       law s gs printed (subst (λ hs. height_definitions (flat_map definitions hs) ≤ most_height) (sym stand_for.unmarked.unmarked) low)
+
+-- the same in a profile: those of the default one are what is spelled
+module _ (fs gs : List FileTree) where
+  pub meant_written : (p : Profile) (ss : List (List ℕ)) → AreFilesIn p ss fs → AreMeantIn p fs gs → WritesSpelled → WritesJoined → WritesUnmarked
+      → AllByRecursion IsWrittenFile gs
+  meant_written profiles.Default ss spelled same law joins keeps = subst (λ hs. AllByRecursion IsWrittenFile hs) (sym same) (all_spelled law profiles.Default ss fs spelled)
+  meant_written profiles.Wide ss spelled stand_for law joins keeps = wide_written fs gs stand_for ss spelled law joins keeps
+
+  pub meant_default : (p : Profile) (ss : List (List ℕ)) → AreFilesIn p ss fs → AreMeantIn p fs gs → HaveDefaultForms → HaveNoMarks
+      → AllByRecursion IsDefaultFile gs
+  meant_default profiles.Default ss spelled same forms law = subst (λ hs. AllByRecursion IsDefaultFile hs) (sym same) (spelled_default forms ss fs spelled)
+  meant_default profiles.Wide ss spelled stand_for forms law = wide_default fs gs stand_for law
+
+  pub meant_read : (p : Profile) (ss : List (List ℕ)) → AreFilesIn p ss fs → AreMeantIn p fs gs → AreNoHigher → AreRead → (s : List ℕ) → IsPrinted s gs
+      → IsReadAs s gs
+  meant_read profiles.Default ss spelled same lower law s printed =
+      law s gs printed (subst (λ hs. height_definitions (flat_map definitions hs) ≤ most_height) (sym same) (spelled_low profiles.Default ss fs spelled))
+  meant_read profiles.Wide ss spelled stand_for lower law s printed = wide_read fs gs stand_for lower law s printed

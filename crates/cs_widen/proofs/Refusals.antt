@@ -2,6 +2,7 @@
 use Rattle.std.proofs.Common.{ℕ, List, inl, inr, refl}
 use Rattle.cs_grammar.specs.Tree.{FileTree}
 use Rattle.cs_grammar.specs.declared.profile.Profile.{Profile}
+use Rattle.cs_grammar.specs.declared.profile.Profile.TheVariants as profiles
 use Rattle.cs_package.specs.Environment.{Environment}
 use Rattle.cs_resolve.specs.Refusal as resolve
 use Rattle.cs_resolve.specs.Resolved.{IsPackage}
@@ -23,7 +24,7 @@ use Rattle.cs_tool.specs.First.{SpellingRefusal}
 use Rattle.cs_tool.specs.declared.fault.Fault.{Fault}
 use Rattle.cs_tool.specs.declared.fault.Fault.TheVariants.{SourcesTooLong, NotUtf8, NoToken, Syntax, LeftOut, IntegerRange, TooHigh, OutOfMemory}
 use Rattle.cs_widen.specs.Refused.{of_embedding, of_mark, IsEmbeddingRefusal, IsMarkRefusal, IsNoPackageIn, IsUnguardedIn, RefusalIn}
-use Rattle.cs_widen.specs.Stands.{AreMeant, AreMeantBy}
+use Rattle.cs_widen.specs.Stands.{AreMeantBy}
 
 pub by_spelling : (p : Profile) (ss : List (List ℕ)) (e : Fault) → SpellingRefusal p ss e → RefusalIn p ss e
 by_spelling p ss OutOfMemory h = tt
@@ -36,12 +37,12 @@ by_spelling p ss (IntegerRange number offset) h = h
 by_spelling p ss (TooHigh number) h = inl h
 by_spelling p ss _ h = absurd h
 
--- the sources spell these files
-module _ (p : Profile) (ss : List (List ℕ)) (texts : AreTexts ss) (fs : List FileTree) (spelled : AreFilesIn p ss fs) where
-  embedding_refusal : (f : EmbeddingFault) → embeddings.IsRefusal f fs → IsEmbeddingRefusal p ss (of_embedding f)
+-- the sources spell these files in the wide profile
+module _ (ss : List (List ℕ)) (texts : AreTexts ss) (fs : List FileTree) (spelled : AreFilesIn profiles.Wide ss fs) where
+  embedding_refusal : (f : EmbeddingFault) → embeddings.IsRefusal f fs → IsEmbeddingRefusal ss (of_embedding f)
   embedding_refusal f h = record { texts = texts; files = fs; spelled = spelled; fault = f; refused = h; told = refl }
 
-  pub by_embedding : (f : EmbeddingFault) → embeddings.IsRefusal f fs → RefusalIn p ss (of_embedding f)
+  pub by_embedding : (f : EmbeddingFault) → embeddings.IsRefusal f fs → RefusalIn profiles.Wide ss (of_embedding f)
   by_embedding joins.OutOfMemory h = tt
   by_embedding (joins.UnknownName i o) h = inl (embedding_refusal (joins.UnknownName i o) h)
   by_embedding (joins.NoStruct i o) h = inl (embedding_refusal (joins.NoStruct i o) h)
@@ -51,10 +52,10 @@ module _ (p : Profile) (ss : List (List ℕ)) (texts : AreTexts ss) (fs : List F
 
   -- they have no flaw, and are these without embeddings
   module _ (js : List FileTree) (joined : IsJoined fs js) where
-    mark_refusal : (f : DefaultFault) → defaults.IsRefusal f js → IsMarkRefusal p ss (of_mark f)
+    mark_refusal : (f : DefaultFault) → defaults.IsRefusal f js → IsMarkRefusal ss (of_mark f)
     mark_refusal f h = record { texts = texts; files = fs; spelled = spelled; joined = js; are_joined = joined; fault = f; refused = h; told = refl }
 
-    pub by_mark : (f : DefaultFault) → defaults.IsRefusal f js → RefusalIn p ss (of_mark f)
+    pub by_mark : (f : DefaultFault) → defaults.IsRefusal f js → RefusalIn profiles.Wide ss (of_mark f)
     by_mark marks.OutOfMemory h = tt
     by_mark (marks.Mark i o) h = inr (mark_refusal (marks.Mark i o) h)
 

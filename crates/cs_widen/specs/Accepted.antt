@@ -1,5 +1,5 @@
 -- Which sources a profile accepts, and what they declare: the files that they spell stand for files of the default profile, which are a
--- package. Files without forms of the wide profile stand for themselves.
+-- package. Those of the default profile stand for themselves.
 use Rattle.std.specs.Prelude.{ℕ, List}
 use Rattle.cs_grammar.specs.Tree.{FileTree}
 use Rattle.cs_grammar.specs.declared.profile.Profile.{Profile}
@@ -7,7 +7,7 @@ use Rattle.cs_package.specs.Environment.{Environment}
 use Rattle.cs_resolve.specs.Resolved.{IsPackage}
 use Rattle.cs_guard.specs.Guarded.{IsGuarded}
 use Rattle.cs_tool.specs.Accepted.{AreTexts, AreFilesIn}
-use Rattle.cs_widen.specs.Stands.{AreMeant}
+use Rattle.cs_widen.specs.Stands.{AreMeantIn}
 
 -- the sources are accepted in the profile, and declare the environment
 pub record IsAcceptedIn (p : Profile) (sources : List (List ℕ)) (E : Environment) : Type 0 where
@@ -15,6 +15,6 @@ pub record IsAcceptedIn (p : Profile) (sources : List (List ℕ)) (E : Environme
   pub files : List FileTree
   pub spelled : AreFilesIn p sources files
   pub meant : List FileTree
-  pub stand_for : AreMeant files meant
+  pub stand_for : AreMeantIn p files meant
   pub one_package : IsPackage meant E
   pub guarded : IsGuarded E

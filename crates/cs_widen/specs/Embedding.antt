@@ -1,16 +1,18 @@
--- Struct literals with embeddings, read as they are written (CUE, structs: embedding): by an alternative of each expression that is embedded, and
--- no file without embeddings is made of them here. A law says that this is what they stand for.
-use Rattle.std.specs.Prelude.{◌≡◌, ℕ, suc, Bool, ◌&&◌, ◌||◌, List, Option}
+-- Struct literals with embeddings, and operands of `&` that are put together, read as they are written (CUE, structs: embedding and unification):
+-- by an alternative of each expression that is embedded, or of each operand, and no file without embeddings is made of them here. Laws say that
+-- this is what they stand for.
+use Rattle.std.specs.Prelude.{◌≡◌, ℕ, suc, Bool, true, ◌&&◌, ◌||◌, List, Option}
 use Rattle.std.specs.List.{list_all, list_any}
 use Rattle.std.specs.Str.{bytes_eq}
 use Rattle.cs_document.specs.Document.{Document, object, Entry, Members, entries}
-use Rattle.cs_grammar.specs.Tree.{Tree, wide, merged, Declarations, DefinitionTree}
+use Rattle.cs_grammar.specs.Tree.{Tree, Trees, conjunction, wide, merged, Declarations, DefinitionTree}
 use Rattle.cs_instance.specs.Instance.{Rule, node}
 use Rattle.cs_resolve.specs.Refinement.{Refinements, is_every}
 use Rattle.cs_resolve.specs.Resolved.{resolved}
 use Rattle.cs_defaults.specs.Unmarked.{unmarked}
 use Rattle.cs_embeddings.specs.Alternatives.{Brought, Alternative, alternatives_of}
 use Rattle.cs_embeddings.specs.Joined.{joined_with, joined_value}
+use Rattle.cs_embeddings.specs.United.{unites, united}
 use Rattle.cs_widen.specs.Direct.{declaration_reads}
 
 -- a key that declarations allow: a label of them, or every key beside `[string]`
@@ -36,3 +38,11 @@ AreEmbeddingsReadDirectly I =
     → I (node (resolved rs (unmarked has (joined_with ds (joined_value ds (suc n)) whole p (wide (merged o cs opened)))))) (object ms)
     ≡ list_any (λ a. alternative_reads has (λ q y e. I (node (resolved rs (unmarked has (joined_value ds (suc n) q e)))) y) a (entries ms))
     (alternatives_of ds p cs opened)
+
+-- so is a map an instance of what operands of `&` that are put together stand for: for some choice of an alternative of each operand
+abbrev pub AreUnionsReadDirectly : (Rule → Document → Bool) → Type 0
+AreUnionsReadDirectly I =
+    (rs : Refinements) (has : List ℕ → Bool) (ds : List DefinitionTree) (n : ℕ) (whole : Bool) (p : Option ℕ) (es : Trees) (ms : Members)
+    → unites ds es ≡ true → I (node (resolved rs (unmarked has (joined_with ds (joined_value ds (suc n)) whole p (conjunction es))))) (object ms)
+    ≡ list_any (λ a. alternative_reads has (λ q y e. I (node (resolved rs (unmarked has (joined_value ds (suc n) q e)))) y) a (entries ms))
+    (united ds p es)

@@ -22,7 +22,7 @@ use Rattle.cs_tool.specs.First.{IsMisspelledIn, SpellingRefusal}
 use Rattle.cs_tool.specs.declared.fault.Fault.{Fault}
 use Rattle.cs_tool.specs.declared.fault.Fault.TheVariants.{SourcesTooLong, NotUtf8, NoToken, Syntax, LeftOut, IntegerRange, TooHigh, PackageName, UnknownName, FieldReference, NotOpened, Cycle, TooLarge, OutOfMemory, ChainTooLong}
 use Rattle.cs_widen.specs.Meant.{IsMeantIn}
-use Rattle.cs_widen.specs.Stands.{AreMeant}
+use Rattle.cs_widen.specs.Stands.{AreMeantIn}
 
 -- what can't be embedded, or would be opened by an embedding, is a literal that isn't opened
 abbrev pub of_embedding : EmbeddingFault → Fault
@@ -38,20 +38,20 @@ abbrev pub of_mark : DefaultFault → Fault
 of_mark marks.OutOfMemory = OutOfMemory
 of_mark (marks.Mark file offset) = LeftOut file offset
 
--- the sources spell files in the profile, and that is why these don't stand for files without embeddings
-pub record IsEmbeddingRefusal (p : Profile) (sources : List (List ℕ)) (f : Fault) : Type 0 where
+-- the sources spell files in the wide profile, and that is why these don't stand for files without embeddings
+pub record IsEmbeddingRefusal (sources : List (List ℕ)) (f : Fault) : Type 0 where
   pub texts : AreTexts sources
   pub files : List FileTree
-  pub spelled : AreFilesIn p sources files
+  pub spelled : AreFilesIn profiles.Wide sources files
   pub fault : EmbeddingFault
   pub refused : embeddings.IsRefusal fault files
   pub told : f ≡ of_embedding fault
 
 -- they stand for files without embeddings, and that is the first mark at fault in these
-pub record IsMarkRefusal (p : Profile) (sources : List (List ℕ)) (f : Fault) : Type 0 where
+pub record IsMarkRefusal (sources : List (List ℕ)) (f : Fault) : Type 0 where
   pub texts : AreTexts sources
   pub files : List FileTree
-  pub spelled : AreFilesIn p sources files
+  pub spelled : AreFilesIn profiles.Wide sources files
   pub joined : List FileTree
   pub are_joined : IsJoined files joined
   pub fault : DefaultFault
@@ -64,7 +64,7 @@ pub record IsNoPackageIn (p : Profile) (sources : List (List ℕ)) (f : Fault) :
   pub files : List FileTree
   pub spelled : AreFilesIn p sources files
   pub meant : List FileTree
-  pub stand_for : AreMeant files meant
+  pub stand_for : AreMeantIn p files meant
   pub fault : ResolveFault
   pub refused : resolve.IsRefusal fault meant
   pub told : f ≡ of_resolve fault
@@ -75,12 +75,17 @@ pub record IsUnguardedIn (p : Profile) (sources : List (List ℕ)) (f : Fault) :
   pub files : List FileTree
   pub spelled : AreFilesIn p sources files
   pub meant : List FileTree
-  pub stand_for : AreMeant files meant
+  pub stand_for : AreMeantIn p files meant
   pub environment : Environment
   pub one_package : IsPackage meant environment
   pub fault : GuardFault
   pub refused : guard.IsRefusal fault environment
   pub told : f ≡ of_guard fault
+
+-- what the wide profile alone refuses: in the default one sources stand for themselves
+abbrev pub OfWide : Profile → Type 0 → Type 0
+OfWide profiles.Default X = ⊥
+OfWide profiles.Wide X = X
 
 -- the refusals of sources in a profile
 abbrev pub RefusalIn : Profile → List (List ℕ) → Fault → Type 0
@@ -90,13 +95,13 @@ RefusalIn p sources (NotUtf8 number) = SpellingRefusal p sources (NotUtf8 number
 RefusalIn p sources (NoToken number offset) = SpellingRefusal p sources (NoToken number offset)
 RefusalIn p sources (Syntax number offset) = SpellingRefusal p sources (Syntax number offset)
 RefusalIn p sources (IntegerRange number offset) = SpellingRefusal p sources (IntegerRange number offset)
-RefusalIn p sources (TooHigh number) = SpellingRefusal p sources (TooHigh number) ⊎ IsEmbeddingRefusal p sources (TooHigh number)
-RefusalIn p sources (LeftOut number offset) = IsMisspelledIn p sources (LeftOut number offset) ⊎ IsMarkRefusal p sources (LeftOut number offset)
+RefusalIn p sources (TooHigh number) = SpellingRefusal p sources (TooHigh number) ⊎ OfWide p (IsEmbeddingRefusal sources (TooHigh number))
+RefusalIn p sources (LeftOut number offset) = IsMisspelledIn p sources (LeftOut number offset) ⊎ OfWide p (IsMarkRefusal sources (LeftOut number offset))
 RefusalIn p sources (PackageName number) = IsNoPackageIn p sources (PackageName number)
-RefusalIn p sources (TooLarge definitions) = IsEmbeddingRefusal p sources (TooLarge definitions) ⊎ IsNoPackageIn p sources (TooLarge definitions)
-RefusalIn p sources (UnknownName number offset) = IsEmbeddingRefusal p sources (UnknownName number offset) ⊎ IsNoPackageIn p sources (UnknownName number offset)
+RefusalIn p sources (TooLarge definitions) = OfWide p (IsEmbeddingRefusal sources (TooLarge definitions)) ⊎ IsNoPackageIn p sources (TooLarge definitions)
+RefusalIn p sources (UnknownName number offset) = OfWide p (IsEmbeddingRefusal sources (UnknownName number offset)) ⊎ IsNoPackageIn p sources (UnknownName number offset)
 RefusalIn p sources (FieldReference number offset) = IsNoPackageIn p sources (FieldReference number offset)
-RefusalIn p sources (NotOpened number offset) = IsEmbeddingRefusal p sources (NotOpened number offset) ⊎ IsNoPackageIn p sources (NotOpened number offset)
+RefusalIn p sources (NotOpened number offset) = OfWide p (IsEmbeddingRefusal sources (NotOpened number offset)) ⊎ IsNoPackageIn p sources (NotOpened number offset)
 RefusalIn p sources (Cycle names) = IsUnguardedIn p sources (Cycle names)
 RefusalIn p sources (ChainTooLong names) = IsUnguardedIn p sources (ChainTooLong names)
 RefusalIn p sources _ = ⊥

@@ -7,7 +7,6 @@ ghost use Rattle.cs_widen.specs.Calls.{Means, IsExportIn, IsVerdictIn, RefusesIn
 ghost use Rattle.cs_widen.specs.Meant.{DeclaresRootIn};
 ghost use Rattle.cs_widen.specs.Refused.{MeansTooMuchAs};
 
-use crate::laws::default_files_are_meant;
 use crate::standing::stands_for_in;
 use cs_syntax::Profile;
 use cs_tool::{Fault, agree, export, vet};
@@ -30,7 +29,6 @@ pub fn export_in(
     ensures only { DeclaresRootIn profile (bytes_in sources.now) root.now
         → IfErr result (λ e. (e ≡ Fault.OutOfMemory) ⊎ MeansTooMuchAs e (bytes_in sources.now)) }
 {
-    default_files_are_meant(); // for the proof: what they spell stands for itself
     match stands_for_in(alloc, profile, sources)? {
         Some(meant) => export(alloc, &[meant.as_bytes()], root),
         None => export(alloc, sources, root),
@@ -55,7 +53,6 @@ pub fn vet_in(
     ensures only { IsReadyToVetIn profile (bytes_in sources.now) root.now doc.now
         → IfErr result (λ e. (e ≡ Fault.OutOfMemory) ⊎ MeansTooMuchAs e (bytes_in sources.now)) }
 {
-    default_files_are_meant(); // for the proof: what they spell stands for itself
     match stands_for_in(alloc, profile, sources)? {
         Some(meant) => vet(alloc, &[meant.as_bytes()], root, doc),
         None => vet(alloc, sources, root, doc),
@@ -80,7 +77,6 @@ pub fn agree_in(
     ensures only { IsReadyToAgreeIn profile (bytes_in sources.now) root.now doc.now
         → IfErr result (λ e. (e ≡ Fault.OutOfMemory) ⊎ MeansTooMuchAs e (bytes_in sources.now)) }
 {
-    default_files_are_meant(); // for the proof: what they spell stands for itself
     match stands_for_in(alloc, profile, sources)? {
         Some(meant) => agree(alloc, &[meant.as_bytes()], root, doc),
         None => agree(alloc, sources, root, doc),

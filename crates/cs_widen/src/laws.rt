@@ -5,10 +5,11 @@ ghost use Rattle.cs_instance.specs.Instance.{Rule, IsInstance};
 ghost use Rattle.cs_grammar.specs.Tree.{FileTree};
 ghost use Rattle.cs_grammar.specs.declared.profile.Profile.TheVariants as profiles;
 ghost use Rattle.cs_package.specs.Environment.{Environment};
+ghost use Rattle.cs_resolve.specs.Resolved.{IsPackage};
 ghost use Rattle.cs_tool.specs.Accepted.{AreFiles, IsAccepted};
 ghost use Rattle.cs_widen.specs.Accepted.{IsAcceptedIn};
 ghost use Rattle.cs_widen.specs.Direct.{AreReadDirectly};
-ghost use Rattle.cs_widen.specs.Embedding.{AreEmbeddingsReadDirectly};
+ghost use Rattle.cs_widen.specs.Embedding.{AreEmbeddingsReadDirectly, AreUnionsReadDirectly};
 ghost use Rattle.cs_widen.specs.Stands.{AreMeant};
 
 /// A law: a map is an instance of what a struct literal with defaults stands for exactly where each key that is missing is that of a field
@@ -24,12 +25,19 @@ pub fn embeddings_are_read_directly()
     ensures { (E : Environment) (I : Rule → Document → Bool) → IsInstance E I → AreEmbeddingsReadDirectly I }
 {}
 
-/// A law: the files that sources of the default profile spell stand for themselves.
-pub(crate) fn default_files_are_meant()
-    ensures { (sources : List (List ℕ)) (fs : List FileTree) → AreFiles sources fs → AreMeant fs fs }
+/// A law: a map is an instance of what operands of `&` that are put together stand for exactly where for some choice of an alternative of each
+/// of them each declaration is met, as it is written, and each key is one of theirs or one of them is opened.
+pub fn unions_are_read_directly()
+    ensures { (E : Environment) (I : Rule → Document → Bool) → IsInstance E I → AreUnionsReadDirectly I }
+{}
+
+/// A law: files that sources of the default profile spell, and that are a package, stand for themselves in the wide profile.
+pub(crate) fn default_packages_are_meant()
+    ensures { (sources : List (List ℕ)) (fs : List FileTree) (E : Environment)
+        → AreFiles sources fs → IsPackage fs E → AreMeant fs fs }
 {
-    cs_syntax::default_files_have_default_forms(); // for the proof: no form of the wide profile stands in what they spell
-    cs_embeddings::default_files_have_no_embeddings(); // for the proof: so nothing is embedded
+    cs_syntax::default_files_have_default_forms(); // for the proof: nothing is embedded in them
+    cs_print::spelled_files_are_written(); // for the proof: `&` has two operands, which no rule lets be put together
     cs_defaults::default_files_stay(); // for the proof: and nothing is marked
 }
 
@@ -41,6 +49,6 @@ pub fn wide_law()
     ensures wide { (sources : List (List ℕ)) (E : Environment)
         → IsAccepted sources E → IsAcceptedIn profiles.Wide sources E }
 {
-    default_files_are_meant(); // for the proof: what they spell stands for itself
+    default_packages_are_meant(); // for the proof: they stand for themselves there
     cs_syntax::wide_reads_the_default(); // for the proof: the wide profile reads them as the default one
 }

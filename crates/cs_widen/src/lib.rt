@@ -8,6 +8,8 @@ mod standing;
 
 pub use calls::{agree_in, export_in, vet_in};
 pub use cs_syntax::Profile;
-pub use laws::{defaults_are_read_directly, embeddings_are_read_directly, wide_law};
+pub use laws::{
+    defaults_are_read_directly, embeddings_are_read_directly, unions_are_read_directly, wide_law,
+};
 pub use source::{widen, widen_in};
 pub use standing::{stands_for, stands_for_in};

@@ -1,6 +1,7 @@
 // The source of one file that sources stand for.
 ghost use Rattle.std.specs.Prelude.{◌≡◌, [], map, IfOk, IfErr, IsOkUnless, string_bytes};
 ghost use Rattle.cs_grammar.specs.View.{file_view};
+ghost use Rattle.cs_grammar.specs.declared.profile.Profile.TheVariants as profiles;
 ghost use Rattle.cs_package.specs.Environment.{Environment};
 ghost use Rattle.cs_defaults.specs.declared.fault.DefaultFault.{DefaultFault};
 ghost use Rattle.cs_defaults.specs.Widened as defaults;
@@ -16,7 +17,6 @@ ghost use Rattle.cs_widen.specs.Meant.{IsMeant, IsMeantIn};
 ghost use Rattle.cs_widen.specs.Refused.{RefusalIn, of_embedding, of_mark};
 ghost use Rattle.cs_widen.specs.Stands.{AreMeantBy};
 
-use crate::laws::default_files_are_meant;
 use cs_defaults::{DefaultFault, without_marks};
 use cs_embeddings::{EmbeddingFault, without_embeddings};
 use cs_guard::guard;
@@ -35,7 +35,6 @@ pub fn widen(alloc: Global, sources: &[&[u8]]) -> Result<String, Fault>
         → IsAccepted (bytes_in sources.now) E → IsOkUnless result Fault.OutOfMemory }
 {
     accepted_package(alloc, sources)?;
-    default_files_are_meant(); // for the proof: what they spell stands for itself
     widen_in(alloc, Profile::Default, sources)
 }
 
@@ -57,6 +56,7 @@ pub fn widen_in(alloc: Global, profile: Profile, sources: &[&[u8]]) -> Result<St
     cs_print::printed_sources_are_read(); // for the proof: what is printed keeps the limits
     cs_embeddings::joined_files_can_be_written(); // for the proof: what has no embeddings can be printed
     cs_defaults::unmarked_files_are_no_higher(); // for the proof: what is printed keeps the limits
+    cs_syntax::default_files_have_default_forms(); // for the proof: what the default profile spells can be printed
     cs_defaults::unmarked_files_have_default_forms(); // for the proof: what is meant can be printed
     cs_defaults::unmarked_files_can_be_written(); // for the proof: what is meant can be printed
     let source = source_of(alloc, &meant)?;
@@ -65,14 +65,38 @@ pub fn widen_in(alloc: Global, profile: Profile, sources: &[&[u8]]) -> Result<St
     Ok(source)
 }
 
-/// The files that sources stand for in a profile: those that they spell, first without embeddings and then without marks of defaults.
+/// The files that sources stand for in a profile: those that they spell, in the wide one first without embeddings and then without marks of
+/// defaults.
 fn files_meant_by(alloc: Global, profile: Profile, sources: &[&[u8]]) -> Result<Vec<File>, Fault>
     ensures found { IfOk result (λ v. AreMeantBy profile (bytes_in sources.now) (map file_view v.items)) }
     ensures refused { IfErr result (λ e. RefusalIn profile (bytes_in sources.now) e) }
     ensures only { (E : Environment)
         → IsAcceptedIn profile (bytes_in sources.now) E → IsOkUnless result Fault.OutOfMemory }
 {
-    let spelled = spelled_files(alloc, profile, sources)?;
+    match profile {
+        Profile::Default => default_files(alloc, sources),
+        Profile::Wide => wide_files(alloc, sources),
+    }
+}
+
+/// Those that sources spell in the default profile.
+fn default_files(alloc: Global, sources: &[&[u8]]) -> Result<Vec<File>, Fault>
+    ensures found { IfOk result (λ v. AreMeantBy profiles.Default (bytes_in sources.now) (map file_view v.items)) }
+    ensures refused { IfErr result (λ e. RefusalIn profiles.Default (bytes_in sources.now) e) }
+    ensures only { (E : Environment)
+        → IsAcceptedIn profiles.Default (bytes_in sources.now) E → IsOkUnless result Fault.OutOfMemory }
+{
+    spelled_files(alloc, Profile::Default, sources)
+}
+
+/// Those that sources stand for in the wide profile.
+fn wide_files(alloc: Global, sources: &[&[u8]]) -> Result<Vec<File>, Fault>
+    ensures found { IfOk result (λ v. AreMeantBy profiles.Wide (bytes_in sources.now) (map file_view v.items)) }
+    ensures refused { IfErr result (λ e. RefusalIn profiles.Wide (bytes_in sources.now) e) }
+    ensures only { (E : Environment)
+        → IsAcceptedIn profiles.Wide (bytes_in sources.now) E → IsOkUnless result Fault.OutOfMemory }
+{
+    let spelled = spelled_files(alloc, Profile::Wide, sources)?;
     let joined = joined_files(alloc, &spelled)?;
     meant_files(alloc, &joined)
 }

@@ -8,7 +8,7 @@ ghost use Rattle.cs_widen.specs.Accepted.{IsAcceptedIn};
 ghost use Rattle.cs_widen.specs.Meant.{StandFor, StandForIn};
 ghost use Rattle.cs_widen.specs.Refused.{MeantRefusal, MeantRefusalIn, MeansTooMuchAs};
 
-use crate::laws::default_files_are_meant;
+use crate::laws::default_packages_are_meant;
 use crate::source::widen_in;
 use cs_syntax::Profile;
 use cs_tool::{Fault, MOST_BYTES, accepted_package};
@@ -25,7 +25,7 @@ pub fn stands_for(alloc: Global, sources: &[&[u8]]) -> Result<Option<String>, Fa
     ensures only { (E : Environment) → IsAcceptedIn profiles.Wide (bytes_in sources.now) E
         → IfErr result (λ e. (e ≡ Fault.OutOfMemory) ⊎ MeansTooMuchAs e (bytes_in sources.now)) }
 {
-    default_files_are_meant(); // for the proof: what they spell stands for itself
+    default_packages_are_meant(); // for the proof: what is accepted stands for itself
     cs_syntax::wide_reads_the_default(); // for the proof: the wide profile reads them as the default one
     match accepted_package(alloc, sources) {
         Ok(_) => return Ok(None),

@@ -4,6 +4,7 @@ use crate::sources::reading::place_of;
 use cs_place::Named;
 use cs_sources::{Source, is_mark, separates};
 use cs_tool::Fault;
+use cs_widen::Profile;
 use std::alloc::{AllocError, Global};
 use std::collections::BTreeSet;
 
@@ -15,13 +16,17 @@ pub(crate) struct Draft<'a> {
 }
 
 impl<'a> Draft<'a> {
-    /// A draft of each source, without mends.
-    pub(crate) fn each(alloc: Global, sources: &[&'a [u8]]) -> Result<Vec<Draft<'a>>, AllocError> {
+    /// A draft of each source of a profile, without mends.
+    pub(crate) fn each(
+        alloc: Global,
+        profile: Profile,
+        sources: &[&'a [u8]],
+    ) -> Result<Vec<Draft<'a>>, AllocError> {
         let mut drafts = Vec::with_capacity(alloc, sources.len())?;
         for (file, text) in sources.iter().enumerate() {
             let (name, line) = ("", 1);
             let named = Named { name, text, line };
-            let source = Source::new(alloc, named, file)?;
+            let source = Source::new(alloc, profile, named, file)?;
             let mends = Vec::new(alloc);
             drafts.push(Draft { source, mends })?;
         }

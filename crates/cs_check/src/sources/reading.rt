@@ -197,7 +197,7 @@ pub(crate) fn further_faults(
         is_loose: false,
     };
     if matches!(first.number(), 3..=7 | 9..=12) {
-        told.tell_further(&mut Draft::each(alloc, sources)?)?;
+        told.tell_further(&mut Draft::each(alloc, profile, sources)?)?;
     }
     let mut rest = told.rest;
     rest.sort_by_key(place_of)?;

@@ -7,7 +7,7 @@ ghost use Rattle.cs_grammar.specs.View.{expr_view, field_view, declaration_view,
 ghost use Rattle.cs_syntax.specs.Left.{left, Reads};
 ghost use Rattle.cs_syntax.specs.Reading.{inner, field_with, fields_with, struct_with, rest_with, end_with, elements_with, list_with};
 ghost use Rattle.cs_syntax.specs.Reading.{declaration_with, declarations_with, wide_struct_with};
-ghost use Rattle.cs_syntax.specs.Reading.{operand_with, amps_with, conj_with, branch_with, bars_with, expr_with, most_depth};
+ghost use Rattle.cs_syntax.specs.Reading.{paren_with, uncalled_with, operand_with, amps_with, conj_with, branch_with, bars_with, expr_with, most_depth};
 
 use crate::parser::kind::kind_of;
 use crate::parser::literal::literal;
@@ -221,6 +221,18 @@ impl Parser<'_, '_> {
         Ok((front, end))
     }
 
+    /// What follows the bracket that opens a parenthesis.
+    #[cycle(parse)]
+    #[tactic(auto, unfolding(crate::specs::Reading::paren_with))]
+    fn paren(&mut self, depth: usize) -> Result<Expr, SyntaxFault>
+        requires { depth ≤ most_depth }
+        ensures { Reads expr_view result self.new (paren_with (inner depth) (left self.old)) }
+    {
+        let kept = self.inside(depth, false)?;
+        self.close_paren()?;
+        Ok(kept)
+    }
+
     /// An operand.
     #[cycle(parse)]
     #[tactic(auto, unfolding(crate::specs::Reading::operand_with))]
@@ -228,14 +240,33 @@ impl Parser<'_, '_> {
         requires { depth ≤ most_depth }
         ensures { Reads expr_view result self.new (operand_with (inner depth) (left self.old)) }
     {
+        if !self.begins_shut() {
+            return self.uncalled(depth);
+        }
+        let at = self.start();
+        self.pass();
+        self.pass();
+        let value = self.paren(depth)?;
+        Ok(Expr::Wide(Wide::Shut {
+            at,
+            value: Box::new(self.alloc, value)?,
+        }))
+    }
+
+    /// An operand without `close`.
+    #[cycle(parse)]
+    #[tactic(auto, unfolding(crate::specs::Reading::uncalled_with))]
+    fn uncalled(&mut self, depth: usize) -> Result<Expr, SyntaxFault>
+        requires { depth ≤ most_depth }
+        ensures { Reads expr_view result self.new (uncalled_with (inner depth) (left self.old)) }
+    {
         let Some(token) = self.peek() else {
             return Err(self.fault());
         };
         match kind_of(&token) {
-            Kind::OpenParen => {
+            Kind::OpenParen | Kind::OpenCall => {
                 self.next += 1;
-                let kept = self.inside(depth, false)?;
-                self.close_paren()?;
+                let kept = self.paren(depth)?;
                 Ok(Expr::Paren(Box::new(self.alloc, kept)?))
             }
             Kind::OpenStruct => {

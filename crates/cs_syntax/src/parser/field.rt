@@ -2,7 +2,7 @@
 
 ghost use Rattle.std.specs.Prelude.{◌≡◌};
 ghost use Rattle.cs_syntax.specs.Left.{left, label_view, head_view, Reads, Skips};
-ghost use Rattle.cs_syntax.specs.Reading.{begins_field, goes_on_label, goes_on_bracket, another_field, another_element, opening, rest_behind, may_end, label_at, mark_at, every_key_at, head_at, opening_at};
+ghost use Rattle.cs_syntax.specs.Reading.{begins_field, goes_on_label, goes_on_bracket, another_field, another_element, opening, rest_behind, may_end, label_at, mark_at, every_key_at, head_at, opening_at, begins_shut};
 
 use crate::parser::kind::kind_of;
 use crate::parser::name::is_reserved;
@@ -37,6 +37,13 @@ impl Parser<'_, '_> {
             Kind::OpenList => self.behind().goes_on_bracket(),
             _ => false,
         }
+    }
+
+    /// Whether `close` and its parenthesis begin here.
+    pub(crate) fn begins_shut(&self) -> bool
+        ensures { result ≡ begins_shut (left self.now) }
+    {
+        self.is_at_close() && self.is_behind(Kind::OpenCall)
     }
 
     /// Passes over a comma that has another field after it.

@@ -23,7 +23,7 @@ use crate::parser::nesting::{MOST_NESTED, is_too_nested};
 use crate::parser::place::{Parser, fault_of};
 use crate::parser::profiles::taken;
 use cs_grammar::{Definition, File, Kind, Profile, SyntaxFault, Token};
-use cs_lexer::lex;
+use cs_lexer::lex_in;
 use std::alloc::Global;
 
 impl Parser<'_, '_> {
@@ -163,7 +163,7 @@ fn file_within(alloc: Global, tokens: &[Token<'_>]) -> Result<File, SyntaxFault>
 /// mark of a default, `*`, before it (CUE, default values).
 ///
 /// # Errors
-/// Those of `lex`. `TooHigh` where the tokens nest deeper than 28, or a body is higher than that.
+/// Those of `lex_in`. `TooHigh` where the tokens nest deeper than 28, or a body is higher than that.
 /// `Syntax` or `LeftOut` where the tokens nest no deeper and spell no file of the profile, at one of them.
 pub fn parse_file_in(alloc: Global, profile: Profile, source: &str) -> Result<File, SyntaxFault>
     // What is answered is spelled by the tokens of the source, as the profile takes them, within the limits.
@@ -175,7 +175,7 @@ pub fn parse_file_in(alloc: Global, profile: Profile, source: &str) -> Result<Fi
     // file of the profile, of whatever height, and the place of one of them, or that it is too high.
     ensures refused { IfErr result (λ f. IsFileRefusalIn profile source.now f) }
 {
-    let tokens = lex(alloc, source)?;
+    let tokens = lex_in(alloc, profile, source)?;
     file_within(alloc, &taken(profile, tokens))
 }
 

@@ -32,7 +32,7 @@ fn is_low(expr: &Expr, limit: usize) -> bool
     }
 }
 
-/// A mark is no level, and a literal with embeddings is one.
+/// A mark is no level, and a literal with embeddings and `close` are one.
 #[cycle(height)]
 fn is_low_wide(wide: &Wide, limit: usize) -> bool
     ensures { result ≡ nat_le (height_wide (wide_view wide.now)) limit }
@@ -42,6 +42,7 @@ fn is_low_wide(wide: &Wide, limit: usize) -> bool
         Wide::Merged { declarations, .. } => {
             limit > 0 && are_low_declarations(declarations, limit - 1)
         }
+        Wide::Shut { value, .. } => limit > 0 && is_low(value, limit - 1),
     }
 }
 

@@ -3,9 +3,9 @@
 ghost use Rattle.std.specs.Prelude.{◌≡◌};
 ghost use Rattle.cs_grammar.specs.View.{lexeme_view};
 ghost use Rattle.cs_grammar.specs.TokenWords.{mark_kind, wide_kind, kind_of, word};
-ghost use Rattle.cs_syntax.specs.Reading.{names_string};
+ghost use Rattle.cs_syntax.specs.Reading.{names_string, names_close};
 
-use crate::parser::name::is_string;
+use crate::parser::name::{is_close, is_string};
 use cs_grammar::{Kind, Sort, Token};
 
 /// What a mark is for the grammar.
@@ -43,6 +43,7 @@ fn wide_kind(text: &str) -> Kind
 {
     match text {
         "{" => Kind::OpenWide,
+        "(" => Kind::OpenCall,
         _ => Kind::LeftOut,
     }
 }
@@ -72,4 +73,11 @@ pub(crate) fn names_string(token: &Token<'_>) -> bool
     ensures { result ≡ names_string (word (lexeme_view token.now)) }
 {
     kind_of(token) == Kind::Name && is_string(token.text)
+}
+
+/// Whether a token is the name `close`.
+pub(crate) fn names_close(token: &Token<'_>) -> bool
+    ensures { result ≡ names_close (word (lexeme_view token.now)) }
+{
+    kind_of(token) == Kind::Name && is_close(token.text)
 }

@@ -2,7 +2,7 @@
 
 ghost use Rattle.std.specs.Prelude.{◌≡◌};
 ghost use Rattle.cs_grammar.specs.TokenWords.{bare_name};
-ghost use Rattle.cs_grammar.specs.Spells.{is_reserved, is_package, is_string};
+ghost use Rattle.cs_grammar.specs.Spells.{is_reserved, is_package, is_string, is_close};
 
 /// Whether a name can't be an operand.
 pub(crate) fn is_reserved(text: &str) -> bool
@@ -23,6 +23,13 @@ pub(crate) fn is_string(text: &str) -> bool
     ensures { result ≡ is_string text.now }
 {
     text == "string"
+}
+
+/// Whether a name is the builtin function that closes a struct.
+pub(crate) fn is_close(text: &str) -> bool
+    ensures { result ≡ is_close text.now }
+{
+    text == "close"
 }
 
 /// The name of a definition without its `#`.

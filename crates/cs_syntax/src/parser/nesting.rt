@@ -96,7 +96,8 @@ impl NestingState {
         ensures { OnOk result (levels_of self.new ≡ levels_next before kind (levels_of self.old)) }
     {
         match kind {
-            Kind::OpenStruct | Kind::OpenWide | Kind::OpenList | Kind::OpenParen => self.open()?,
+            Kind::OpenStruct | Kind::OpenWide | Kind::OpenList | Kind::OpenParen | Kind::OpenCall =>
+                self.open()?,
             Kind::CloseStruct | Kind::CloseList | Kind::CloseParen => self.close(),
             Kind::Comma | Kind::Inserted => self.nested = self.level,
             Kind::Colon => self.nested += short_colon(before),

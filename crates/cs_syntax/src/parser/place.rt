@@ -6,9 +6,9 @@ ghost use Rattle.cs_grammar.specs.TokenWords.{word};
 ghost use Rattle.cs_lexer.specs.Quoted.{are_quoted};
 ghost use Rattle.cs_grammar.specs.Spells.{start_at};
 ghost use Rattle.cs_syntax.specs.Place.{is_left_out_name, fault_of};
-ghost use Rattle.cs_syntax.specs.Reading.{fault_at, after, expected, begins_with, behind_if, after_comma, comma_at, close_at, paren_end, begins_string, string_at};
+ghost use Rattle.cs_syntax.specs.Reading.{fault_at, after, expected, begins_with, behind_if, after_comma, comma_at, close_at, paren_end, begins_string, string_at, begins_close};
 
-use crate::parser::kind::{kind_of, names_string};
+use crate::parser::kind::{kind_of, names_close, names_string};
 use cs_grammar::{Kind, SyntaxFault, Token};
 use std::alloc::Global;
 
@@ -147,6 +147,13 @@ impl<'t, 'a> Parser<'t, 'a> {
         }
     }
 
+    /// Passes over the next token, if there is one.
+    pub(crate) fn pass(&mut self)
+        ensures { left self.new ≡ drop 1 (left self.old) }
+    {
+        self.next += usize::from(self.peek().is_some());
+    }
+
     /// Whether the next token is the name `string`.
     pub(crate) fn is_at_string(&self) -> bool
         ensures { result ≡ begins_string (left self.now) }
@@ -154,6 +161,16 @@ impl<'t, 'a> Parser<'t, 'a> {
         match self.peek() {
             None => false,
             Some(token) => names_string(&token),
+        }
+    }
+
+    /// Whether the next token is the name `close`.
+    pub(crate) fn is_at_close(&self) -> bool
+        ensures { result ≡ begins_close (left self.now) }
+    {
+        match self.peek() {
+            None => false,
+            Some(token) => names_close(&token),
         }
     }
 

@@ -11,13 +11,14 @@ ghost use Rattle.cs_syntax.specs.Answer.{IsSpelled, IsSpelledIn};
 
 use cs_grammar::{Profile, Sort, Token};
 
-/// The sort of a token in the wide profile: `*` is a mark of the grammar, and `{` opens a literal that may have embeddings.
+/// The sort of a token in the wide profile: `*` is a mark of the grammar, `{` opens a literal that may have embeddings, and
+/// `(` may stand behind `close`.
 fn wide_sort(sort: Sort, text: &str) -> Sort
     ensures { result ≡ wide_sort sort text.now }
 {
     match (sort, text) {
         (Sort::LeftOut, "*") => Sort::Mark,
-        (Sort::Mark, "{") => Sort::Wide,
+        (Sort::Mark, "{" | "(") => Sort::Wide,
         _ => sort,
     }
 }

@@ -14,13 +14,11 @@ pub returns : goal.returns
 returns c =
     let fs = map file_view c.args.files.now in let ds = all_definitions fs in
     let tells = c.in_ok-bodies.ensures in
-    let flawless = c.in_ok-check_files.ensures ds (record {
-      bodies = tells;
-      steps = c.in_ok-embeddable.ensures.tells ds tells;
-      same = subst (λ b. TellsBodies b ds) (sym c.in_ok-embeddable.ensures.same) tells;
-    }) in
+    let steps = c.in_ok-embeddable.ensures.tells ds tells in
+    let same = subst (λ b. TellsBodies b ds) (sym c.in_ok-embeddable.ensures.same) tells in
+    let flawless = c.in_ok-check_files.ensures ds (record { bodies = tells; steps = steps; same = same }) in
     let well = flawless_files fs flawless in
-    let made = c.joined_files.ensures ds tells well (bodies_of_files (λ d. embeds_well (can_be_embedded ds most_steps) (body d) ≡ true) fs well) in
+    let made = c.joined_files.ensures ds (record { bodies = same; steps = steps }) well (bodies_of_files (λ d. embeds_well (can_be_embedded ds most_steps) (body d) ≡ true) fs well) in
     let r = c.joined_files.result in
     record {
       found = found_of fs flawless r made;

@@ -35,9 +35,8 @@ returns-in-None-clause-found c =
     let p = c.args.profile in
     let ss = bytes_in c.args.sources.now in
     let stand = subst (λ s. StandForIn p ss s) (ap (option_map string_bytes) c.in-None.is) c.in_ok-meant.ensures.found in
-    let law = c.default_files_are_meant.ensures in
     IfOk-weaker c.agree-in-None.result (λ (b : Bool). IsAgreement ss c.args.root.now c.args.doc.now b) (λ (b : Bool). Means p ss (λ judged. IsAgreement judged c.args.root.now c.args.doc.now b))
-    (λ b x. (ss, by_themselves law p ss stand x.verdict.environment x.verdict.declares.accepted, x)) c.agree-in-None.ensures.found
+    (λ b x. (ss, by_themselves p ss stand x.verdict.environment x.verdict.declares.accepted, x)) c.agree-in-None.ensures.found
 
 pub returns-in-None-clause-refused : goal.returns-in-None-clause-refused
 returns-in-None-clause-refused c =
@@ -66,5 +65,5 @@ returns-in-None-clause-only c = λ r.
     let p = c.args.profile in
     let ss = bytes_in c.args.sources.now in
     let stand = subst (λ s. StandForIn p ss s) (ap (option_map string_bytes) c.in-None.is) c.in_ok-meant.ensures.found in
-    let declare = declare_themselves c.default_files_are_meant.ensures p ss stand r.vetted.environment r.vetted.accepted in
+    let declare = declare_themselves p ss stand r.vetted.environment r.vetted.accepted in
     memory_alone ss c.agree-in-None.result (c.agree-in-None.ensures.only (ready_to_agree p ss ss declare c.args.root.now c.args.doc.now r))

@@ -50,9 +50,8 @@ returns-in-None-clause-found c =
     let p = c.args.profile in
     let ss = bytes_in c.args.sources.now in
     let stand = subst (λ s. StandForIn p ss s) (ap (option_map string_bytes) c.in-None.is) c.in_ok-meant.ensures.found in
-    let law = c.default_files_are_meant.ensures in
     IfOk-weaker c.export-in-None.result (λ (t : Vec ℕ Global). IsExport ss c.args.root.now t.items) (λ (t : Vec ℕ Global). IsExportIn p ss c.args.root.now t.items)
-    (λ t x. exported p ss ss (by_themselves law p ss stand x.environment x.declares.accepted) c.args.root.now t.items x) c.export-in-None.ensures.found
+    (λ t x. exported p ss ss (by_themselves p ss stand x.environment x.declares.accepted) c.args.root.now t.items x) c.export-in-None.ensures.found
 
 pub returns-in-None-clause-refused : goal.returns-in-None-clause-refused
 returns-in-None-clause-refused c =
@@ -67,5 +66,4 @@ returns-in-None-clause-only c = λ d.
     let p = c.args.profile in
     let ss = bytes_in c.args.sources.now in
     let stand = subst (λ s. StandForIn p ss s) (ap (option_map string_bytes) c.in-None.is) c.in_ok-meant.ensures.found in
-    let law = c.default_files_are_meant.ensures in
-    memory_alone ss c.export-in-None.result (c.export-in-None.ensures.only (ready_themselves law p ss stand c.args.root.now d))
+    memory_alone ss c.export-in-None.result (c.export-in-None.ensures.only (ready_themselves p ss stand c.args.root.now d))

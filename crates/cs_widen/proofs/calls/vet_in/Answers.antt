@@ -35,10 +35,9 @@ returns-in-None-clause-found c =
     let p = c.args.profile in
     let ss = bytes_in c.args.sources.now in
     let stand = subst (λ s. StandForIn p ss s) (ap (option_map string_bytes) c.in-None.is) c.in_ok-meant.ensures.found in
-    let law = c.default_files_are_meant.ensures in
     IfOk-weaker c.vet-in-None.result (λ (b : Bool). IsVerdict ss c.args.root.now c.args.doc.now b) (λ (b : Bool). IsVerdictIn p ss c.args.root.now c.args.doc.now b)
     (λ b x.
-    let declare = by_themselves law p ss stand x.environment x.declares.accepted in
+    let declare = by_themselves p ss stand x.environment x.declares.accepted in
     judged_in p ss ss declare c.args.root.now c.args.doc.now b x) c.vet-in-None.ensures.found
 
 pub returns-in-None-clause-refused : goal.returns-in-None-clause-refused
@@ -68,5 +67,5 @@ returns-in-None-clause-only c = λ r.
     let p = c.args.profile in
     let ss = bytes_in c.args.sources.now in
     let stand = subst (λ s. StandForIn p ss s) (ap (option_map string_bytes) c.in-None.is) c.in_ok-meant.ensures.found in
-    let declare = declare_themselves c.default_files_are_meant.ensures p ss stand r.environment r.accepted in
+    let declare = declare_themselves p ss stand r.environment r.accepted in
     memory_alone ss c.vet-in-None.result (c.vet-in-None.ensures.only (ready_to_vet p ss ss declare c.args.root.now c.args.doc.now r))

@@ -9,13 +9,13 @@ use Rattle.cs_tool.specs.Given.{bytes_in}
 use Rattle.cs_tool.specs.declared.fault.Fault.{Fault}
 use Rattle.cs_tool.specs.declared.fault.Fault.TheVariants.{OutOfMemory}
 use Rattle.cs_widen.specs.Meant.{IsMeant, IsMeantIn}
-use Rattle.cs_widen.proofs.Default.{StandForThemselves, accepted_in_default, meant_in_default}
+use Rattle.cs_widen.proofs.Default.{accepted_in_default, meant_in_default}
 use Rattle.cs_widen.proofs.source.widen.Goals as goal
 
-found : {S : Type 0} (bytes : S → List ℕ) (ss : List (List ℕ)) → StandForThemselves → (E : Environment) → IsAccepted ss E → (r : Result S Fault)
+found : {S : Type 0} (bytes : S → List ℕ) (ss : List (List ℕ)) → (E : Environment) → IsAccepted ss E → (r : Result S Fault)
     → IfOk r (λ s. IsMeantIn profiles.Default ss (bytes s)) → IfOk r (λ s. IsMeant ss (bytes s))
-found bytes ss law E accepted (Ok s) h = meant_in_default law ss (bytes s) E accepted h
-found bytes ss law E accepted (Err e) h = tt
+found bytes ss E accepted (Ok s) h = meant_in_default ss (bytes s) E accepted h
+found bytes ss E accepted (Err e) h = tt
 
 by_memory : {S : Type 0} (ss : List (List ℕ)) (r : Result S Fault) → IsOkUnless r OutOfMemory → IfErr r (λ e. SourcesRefusal ss e)
 by_memory ss (Ok s) h = tt
@@ -28,17 +28,17 @@ returns-in_err-accepted_package-clause-only c = λ E accepted.
 
 pub returns-clause-found : goal.returns-clause-found
 returns-clause-found c =
-    found string_bytes (bytes_in c.args.sources.now) c.default_files_are_meant.ensures
+    found string_bytes (bytes_in c.args.sources.now)
     _ c.in_ok-accepted_package.ensures.accepted c.widen_in.result c.widen_in.ensures.found
 
 pub returns-clause-refused : goal.returns-clause-refused
 returns-clause-refused c =
     let ss = bytes_in c.args.sources.now in
     let E = c.in_ok-accepted_package.field-0 in
-    let accepted = accepted_in_default c.default_files_are_meant.ensures ss E c.in_ok-accepted_package.ensures.accepted in
+    let accepted = accepted_in_default ss E c.in_ok-accepted_package.ensures.accepted in
     by_memory ss c.widen_in.result (c.widen_in.ensures.only E accepted)
 
 pub returns-clause-only : goal.returns-clause-only
 returns-clause-only c = λ E accepted.
     let ss = bytes_in c.args.sources.now in
-    c.widen_in.ensures.only E (accepted_in_default c.default_files_are_meant.ensures ss E accepted)
+    c.widen_in.ensures.only E (accepted_in_default ss E accepted)

@@ -21,27 +21,29 @@ pub source_of-requires-clause-written : goal.source_of-requires-clause-written
 source_of-requires-clause-written c =
     let gs = map file_view c.in_ok-meant.meant.items in
     let m = c.in_ok-meant.ensures.found in
-    let written = meant_written m.files gs m.stand_for c.args.profile (bytes_in c.args.sources.now) m.spelled
+    let written = meant_written m.files gs c.args.profile (bytes_in c.args.sources.now) m.spelled m.stand_for
     c.spelled_files_are_written.ensures c.joined_files_can_be_written.ensures c.unmarked_files_can_be_written.ensures in
     subst (λ xs. AllByRecursion IsWrittenFile (map file_view xs)) (sym c.deref.ensures.value) written
 
 pub source_of-requires-clause-default_forms : goal.source_of-requires-clause-default_forms
 source_of-requires-clause-default_forms c =
     let m = c.in_ok-meant.ensures.found in
-    let forms = meant_default m.files (map file_view c.in_ok-meant.meant.items) m.stand_for c.unmarked_files_have_default_forms.ensures in
+    let forms = meant_default m.files (map file_view c.in_ok-meant.meant.items) c.args.profile (bytes_in c.args.sources.now) m.spelled m.stand_for
+    c.default_files_have_default_forms.ensures c.unmarked_files_have_default_forms.ensures in
     subst (λ xs. AllByRecursion IsDefaultFile (map file_view xs)) (sym c.deref.ensures.value) forms
 
 pub resolve_written-requires-clause-written : goal.resolve_written-requires-clause-written
 resolve_written-requires-clause-written c =
     let gs = map file_view c.in_ok-meant.meant.items in
     let m = c.in_ok-meant.ensures.found in
-    meant_written m.files gs m.stand_for c.args.profile (bytes_in c.args.sources.now) m.spelled
+    meant_written m.files gs c.args.profile (bytes_in c.args.sources.now) m.spelled m.stand_for
     c.spelled_files_are_written.ensures c.joined_files_can_be_written.ensures c.unmarked_files_can_be_written.ensures
 
 pub resolve_written-requires-clause-default_forms : goal.resolve_written-requires-clause-default_forms
 resolve_written-requires-clause-default_forms c =
     let m = c.in_ok-meant.ensures.found in
-    meant_default m.files (map file_view c.in_ok-meant.meant.items) m.stand_for c.unmarked_files_have_default_forms.ensures
+    meant_default m.files (map file_view c.in_ok-meant.meant.items) c.args.profile (bytes_in c.args.sources.now) m.spelled m.stand_for
+    c.default_files_have_default_forms.ensures c.unmarked_files_have_default_forms.ensures
 
 pub returns-in_err-resolve_written-clause-refused : goal.returns-in_err-resolve_written-clause-refused
 returns-in_err-resolve_written-clause-refused c =
@@ -90,5 +92,5 @@ returns-clause-found c =
         one_package = c.in_ok-resolve_written.ensures.found;
         guarded = c.in_ok-package.ensures.guarded;
       };
-      read = meant_read m.files gs m.stand_for c.unmarked_files_are_no_higher.ensures c.printed_sources_are_read.ensures s printed;
+      read = meant_read m.files gs c.args.profile (bytes_in c.args.sources.now) m.spelled m.stand_for c.unmarked_files_are_no_higher.ensures c.printed_sources_are_read.ensures s printed;
     }

@@ -9,7 +9,7 @@ use Rattle.cs_widen.proofs.standing.stands_for.Goals as goal
 
 pub returns-in-Ok-clause-found : goal.returns-in-Ok-clause-found
 returns-in-Ok-clause-found c =
-    declare_in_wide c.default_files_are_meant.ensures (bytes_in c.args.sources.now)
+    declare_in_wide (bytes_in c.args.sources.now) c.default_packages_are_meant.ensures
     c.wide_reads_the_default.ensures c.in-Ok.field-0 c.in-Ok.ensures.accepted
 
 pub returns-in_err-source : goal.returns-in_err-source

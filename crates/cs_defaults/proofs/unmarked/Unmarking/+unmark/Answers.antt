@@ -1,11 +1,11 @@
-use Rattle.std.proofs.Common.{rules, ◌≡◌, ℕ, List, [], ◌∷◌, Bool, map, refl, sym, ap, ◌∙◌, subst}
+use Rattle.std.proofs.Common.{rules, ◌≡◌, ℕ, List, [], ◌∷◌, Bool, map, refl, sym, ap, ap₂, ◌∙◌, subst}
 use Rattle.std.proofs.lemmas.List.{take_all}
 use Rattle.std.specs.Result.{IfOk}
 use Rattle.cs_grammar.specs.View.{expr_view, exprs_view, trees_of, fields_of, field_view, fields_view, Seen, wide_view}
-use Rattle.cs_grammar.specs.Tree.{Fields, more, field, wide}
+use Rattle.cs_grammar.specs.Tree.{Fields, more, field, list, wide}
 use Rattle.cs_grammar.specs.declared.ast.Expr.{Expr}
 use Rattle.cs_grammar.specs.declared.ast.Field.{Field}
-use Rattle.cs_grammar.proofs.Views.{view-Wide, view-Marked}
+use Rattle.cs_grammar.proofs.Views.{view-List, view-Wide, view-Marked}
 use Rattle.cs_defaults.specs.Unmarked as Spec
 use Rattle.cs_defaults.specs.Unmarked.{unmarked_each, unmarked_fields}
 use Rattle.cs_defaults.specs.Checks.{unmarked_seen}
@@ -37,6 +37,12 @@ pub unmarked-returns-in-Wide : goal.unmarked-returns-in-Wide
 unmarked-returns-in-Wide t c has tells =
     let is = ap expr_view c.in-Wide.is ∙ view-Wide c.in-Wide.form in
     subst (λ e. IfOk c.unmarked_form.result (λ f. expr_view f ≡ Spec.unmarked has e)) (sym is) (c.unmarked_form.ensures has tells)
+
+pub unmarked-returns-in_ok-end-in-List : goal.unmarked-returns-in_ok-end-in-List
+unmarked-returns-in_ok-end-in-List t c has tells =
+    let is = ap (Spec.unmarked has) (ap expr_view c.in-List.is ∙ view-List c.in-List.front c.in-List.end) in
+    let front = c.in_ok-front-in-List.ensures has tells ∙ ap (λ es. unmarked_each has (exprs_view es)) c.deref-in-List.ensures.value in
+    view-List c.in_ok-front-in-List.front c.in_ok-end-in-List.end ∙ ap₂ list front (c.in_ok-end-in-List.ensures has tells) ∙ sym is
 
 pub unmarked_form-returns-in-Marked : goal.unmarked_form-returns-in-Marked
 unmarked_form-returns-in-Marked t c has tells =

@@ -1,4 +1,4 @@
-use Rattle.std.proofs.Common.{not, sym, ap, ◌∙◌}
+use Rattle.std.proofs.Common.{sym, ◌∙◌}
 use Rattle.cs_grammar.proofs.Views.{view-text}
 use Rattle.cs_embeddings.specs.Views.{brought_view}
 use Rattle.cs_embeddings.proofs.Clashing.{differs_every, differs_some, differs_first, differs_none}
@@ -15,7 +15,7 @@ returns-in-Some c before told =
     let f = c.args.brought.field.now in
     let label = view-text f ∙ sym c.as_str.ensures.value in
     let one = sym c.is_every.ensures ∙ c.if-is_every.false in
-    ap not c.is_same_reference.ensures
+    c.are_apart.ensures
     ∙ differs_first c.args.self.now before told (brought_view c.args.brought) c.as_str.result.now label one c.in-Some.first.now c.if-self.false (sym c.in-Some.ensures.value)
 
 pub returns-in-None : goal.returns-in-None

@@ -1,4 +1,4 @@
-use Rattle.std.proofs.Common.{map, take, sym, subst, refl}
+use Rattle.std.proofs.Common.{map, take, sym, subst}
 use Rattle.std.specs.List.{flat_map}
 use Rattle.cs_grammar.specs.Tree.{definitions}
 use Rattle.cs_grammar.specs.View.{file_view}

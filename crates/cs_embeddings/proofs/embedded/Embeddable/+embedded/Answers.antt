@@ -1,11 +1,9 @@
-use Rattle.std.proofs.Common.{rules, ◌≡◌, ℕ, suc, ◌+◌, ◌<◌, ◌≤◌, Bool, true, false, ◌&&◌, not, List, map, drop, refl, sym, ap, ◌∙◌, arith}
+use Rattle.std.proofs.Common.{rules, ◌≡◌, suc, ◌≤◌, false, ◌&&◌, not, refl, sym, ap, ◌∙◌, arith}
 use Rattle.cs_grammar.specs.declared.ast.Expr as Exprs
-use Rattle.cs_grammar.specs.Tree.{DefinitionTree}
 use Rattle.cs_grammar.specs.View.{expr_view, exprs_view, fields_view, declarations_view, end_view}
 use Rattle.cs_grammar.proofs.Views.{view-List}
-use Rattle.cs_embeddings.specs.Checks.{TellsBodies, TellsSteps}
 use Rattle.cs_embeddings.specs.Embedded.{can_be_embedded, all_embedded, embeds_well, embed_well, fields_embed_well, declarations_embed_well, end_embeds_well}
-use Rattle.cs_embeddings.proofs.Steps.{can_step, stepped, no_step}
+use Rattle.cs_embeddings.proofs.Steps.{stepped, no_step}
 use Rattle.cs_embeddings.proofs.Walks.{well_more, one_ill, all_well, field_well, field_parts, declaration_well, declaration_parts}
 use Rattle.cs_embeddings.proofs.embedded.Embeddable.+embedded.Goals as goal
 use Rattle.cs_embeddings.proofs.embedded.Embeddable.+embedded.Goals.{declarations_embed_well-in-Field, declarations_embed_well-in-Embedded}
@@ -51,6 +49,20 @@ can_embed-returns-else-has_operand t c ds most told tells low =
     let one : c.args.steps ≡ suc left = omega (arith, c.in-Some.ensures) in
     let less : left ≤ most = omega arith in
     stepped ds c.args.steps left (expr_view c.args.expr.now) c.has_operand.result one (search (rules, Exprs.the_lemmas))
+
+pub can_embed-returns-then-not-some_shut : goal.can_embed-returns-then-not-some_shut
+can_embed-returns-then-not-some_shut t c ds most told tells low =
+    let left = c.in-Some.left in
+    let one : c.args.steps ≡ suc left = omega (arith, c.in-Some.ensures) in
+    let less : left ≤ most = omega arith in
+    let h = c.can_embed_all-then-not-some_shut.ensures ds most told tells less in
+    stepped ds c.args.steps left (expr_view c.args.expr.now) c.can_embed_all-then-not-some_shut.result one (search (rules, Exprs.the_lemmas))
+
+pub can_embed-returns-else-not-some_shut : goal.can_embed-returns-else-not-some_shut
+can_embed-returns-else-not-some_shut t c ds most told tells low =
+    let left = c.in-Some.left in
+    let one : c.args.steps ≡ suc left = omega (arith, c.in-Some.ensures) in
+    stepped ds c.args.steps left (expr_view c.args.expr.now) (not c.some_shut.result) one (search (rules, Exprs.the_lemmas))
 
 pub can_embed-returns-in-Top : goal.can_embed-returns-in-Top
 can_embed-returns-in-Top t c ds most told tells low =
@@ -138,13 +150,6 @@ can_embed-returns-in-Top-12 t c ds most told tells low =
 
 pub can_embed-returns-in-Top-13 : goal.can_embed-returns-in-Top-13
 can_embed-returns-in-Top-13 t c ds most told tells low =
-    let left = c.in-Some.left in
-    let one : c.args.steps ≡ suc left = omega (arith, c.in-Some.ensures) in
-    let less : left ≤ most = omega arith in
-    stepped ds c.args.steps left (expr_view c.args.expr.now) false one (search (rules, Exprs.the_lemmas))
-
-pub can_embed-returns-in-Top-14 : goal.can_embed-returns-in-Top-14
-can_embed-returns-in-Top-14 t c ds most told tells low =
     let left = c.in-Some.left in
     let one : c.args.steps ≡ suc left = omega (arith, c.in-Some.ensures) in
     let less : left ≤ most = omega arith in

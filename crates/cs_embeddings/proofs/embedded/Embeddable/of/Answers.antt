@@ -1,4 +1,4 @@
-use Rattle.std.proofs.Common.{◌≡◌, ℕ, [], refl, sym, ap, ◌∙◌, subst, add-one, arith}
+use Rattle.std.proofs.Common.{◌≡◌, [], refl, sym, ap, ◌∙◌, subst, add-one, arith}
 use Rattle.cs_embeddings.specs.Alternatives.{most_steps}
 use Rattle.cs_embeddings.specs.Checks.{TellsBodies, TellsRounds}
 use Rattle.cs_embeddings.proofs.Steps.{round_none, round_tells}

@@ -1,10 +1,9 @@
-use Rattle.std.proofs.Common.{rules, ◌≡◌, ℕ, ◌+◌, List, [], ◌∷◌, ◌++◌, Some, slice_get, map, drop, Result, Ok, Err, refl, sym, ap, ◌∙◌, subst}
+use Rattle.std.proofs.Common.{rules, ◌≡◌, ◌++◌, refl, ◌∙◌}
 use Rattle.std.proofs.lemmas.Result.{err_from_is_err_and}
 use Rattle.cs_grammar.specs.declared.ast.Expr as Exprs
-use Rattle.cs_grammar.specs.Tree.{DefinitionTree}
 use Rattle.cs_grammar.specs.View.{expr_view, exprs_view, fields_view, declaration_view, declarations_view, end_view}
-use Rattle.cs_embeddings.specs.Checks.{Finds, flaw_view, flaws_seen, TellsEmbeddable}
-use Rattle.cs_embeddings.specs.Flaws.{Flaw, flaws, flaws_here, flaws_each, flaws_fields, flaws_declarations, flaws_end}
+use Rattle.cs_embeddings.specs.Checks.{flaw_view, flaws_seen}
+use Rattle.cs_embeddings.specs.Flaws.{flaws, flaws_here, flaws_each, flaws_fields, flaws_declarations, flaws_end}
 use Rattle.cs_embeddings.proofs.Firsts.{first_left, none_left, first_here, none_more, all_none, field_parts, declaration_parts, finds_as}
 use Rattle.cs_embeddings.proofs.flaws.Flaws.+flaws.Goals as goal
 
@@ -16,6 +15,9 @@ check-returns-in-Struct t c ds tells = finds_as flaw_view c.check_fields.result 
 
 pub check-returns-in-Wide-Marked : goal.check-returns-in-Wide-Marked
 check-returns-in-Wide-Marked t c ds tells = finds_as flaw_view c.check-in-Wide-Marked.result (flaws ds (expr_view c.args.expr.now)) (flaws ds (expr_view c.deref-in-Wide-Marked.result.now)) (search (rules, Exprs.the_lemmas)) (c.check-in-Wide-Marked.ensures ds tells)
+
+pub check-returns-in-Wide-Shut : goal.check-returns-in-Wide-Shut
+check-returns-in-Wide-Shut t c ds tells = finds_as flaw_view c.check-in-Wide-Shut.result (flaws ds (expr_view c.args.expr.now)) (flaws ds (expr_view c.deref-in-Wide-Shut.result.now)) (search (rules, Exprs.the_lemmas)) (c.check-in-Wide-Shut.ensures ds tells)
 
 pub check-returns-in-Wide-Merged : goal.check-returns-in-Wide-Merged
 check-returns-in-Wide-Merged t c ds tells = finds_as flaw_view c.check_declarations.result (flaws ds (expr_view c.args.expr.now)) (flaws_declarations ds (declarations_view c.deref-in-Wide-Merged.result.now)) (search (rules, Exprs.the_lemmas)) (c.check_declarations.ensures ds tells)

@@ -1,4 +1,4 @@
-use Rattle.std.proofs.Common.{rules, ◌≡◌, map, drop, refl, sym, ap, ◌∙◌}
+use Rattle.std.proofs.Common.{map, refl}
 use Rattle.std.proofs.lemmas.Result.{err_from_is_err_and}
 use Rattle.cs_grammar.specs.View.{expr_view, exprs_view}
 use Rattle.cs_embeddings.specs.Flaws.{unknown, unknown_in, unknown_each}

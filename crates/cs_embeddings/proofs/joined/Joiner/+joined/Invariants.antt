@@ -4,7 +4,7 @@ use Rattle.cs_grammar.specs.Tree.{DefinitionTree, wide}
 use Rattle.cs_grammar.specs.View.{expr_view, exprs_view, fields_view, wide_view}
 use Rattle.cs_embeddings.proofs.JoinedParts.{AreJoined, AreFields, AreBrought, AreLiterals}
 use Rattle.cs_embeddings.specs.Alternatives.{most_steps}
-use Rattle.cs_embeddings.specs.Checks.{TellsBodies, AreWell}
+use Rattle.cs_embeddings.specs.Checks.{TellsTables, AreWell}
 use Rattle.cs_embeddings.specs.Clashes.{clashes_value}
 use Rattle.cs_embeddings.specs.Embedded.{can_be_embedded, embed_well, fields_embed_well}
 use Rattle.cs_embeddings.specs.Joined.{joined_value}
@@ -14,16 +14,22 @@ use Rattle.std.specs.List.{AllByRecursion}
 use Rattle.cs_embeddings.proofs.joined.Joiner.+joined.Given as goal
 
 abbrev pub decreases-joined : goal.decreases-joined
-decreases-joined l = 16 * l.room.levels + (8 * count_mark (expr_view l.expr.now) + 4)
+decreases-joined l = 16 * l.room.levels + (8 * count_mark (expr_view l.expr.now) + 5)
 
 abbrev pub decreases-joined_form : goal.decreases-joined_form
-decreases-joined_form l = 16 * l.room.levels + (8 * count_mark (wide (wide_view l.form.now)) + 3)
+decreases-joined_form l = 16 * l.room.levels + (8 * count_mark (wide (wide_view l.form.now)) + 4)
 
 abbrev pub decreases-joined_list : goal.decreases-joined_list
-decreases-joined_list l = 16 * l.room.levels + 3
+decreases-joined_list l = 16 * l.room.levels + 4
 
 abbrev pub decreases-joined_literal : goal.decreases-joined_literal
-decreases-joined_literal l = 16 * l.room.levels + 2
+decreases-joined_literal l = 16 * l.room.levels + 3
+
+abbrev pub decreases-joined_conjunction : goal.decreases-joined_conjunction
+decreases-joined_conjunction l = 16 * l.room.levels + 4
+
+abbrev pub decreases-joined_found : goal.decreases-joined_found
+decreases-joined_found l = 16 * l.room.levels + 2
 
 abbrev pub decreases-joined_alternatives : goal.decreases-joined_alternatives
 decreases-joined_alternatives l = 16 * l.room.levels + 1
@@ -32,33 +38,33 @@ abbrev pub decreases-joined_alternative : goal.decreases-joined_alternative
 decreases-joined_alternative l = 16 * l.room.levels
 
 abbrev pub decreases-joined_fields : goal.decreases-joined_fields
-decreases-joined_fields l = 16 * l.room.levels + 14
+decreases-joined_fields l = 16 * l.room.levels + 15
 
 abbrev pub decreases-joined_field : goal.decreases-joined_field
-decreases-joined_field l = 16 * l.room.levels + 13
+decreases-joined_field l = 16 * l.room.levels + 14
 
 abbrev pub decreases-joined_each : goal.decreases-joined_each
-decreases-joined_each l = 16 * l.room.levels + 13
+decreases-joined_each l = 16 * l.room.levels + 14
 
 abbrev pub decreases-joined_end : goal.decreases-joined_end
-decreases-joined_end l = 16 * l.room.levels + 13
+decreases-joined_end l = 16 * l.room.levels + 14
 
 abbrev pub invariant-joined_each-loop-expr : goal.invariant-joined_each-loop-expr
-invariant-joined_each-loop-expr l = (ds : List DefinitionTree) (n : ℕ) → TellsBodies l.self.bodies.now ds → AreWell ds → embed_well
+invariant-joined_each-loop-expr l = (ds : List DefinitionTree) (n : ℕ) → TellsTables l.self.embeddable.now ds → AreWell ds → embed_well
     (can_be_embedded ds most_steps) (exprs_view l.exprs) ≡ true → l.room.levels ≤ n → AreJoined ds (joined_value ds n)
     (clashes_value ds n) l.room.place l.room.is_whole l.room.levels l.initial.nodes l.nodes (take l.expr-index l.exprs) l.joined.items
 
 abbrev pub invariant-joined_fields-loop-field : goal.invariant-joined_fields-loop-field
-invariant-joined_fields-loop-field l = (ds : List DefinitionTree) (n : ℕ) → TellsBodies l.self.bodies.now ds → AreWell ds → fields_embed_well
+invariant-joined_fields-loop-field l = (ds : List DefinitionTree) (n : ℕ) → TellsTables l.self.embeddable.now ds → AreWell ds → fields_embed_well
     (can_be_embedded ds most_steps) (fields_view l.fields) ≡ true → l.room.levels ≤ n → AreFields ds (joined_value ds n)
     (clashes_value ds n) l.room.place l.room.levels l.initial.nodes l.nodes (take l.field-index l.fields) l.joined.items
 
 abbrev pub invariant-joined_alternatives-loop-alternative : goal.invariant-joined_alternatives-loop-alternative
-invariant-joined_alternatives-loop-alternative l = (ds : List DefinitionTree) (n : ℕ) → TellsBodies l.self.bodies.now ds → AreWell ds → AllByRecursion
+invariant-joined_alternatives-loop-alternative l = (ds : List DefinitionTree) (n : ℕ) → TellsTables l.self.embeddable.now ds → AreWell ds → AllByRecursion
     (IsWell ds) (alternatives_view l.alternatives) → l.fn.room.levels ≤ n → AreLiterals (joined_value ds n)
-    (clashes_value ds n) l.at l.inside.levels l.initial.nodes l.nodes (take l.alternative-index l.alternatives) l.joined.items
+    (clashes_value ds n) l.at l.embeds l.inside.levels l.initial.nodes l.nodes (take l.alternative-index l.alternatives) l.joined.items
 
 abbrev pub invariant-joined_alternative-loop-brought : goal.invariant-joined_alternative-loop-brought
-invariant-joined_alternative-loop-brought l = (ds : List DefinitionTree) (n : ℕ) → TellsBodies l.self.bodies.now ds → AreWell ds → IsWell ds
+invariant-joined_alternative-loop-brought l = (ds : List DefinitionTree) (n : ℕ) → TellsTables l.self.embeddable.now ds → AreWell ds → IsWell ds
     (alternative_view l.alternative) → l.fn.room.levels ≤ n → AreBrought (joined_value ds n) (clashes_value ds n) l.inside.levels l.initial.nodes l.nodes
     (take l.brought-index l.alternative.declarations.items) l.fields.items

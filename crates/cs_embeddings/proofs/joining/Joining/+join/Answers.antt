@@ -2,20 +2,20 @@ use Rattle.std.proofs.Common.{rules, ◌≡◌, suc, ◌+◌, ◌∷◌, [], ◌
 use Rattle.std.specs.List.{flat_map}
 use Rattle.std.specs.Vec.Iter.{into_iter_items}
 use Rattle.std.proofs.lemmas.Result.{err_from_is_err_and}
-use Rattle.cs_grammar.specs.Tree.{reference, disjunction, paren, wide, merged, bodies}
+use Rattle.cs_grammar.specs.Tree.{reference, conjunction, disjunction, paren, wide, merged, bodies}
 use Rattle.cs_grammar.specs.View.{expr_view, exprs_view, fields_view, field_view, declarations_view}
 use Rattle.cs_grammar.specs.declared.ast.Expr as Exprs
-use Rattle.cs_grammar.proofs.Views.{view-Struct, view-Paren, view-Or, view-Reference}
+use Rattle.cs_grammar.proofs.Views.{view-Struct, view-Paren, view-And, view-Or, view-Reference}
 use Rattle.cs_embeddings.specs.Alternatives as Spec
 use Rattle.cs_embeddings.specs.Checks.{bodies_view}
 use Rattle.cs_embeddings.specs.Embedded.{can_be_embedded}
 use Rattle.cs_embeddings.specs.Views.{alternative_view, alternatives_view, with_field, Reaches, IsTooMuch}
 use Rattle.cs_embeddings.specs.declared.found.Found.{Found}
-use Rattle.cs_embeddings.proofs.Joins.{is_put_together, no_steps, no_form, at_struct, at_merged, at_paren, at_disjunction, at_reference, met_alone, unmet_bodies, field_step, embedded_step, body_step, operand_step, too_much_of_right, declarations_too_much, bodies_too_much}
+use Rattle.cs_embeddings.proofs.Joins.{is_put_together, no_steps, no_form, at_struct, at_merged, at_paren, at_disjunction, at_conjunction, at_reference, met_alone, unmet_bodies, field_step, embedded_step, body_step, conjunct_step, operand_step, too_much_of_right, declarations_too_much, all_too_much, bodies_too_much}
 use Rattle.cs_embeddings.proofs.Left.{too_much_here}
 use Rattle.cs_embeddings.proofs.Weights.{alternatives_grow}
 use Rattle.cs_embeddings.proofs.joining.Joining.+join.Goals as goal
-use Rattle.cs_embeddings.proofs.joining.Joining.+join.Goals.{join-in-Wide+in-Marked-1, join-in-Top-1, join-in-Bottom-1, join-in-Null-1, join-in-Bool-1, join-in-Int-1, join-in-Text-1, join-in-Name-1, join-in-Bound-1, join-in-NotInt-1, join-in-NotText-1, join-in-NotNull-1, join-in-And-1, join-in-List-1}
+use Rattle.cs_embeddings.proofs.joining.Joining.+join.Goals.{join-in-Wide+in-Marked-1, join-in-Top-1, join-in-Bottom-1, join-in-Null-1, join-in-Bool-1, join-in-Int-1, join-in-Text-1, join-in-Name-1, join-in-Bound-1, join-in-NotInt-1, join-in-NotText-1, join-in-NotNull-1, join-in-List-1}
 use Rattle.cs_embeddings.proofs.joining.Joining.+join.Goals.{join_declarations-in-Field+in_ok-found-in-Field, join_declarations-in-Embedded+in_ok-found-in-Embedded}
 
 -- ---- an expression
@@ -40,7 +40,6 @@ join-returns-in-Top t c ds tells can =
       | join-in-NotInt-1 w ↦ search (rules, Exprs.the_lemmas)
       | join-in-NotText-1 w ↦ search (rules, Exprs.the_lemmas)
       | join-in-NotNull-1 w ↦ search (rules, Exprs.the_lemmas)
-      | join-in-And-1 w ↦ search (rules, Exprs.the_lemmas)
       | join-in-List-1 w ↦ search (rules, Exprs.the_lemmas)
     ] in
     absurd (no_form ds c.args.steps (expr_view c.args.expr.now) no can)
@@ -107,6 +106,33 @@ join-returns-in-Or t c ds tells can =
     let here = at_disjunction ds c.args.steps c.in-Some.left c.args.place a one (expr_view c.args.expr.now) es is can in
     subst (λ xs. Reaches c.join_operands.result c.args.self.room (alternatives_view c.args.found.now.alternatives.items ++ xs)
     (alternatives_view c.join_operands.new.found.alternatives.items)) (sym here.1) (c.join_operands.ensures ds tells here.0)
+
+pub join-returns-in_err-joined-in-And : goal.join-returns-in_err-joined-in-And
+join-returns-in_err-joined-in-And t c ds tells can =
+    let p = err_from_is_err_and c.from_residual-in_err-joined-in-And.result c.from_residual-in_err-joined-in-And.ensures.1 in
+    let e = c.in_err-joined-in-And.field-0.0 in
+    let one : c.args.steps ≡ suc c.in-Some.left = omega (arith, c.in-Some.ensures) in
+    let a = alternative_view c.args.before in
+    let es = exprs_view c.deref-in-And.result.now in
+    let read = ap (λ ts. conjunction (exprs_view ts)) (sym c.deref-in-And.ensures.value) in
+    let is = ap expr_view c.in-And.is ∙ view-And c.in-And.operands ∙ read in
+    let here = at_conjunction ds c.args.steps c.in-Some.left c.args.place a one (expr_view c.args.expr.now) es is can in
+    let found = alternatives_view c.args.found.now.alternatives.items in
+    let all = Spec.alternatives ds c.args.steps c.args.place (expr_view c.args.expr.now) a in
+    rw (p.1, p.2) (too_much_of_right e c.args.self.room found all
+    (subst (IsTooMuch e c.args.self.room) (sym here.1) (c.in_err-joined-in-And.ensures ds tells here.0)))
+
+pub join-returns-in_ok-joined-in-And : goal.join-returns-in_ok-joined-in-And
+join-returns-in_ok-joined-in-And t c ds tells can =
+    let one : c.args.steps ≡ suc c.in-Some.left = omega (arith, c.in-Some.ensures) in
+    let a = alternative_view c.args.before in
+    let es = exprs_view c.deref-in-And.result.now in
+    let read = ap (λ ts. conjunction (exprs_view ts)) (sym c.deref-in-And.ensures.value) in
+    let is = ap expr_view c.in-And.is ∙ view-And c.in-And.operands ∙ read in
+    let here = at_conjunction ds c.args.steps c.in-Some.left c.args.place a one (expr_view c.args.expr.now) es is can in
+    let all = c.in_ok-joined-in-And.ensures ds tells here.0 ∙ sym here.1 in
+    subst (λ xs. Reaches c.append-in-And.result c.args.self.room (alternatives_view c.args.found.now.alternatives.items ++ xs)
+    (alternatives_view c.append-in-And.new.self.alternatives.items)) all c.append-in-And.ensures
 
 pub join-returns-in-Reference : goal.join-returns-in-Reference
 join-returns-in-Reference t c ds tells can =
@@ -264,6 +290,32 @@ join_bodies-returns-in_err-found t c ds tells well =
     let s = body_step can inner at bs i b c.loop-body-test.true c.body-item.is found _ before.0 before.1 in
     rw (p.1, p.2) (bodies_too_much can inner (alternatives_grow ds c.args.steps) at e c.args.self.room
     (flat_map (inner at (expr_view b.now)) found) _ c.args.name.now (bodies_view (drop (i + 1) bs)) s.1 s.2 (c.in_err-found.ensures ds tells s.0))
+
+-- ---- operands one behind the other
+
+pub join_all-returns-in_err-push : goal.join_all-returns-in_err-push
+join_all-returns-in_err-push t c ds tells well =
+    let p = err_from_is_err_and c.from_residual.result c.from_residual.ensures.1 in
+    let e = c.in_err-push.field-0.0 in
+    let a = alternative_view c.args.before in
+    let here = subst (λ xs. IsTooMuch e c.args.self.room (xs ++ a ∷ [])) c.nothing-found.ensures c.in_err-push.ensures in
+    rw (p.1, p.2) (all_too_much (can_be_embedded ds c.args.steps) (Spec.alternatives ds c.args.steps)
+    (alternatives_grow ds c.args.steps) c.args.place e c.args.self.room (a ∷ []) _ (exprs_view c.args.operands.now) well refl here)
+
+pub join_all-returns-in_err-found : goal.join_all-returns-in_err-found
+join_all-returns-in_err-found t c ds tells well =
+    let p = err_from_is_err_and c.from_residual-in_err-found.result c.from_residual-in_err-found.ensures.1 in
+    let e = c.in_err-found.field-0.0 in
+    let can = can_be_embedded ds c.args.steps in
+    let inner = Spec.alternatives ds c.args.steps in
+    let es = c.args.operands.now in
+    let i = c.loop-operand.operand-index in
+    let o = c.operand-item.result in
+    let found = alternatives_view c.loop-operand.found.alternatives.items in
+    let before = c.loop-operand.invariant ds tells well in
+    let s = conjunct_step can inner c.args.place es i o c.loop-operand-test.true c.operand-item.is found _ before.0 before.1 in
+    rw (p.1, p.2) (all_too_much can inner (alternatives_grow ds c.args.steps) c.args.place e c.args.self.room
+    (flat_map (inner c.args.place (expr_view o)) found) _ (exprs_view (drop (i + 1) es)) s.1 s.2 (c.in_err-found.ensures ds tells s.0))
 
 -- ---- operands
 

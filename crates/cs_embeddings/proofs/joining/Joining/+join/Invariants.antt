@@ -21,6 +21,9 @@ decreases-join_definition l = 4 * l.steps + 3
 abbrev pub decreases-join_bodies : goal.decreases-join_bodies
 decreases-join_bodies l = 4 * l.steps + 2
 
+abbrev pub decreases-join_all : goal.decreases-join_all
+decreases-join_all l = 4 * l.steps + 2
+
 abbrev pub decreases-join_each : goal.decreases-join_each
 decreases-join_each l = 4 * l.steps + 1
 
@@ -52,6 +55,13 @@ invariant-join_each-loop-alternative l =
     → alternatives_view l.found.alternatives.items
     ++ flat_map (Spec.alternatives ds l.steps l.place (expr_view l.expr)) (alternatives_view (into_iter_items l.alternative-iterator))
     ≡ flat_map (Spec.alternatives ds l.steps l.place (expr_view l.expr)) (alternatives_view l.fn.before.alternatives.items))
+
+abbrev pub invariant-join_all-loop-operand : goal.invariant-join_all-loop-operand
+invariant-join_all-loop-operand l =
+    (ds : List DefinitionTree) → TellsBodies l.self.bodies.now ds → all_embedded (can_be_embedded ds l.steps) (exprs_view l.operands) ≡ true
+    → (all_embedded (can_be_embedded ds l.steps) (exprs_view (drop l.operand-index l.operands)) ≡ true)
+    × (Spec.join_all (Spec.alternatives ds l.steps) l.place (exprs_view (drop l.operand-index l.operands)) (alternatives_view l.found.alternatives.items)
+    ≡ Spec.join_all (Spec.alternatives ds l.steps) l.place (exprs_view l.operands) (alternative_view l.fn.before ∷ []))
 
 abbrev pub invariant-join_operands-loop-operand : goal.invariant-join_operands-loop-operand
 invariant-join_operands-loop-operand l =

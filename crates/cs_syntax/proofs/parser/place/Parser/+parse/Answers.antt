@@ -4,8 +4,8 @@ use Rattle.cs_grammar.specs.declared.kind.Kind.TheVariants as kinds
 use Rattle.cs_grammar.specs.View.{expr_view, field_view, declaration_view}
 use Rattle.cs_grammar.proofs.Views.{view-And, view-Or}
 use Rattle.cs_syntax.specs.Left.{left}
-use Rattle.cs_syntax.specs.Reading.{inner, field_with, declaration_with, operand_with, conj_with, branch_with, expr_with, after, another_field, another_element}
-use Rattle.cs_syntax.proofs.WordKinds.{at_end, operand_end}
+use Rattle.cs_syntax.specs.Reading.{inner, field_with, declaration_with, uncalled_with, operand_with, conj_with, branch_with, expr_with, after, another_field, another_element}
+use Rattle.cs_syntax.proofs.WordKinds.{at_end, uncalled_end}
 use Rattle.cs_syntax.proofs.Reader.{goes_on, ends, out, breaks, fails-of, met, joined}
 use Rattle.cs_syntax.proofs.parser.place.Parser.+parse.Goals as goal
 
@@ -131,5 +131,5 @@ expr-returns t c =
     let some : 0 < length c.in_ok-operands.operands.items = grind (arith, c.if-is_empty.ensures) in
     rw (c.in_ok-first.ensures, c.in_ok-operands.ensures, joined _ _ some, view-Or) (rw c.in_ok-insert.ensures.items refl)
 
-pub operand-returns-in_default : goal.operand-returns-in_default
-operand-returns-in_default t c = at_end (operand_with (inner c.args.depth)) _ c.fault.result c.in_default.ensures c.fault.ensures (operand_end (inner c.args.depth))
+pub uncalled-returns-in_default : goal.uncalled-returns-in_default
+uncalled-returns-in_default t c = at_end (uncalled_with (inner c.args.depth)) _ c.fault.result c.in_default.ensures c.fault.ensures (uncalled_end (inner c.args.depth))

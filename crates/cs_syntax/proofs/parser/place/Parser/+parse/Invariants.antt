@@ -6,55 +6,61 @@ use Rattle.cs_syntax.proofs.Reader.{with_front}
 use Rattle.cs_syntax.proofs.parser.place.Parser.+parse.Given as goal
 
 abbrev pub decreases-inside : goal.decreases-inside
-decreases-inside l = 11 * l.depth
+decreases-inside l = 12 * l.depth
 
 abbrev pub decreases-field : goal.decreases-field
-decreases-field l = 11 * l.depth + 1
+decreases-field l = 12 * l.depth + 1
 
 abbrev pub decreases-fields : goal.decreases-fields
-decreases-fields l = 11 * l.depth + 2
+decreases-fields l = 12 * l.depth + 2
 
 abbrev pub decreases-structure : goal.decreases-structure
-decreases-structure l = 11 * l.depth + 3
+decreases-structure l = 12 * l.depth + 3
 
 abbrev pub decreases-declaration : goal.decreases-declaration
-decreases-declaration l = 11 * l.depth + 2
+decreases-declaration l = 12 * l.depth + 2
 
 abbrev pub decreases-declarations : goal.decreases-declarations
-decreases-declarations l = 11 * l.depth + 3
+decreases-declarations l = 12 * l.depth + 3
 
 abbrev pub decreases-wide_structure : goal.decreases-wide_structure
-decreases-wide_structure l = 11 * l.depth + 4
+decreases-wide_structure l = 12 * l.depth + 4
 
 abbrev pub decreases-list_rest : goal.decreases-list_rest
-decreases-list_rest l = 11 * l.depth + 1
+decreases-list_rest l = 12 * l.depth + 1
 
 abbrev pub decreases-list_end : goal.decreases-list_end
-decreases-list_end l = 11 * l.depth + 2
+decreases-list_end l = 12 * l.depth + 2
 
 abbrev pub decreases-elements : goal.decreases-elements
-decreases-elements l = 11 * l.depth + 1
+decreases-elements l = 12 * l.depth + 1
 
 abbrev pub decreases-list : goal.decreases-list
-decreases-list l = 11 * l.depth + 3
+decreases-list l = 12 * l.depth + 3
+
+abbrev pub decreases-paren : goal.decreases-paren
+decreases-paren l = 12 * l.depth + 1
+
+abbrev pub decreases-uncalled : goal.decreases-uncalled
+decreases-uncalled l = 12 * l.depth + 5
 
 abbrev pub decreases-operand : goal.decreases-operand
-decreases-operand l = 11 * l.depth + 5
+decreases-operand l = 12 * l.depth + 6
 
 abbrev pub decreases-amps : goal.decreases-amps
-decreases-amps l = 11 * l.depth + 6
+decreases-amps l = 12 * l.depth + 7
 
 abbrev pub decreases-conj : goal.decreases-conj
-decreases-conj l = 11 * l.depth + 7
+decreases-conj l = 12 * l.depth + 8
 
 abbrev pub decreases-branch : goal.decreases-branch
-decreases-branch l = 11 * l.depth + 8
+decreases-branch l = 12 * l.depth + 9
 
 abbrev pub decreases-bars : goal.decreases-bars
-decreases-bars l = 11 * l.depth + 9
+decreases-bars l = 12 * l.depth + 10
 
 abbrev pub decreases-expr : goal.decreases-expr
-decreases-expr l = 11 * l.depth + 10
+decreases-expr l = 12 * l.depth + 11
 
 abbrev pub invariant-fields-loop : goal.invariant-fields-loop
 invariant-fields-loop l = with_front field_view l.fields.items (fields_with (inner l.depth) (l.end - l.counter) (left l.self)) ≡ fields_with (inner l.depth) (length (left l.fn.self)) (left l.fn.self)

@@ -1,7 +1,7 @@
 use Rattle.std.proofs.Common.{◌≡◌, drop}
 use Rattle.cs_grammar.specs.View.{exprs_view}
-use Rattle.cs_embeddings.specs.Clashes as Spec
-use Rattle.cs_embeddings.proofs.clashes.+holds.Given as goal
+use Rattle.cs_embeddings.specs.Held as Spec
+use Rattle.cs_embeddings.proofs.held.+holds.Given as goal
 
 -- none so far holds any
 abbrev pub invariant-hold-loop-expr : goal.invariant-hold-loop-expr

@@ -1,0 +1,65 @@
+// Where the first struct literal or reference of an expression is.
+ghost use Rattle.std.specs.Prelude.{◌≡◌};
+ghost use Rattle.cs_grammar.specs.View.{expr_view, exprs_view, end_view};
+ghost use Rattle.cs_embeddings.specs.Held as Spec;
+
+use cs_grammar::{Expr, ListEnd, Wide};
+
+/// The offset of the first struct literal or reference of an expression, at any depth; `None` of a plain one.
+#[cycle(holds)]
+pub(crate) fn holds(expr: &Expr) -> Option<usize>
+    ensures { result ≡ Spec.holds (expr_view expr.now) }
+{
+    match expr {
+        Expr::Reference { at, .. } | Expr::Struct { at, .. } => Some(*at),
+        Expr::And(operands) | Expr::Or(operands) => hold(operands),
+        Expr::Paren(inside) => holds(inside),
+        Expr::List { front, end } => match hold(front) {
+            Some(at) => Some(at),
+            None => end_holds(end),
+        },
+        Expr::Wide(Wide::Marked { value, .. }) => holds(value),
+        Expr::Wide(Wide::Merged { at, .. }) => Some(*at),
+        Expr::Wide(Wide::Shut { value, .. }) => holds(value),
+        Expr::Top
+        | Expr::Bottom
+        | Expr::Null
+        | Expr::Bool(_)
+        | Expr::Int(_)
+        | Expr::Text(_)
+        | Expr::Name { .. }
+        | Expr::Bound { .. }
+        | Expr::NotInt(_)
+        | Expr::NotText(_)
+        | Expr::NotNull => None,
+    }
+}
+
+#[cycle(holds)]
+fn hold(exprs: &[Expr]) -> Option<usize>
+    ensures { result ≡ Spec.hold (exprs_view exprs.now) }
+{
+    for expr in exprs {
+        if let Some(at) = holds(expr) {
+            return Some(at);
+        }
+    }
+    None
+}
+
+#[cycle(holds)]
+fn end_holds(end: &ListEnd) -> Option<usize>
+    ensures { result ≡ Spec.end_holds (end_view end.now) }
+{
+    match end {
+        ListEnd::Closed | ListEnd::Any => None,
+        ListEnd::Each(each) => holds(each),
+    }
+}
+
+/// Where the literal stands that operands are put together to.
+pub(crate) fn first_place(operands: &[Expr]) -> usize
+    ensures { result ≡ Spec.first_place (exprs_view operands.now) }
+{
+    hold(operands).unwrap_or(0)
+}

@@ -1,5 +1,0 @@
-use Rattle.cs_widen.proofs.Default.{themselves}
-use Rattle.cs_widen.proofs.laws.default_files_are_meant.Goals as goal
-
-pub returns : goal.returns
-returns c = themselves c.default_files_have_default_forms.ensures c.default_files_have_no_embeddings.ensures c.default_files_stay.ensures
