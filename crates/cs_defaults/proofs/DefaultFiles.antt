@@ -5,7 +5,8 @@ use Rattle.std.specs.Str.{bytes_eq}
 use Rattle.cs_grammar.specs.declared.ast.FieldMark.{FieldMark}
 use Rattle.cs_grammar.specs.declared.ast.FieldMark.TheVariants.{Regular, Optional, Required, Every}
 use Rattle.cs_grammar.specs.DefaultForms.{IsDefault, AreDefault, AreDefaultFields, IsDefaultEnd, IsDefaultFile}
-use Rattle.cs_grammar.specs.Tree.{Tree, atom, named, reference, conjunction, disjunction, paren, struct, list, wide, Trees, none, more, Fields, no_field, field, End, closed, any, each, body, bodies, defined_name, definitions, DefinitionTree, definition, FileTree, file}
+use Rattle.cs_grammar.specs.Tree.{Tree, atom, named, reference, conjunction, disjunction, paren, struct, list, wide, Trees, none, more, Fields, no_field, field, End, closed, any, each, body, defined_name, definitions, DefinitionTree, definition, FileTree, file}
+use Rattle.cs_grammar.specs.Bodies.{bodies}
 use Rattle.cs_defaults.specs.Absent.{has_every, absent_labels, is_repeated, excluded, clashes, clashes_each, clashes_fields, clashes_end}
 use Rattle.cs_defaults.specs.Leading.{Leading, nowhere, by_mark, to, or_behind, first_mark, leading, leading_of, leads, most_passed, place_of, has_default}
 use Rattle.cs_defaults.specs.Marks.{is_default, misplaced, misplaced_each, misplaced_operands, misplaced_fields, misplaced_end}

@@ -8,7 +8,8 @@ use Rattle.std.specs.List.{list_any}
 use Rattle.std.specs.Ordering.{nat_cmp}
 use Rattle.std.specs.Str.{bytes_eq}
 use Rattle.cs_grammar.specs.declared.ast.Expr.{Expr}
-use Rattle.cs_grammar.specs.Tree.{Tree, DefinitionTree, defined_name, bodies}
+use Rattle.cs_grammar.specs.Tree.{Tree, DefinitionTree, defined_name}
+use Rattle.cs_grammar.specs.Bodies.{bodies}
 use Rattle.cs_grammar.specs.View.{expr_view, Seen}
 use Rattle.cs_defaults.specs.Absent.{is_repeated}
 use Rattle.cs_defaults.specs.Leading.{Leading, nowhere, by_mark, to, leading, has_default}

@@ -1,6 +1,7 @@
 -- Which values have a default (CUE, default values; that a definition hands its default on where it has one body alone is an own rule).
 use Rattle.std.specs.Prelude.{ℕ, zero, suc, Bool, true, false, List, [], ◌∷◌, if◌then◌else◌}
-use Rattle.cs_grammar.specs.Tree.{Tree, atom, named, reference, conjunction, disjunction, paren, struct, list, wide, marked, merged, shut, Trees, none, more, DefinitionTree, bodies}
+use Rattle.cs_grammar.specs.Tree.{Tree, atom, named, reference, conjunction, disjunction, paren, struct, list, wide, marked, merged, shut, Trees, none, more, DefinitionTree}
+use Rattle.cs_grammar.specs.Bodies.{bodies}
 
 -- how a value comes to a default: not at all, by its own mark, or by a definition that it refers to, each with its place
 pub data Leading : Type 0 where

@@ -15,7 +15,8 @@ use Rattle.std.proofs.lemmas.List.{map-append, append_assoc, append-nil}
 use Rattle.std.proofs.lemmas.List.Elements.{filter-append}
 use Rattle.std.proofs.lemmas.List.Folds.{list_any-append}
 use Rattle.std.proofs.lemmas.Slice.Eq.{bytes_eq-Decides}
-use Rattle.cs_grammar.specs.Tree.{Tree, DefinitionTree, defined_name, body, bodies, definitions}
+use Rattle.cs_grammar.specs.Tree.{Tree, DefinitionTree, defined_name, body, definitions}
+use Rattle.cs_grammar.specs.Bodies.{bodies}
 use Rattle.cs_grammar.specs.View.{expr_view, definition_view, file_view}
 use Rattle.cs_grammar.specs.declared.ast.Definition.{Definition}
 use Rattle.cs_grammar.specs.declared.ast.Expr.{Expr}

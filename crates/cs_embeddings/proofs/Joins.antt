@@ -4,7 +4,8 @@ use Rattle.std.proofs.lemmas.Bool.{and_parts, both_ways, cond-true, cond-false}
 use Rattle.std.proofs.lemmas.List.{drop_more}
 use Rattle.std.specs.Borrow.{Bor}
 use Rattle.std.specs.List.{flat_map, list_all}
-use Rattle.cs_grammar.specs.Tree.{Tree, atom, named, reference, conjunction, disjunction, paren, struct, list, wide, marked, merged, shut, Declarations, Trees, Fields, DefinitionTree, bodies}
+use Rattle.cs_grammar.specs.Tree.{Tree, atom, named, reference, conjunction, disjunction, paren, struct, list, wide, marked, merged, shut, Declarations, Trees, Fields, DefinitionTree}
+use Rattle.cs_grammar.specs.Bodies.{bodies}
 use Rattle.cs_grammar.specs.View.{expr_view, exprs_view, field_view, declaration_view, declarations_view, declarations_of, SeenDeclaration, field_seen, embedding_seen}
 use Rattle.cs_grammar.specs.declared.ast.Declaration as Declared
 use Rattle.cs_grammar.specs.declared.ast.Expr.{Expr}

@@ -10,7 +10,8 @@ use Rattle.std.specs.Str.{bytes_eq}
 use Rattle.std.proofs.lemmas.Bool.{both_ways}
 use Rattle.std.proofs.lemmas.Bool.Decides.{nat_tests}
 use Rattle.std.proofs.lemmas.Slice.Eq.{bytes_eq-Decides}
-use Rattle.cs_grammar.specs.Tree.{Tree, atom, named, reference, conjunction, disjunction, paren, struct, list, wide, marked, merged, shut, DefinitionTree, bodies}
+use Rattle.cs_grammar.specs.Tree.{Tree, atom, named, reference, conjunction, disjunction, paren, struct, list, wide, marked, merged, shut, DefinitionTree}
+use Rattle.cs_grammar.specs.Bodies.{bodies}
 use Rattle.cs_embeddings.specs.Checks.{TellsLeast, TellsRounds, TellsSteps, takes_by}
 use Rattle.cs_embeddings.specs.Embedded.{has_operand, all_embedded, fields_embed_well, declarations_embed_well, can_be_embedded}
 use Rattle.cs_embeddings.specs.Flaws.{is_none}

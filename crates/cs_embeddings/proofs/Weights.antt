@@ -4,7 +4,8 @@ use Rattle.std.proofs.Common.{◌≡◌, ℕ, zero, suc, ◌+◌, ◌≤◌, Boo
 use Rattle.std.proofs.lemmas.Bool.{and_parts, both_ways, cond_both}
 use Rattle.std.proofs.lemmas.List.{length_push}
 use Rattle.std.specs.List.{flat_map, list_all}
-use Rattle.cs_grammar.specs.Tree.{Tree, atom, named, reference, conjunction, disjunction, paren, struct, list, wide, marked, merged, shut, Declarations, no_declaration, declared, embedded, Trees, none, more, Fields, no_field, field, DefinitionTree, bodies}
+use Rattle.cs_grammar.specs.Tree.{Tree, atom, named, reference, conjunction, disjunction, paren, struct, list, wide, marked, merged, shut, Declarations, no_declaration, declared, embedded, Trees, none, more, Fields, no_field, field, DefinitionTree}
+use Rattle.cs_grammar.specs.Bodies.{bodies}
 use Rattle.cs_embeddings.specs.Alternatives.{Alternative, with_declaration, with_fields, opened_if, meets, meet, at, join_declarations, join_bodies, join_operands, join_all, join_definition, alternatives}
 use Rattle.cs_embeddings.specs.Embedded.{has_operand, all_embedded, embeds_well, declarations_embed_well, can_be_embedded}
 use Rattle.cs_embeddings.specs.Shut.{some_shut}

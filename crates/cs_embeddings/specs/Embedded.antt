@@ -1,7 +1,8 @@
 -- Which expressions can be embedded (own rule): what literals are put together to, and neither a kind nor a definition that embeds itself.
 use Rattle.std.specs.Prelude.{ℕ, zero, suc, Bool, true, false, ◌&&◌, not, List}
 use Rattle.std.specs.List.{list_all}
-use Rattle.cs_grammar.specs.Tree.{Tree, atom, named, reference, conjunction, disjunction, paren, struct, list, wide, marked, merged, shut, Declarations, no_declaration, declared, embedded, Trees, none, more, Fields, no_field, field, End, closed, any, each, DefinitionTree, bodies}
+use Rattle.cs_grammar.specs.Tree.{Tree, atom, named, reference, conjunction, disjunction, paren, struct, list, wide, marked, merged, shut, Declarations, no_declaration, declared, embedded, Trees, none, more, Fields, no_field, field, End, closed, any, each, DefinitionTree}
+use Rattle.cs_grammar.specs.Bodies.{bodies}
 use Rattle.cs_embeddings.specs.Shut.{some_shut}
 
 -- whether there is one

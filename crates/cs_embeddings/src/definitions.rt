@@ -1,7 +1,8 @@
 // The bodies of definitions, by their names.
 ghost use Rattle.std.specs.Prelude.{◌≡◌, List, ◌∷◌, [], ◌++◌, map, IfOk, OnOk};
 ghost use Rattle.std.specs.List.{flat_map};
-ghost use Rattle.cs_grammar.specs.Tree.{DefinitionTree, bodies, definitions};
+ghost use Rattle.cs_grammar.specs.Tree.{DefinitionTree, definitions};
+ghost use Rattle.cs_grammar.specs.Bodies.{bodies};
 ghost use Rattle.cs_grammar.specs.View.{definition_view, file_view};
 ghost use Rattle.cs_embeddings.specs.Checks.{TellsBodies, bodies_view};
 

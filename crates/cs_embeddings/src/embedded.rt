@@ -3,7 +3,8 @@ ghost use Rattle.std.specs.Prelude.{◌≡◌, ℕ, suc, ◌<◌, ◌≤◌, Boo
 ghost use Rattle.std.specs.Borrow.{Bor};
 ghost use Rattle.std.specs.List.{list_all};
 ghost use Rattle.cs_grammar.specs.Tree as Tree;
-ghost use Rattle.cs_grammar.specs.Tree.{DefinitionTree, reference, bodies};
+ghost use Rattle.cs_grammar.specs.Tree.{DefinitionTree, reference};
+ghost use Rattle.cs_grammar.specs.Bodies.{bodies};
 ghost use Rattle.cs_grammar.specs.View.{expr_view, exprs_view, fields_view, declarations_view, end_view};
 ghost use Rattle.cs_embeddings.specs.Alternatives.{most_steps};
 ghost use Rattle.cs_embeddings.specs.Checks.{TellsBodies, TellsSteps, TellsRounds, bodies_view};

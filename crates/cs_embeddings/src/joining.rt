@@ -1,7 +1,8 @@
 // What a literal with embeddings can be.
 ghost use Rattle.std.specs.Prelude.{◌≡◌, ℕ, List, [], ◌∷◌, ◌++◌, map, true, Some};
 ghost use Rattle.std.specs.List.{flat_map, list_all};
-ghost use Rattle.cs_grammar.specs.Tree.{DefinitionTree, bodies};
+ghost use Rattle.cs_grammar.specs.Tree.{DefinitionTree};
+ghost use Rattle.cs_grammar.specs.Bodies.{bodies};
 ghost use Rattle.cs_grammar.specs.View.{expr_view, exprs_view, field_view, declarations_view};
 ghost use Rattle.cs_embeddings.specs.Alternatives as Spec;
 ghost use Rattle.cs_embeddings.specs.Checks.{TellsBodies, ReachesAll};

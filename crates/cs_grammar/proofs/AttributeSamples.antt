@@ -5,7 +5,8 @@ use Rattle.cs_grammar.specs.declared.token.Sort.TheVariants as sorts
 use Rattle.cs_grammar.specs.declared.line.LineState.TheVariants.{Plain, WantsComma}
 use Rattle.cs_grammar.specs.declared.fault.SyntaxFault.TheVariants.{NoToken}
 use Rattle.cs_grammar.specs.Attribute.{open_len, attribute_len, attribute_in}
-use Rattle.cs_grammar.specs.Cut.{lexeme, IsCutIn, blank, new_line, attribute, token, finish}
+use Rattle.cs_grammar.specs.Cut.{lexeme, blank, new_line, attribute, token, finish}
+use Rattle.cs_grammar.specs.CutIn.{IsCutIn}
 use Rattle.cs_grammar.specs.Stuck.{nothing, IsStuck, IsStuckIn, no_token, past_blank, past_token}
 use Rattle.cs_grammar.proofs.CutSamples.{begins, begins_none}
 use Prim.Native.String.{String}

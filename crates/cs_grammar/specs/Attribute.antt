@@ -8,8 +8,24 @@ use Rattle.cs_grammar.specs.declared.attribute.Opened.{Opened}
 use Rattle.cs_grammar.specs.declared.attribute.Opened.TheVariants as opened
 use Rattle.cs_grammar.specs.declared.profile.Profile.{Profile}
 use Rattle.cs_grammar.specs.declared.profile.Profile.TheVariants as profiles
-use Rattle.cs_grammar.specs.Front.{begins_comment, begins_other_text}
+use Rattle.cs_grammar.specs.Front.{begins_quotes, begins_comment}
+use Rattle.cs_grammar.specs.Cut.{no_attribute}
 use Rattle.cs_grammar.specs.Spelling.{begins_definition, is_name_byte, escape_value}
+
+-- ---- texts of CUE that the profiles leave out
+
+-- `#"`, a text whose backslashes are no escapes
+abbrev pub begins_raw : List ℕ → Bool
+begins_raw (x ∷ y ∷ xs) = x == 35 && y == 34
+begins_raw _ = false
+
+-- `'`, bytes
+abbrev pub begins_bytes : List ℕ → Bool
+begins_bytes (x ∷ xs) = x == 39
+begins_bytes _ = false
+
+abbrev pub begins_other_text : List ℕ → Bool
+begins_other_text bs = begins_bytes bs || begins_raw bs || begins_quotes bs
 
 -- ---- one byte
 
@@ -95,5 +111,5 @@ attribute_len bs = if begins_attribute bs then option_map (λ n. head_len bs + n
 
 -- the wide profile has attributes
 abbrev pub attribute_in : Profile → List ℕ → Option ℕ
-attribute_in profiles.Default bs = None
-attribute_in profiles.Wide bs = attribute_len bs
+attribute_in profiles.Default = no_attribute
+attribute_in profiles.Wide = attribute_len

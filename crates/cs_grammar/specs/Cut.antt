@@ -1,13 +1,10 @@
 -- How a text is cut into tokens, from the left (CUE, lexical elements). A text is cut in one way, or is stuck at one place (`Stuck`).
-use Rattle.std.specs.Prelude.{◌≡◌, ℕ, ◌+◌, ◌^◌, ◌<◌, ◌≤◌, List, [], ◌∷◌, take, drop, length, Bool, true, false, ◌==◌, ◌&&◌, ◌||◌, not, nat_lt, nat_le, if◌then◌else◌, Some, None}
+use Rattle.std.specs.Prelude.{◌≡◌, ℕ, ◌+◌, ◌^◌, ◌<◌, ◌≤◌, List, [], ◌∷◌, take, drop, length, Bool, true, false, ◌==◌, ◌&&◌, ◌||◌, not, nat_lt, nat_le, if◌then◌else◌, Option, Some, None}
 use Rattle.std.specs.List.{prefix_len}
 use Rattle.cs_grammar.specs.declared.token.Sort.{Sort}
 use Rattle.cs_grammar.specs.declared.token.Sort.TheVariants as sorts
 use Rattle.cs_grammar.specs.declared.line.LineState.{LineState}
 use Rattle.cs_grammar.specs.declared.line.LineState.TheVariants.{Plain, WantsComma, Minus}
-use Rattle.cs_grammar.specs.declared.profile.Profile.{Profile}
-use Rattle.cs_grammar.specs.declared.profile.Profile.TheVariants as profiles
-use Rattle.cs_grammar.specs.Attribute.{attribute_in}
 pub use Rattle.cs_grammar.specs.Front.{begins_quotes, begins_comment}
 use Rattle.cs_grammar.specs.Spelling.{is_digit, is_run_byte, is_integer, sort_of}
 use Rattle.cs_grammar.specs.Values.{integer_value}
@@ -96,22 +93,22 @@ comma_if Minus o ks = ks
 
 -- ---- the cut
 
--- CutIn p bs o l ks: in the profile p the text bs, which begins at offset o behind a token that leaves the line as l, is blanks, comments, attributes and the tokens ks. An attribute leaves the line as it was.
-pub data CutIn (p : Profile) : List ℕ → ℕ → LineState → List Lexeme → Type 0 where
-  blank : {x o : ℕ} {bs : List ℕ} {l : LineState} {ks : List Lexeme} → is_space x ≡ true → CutIn p bs (o + 1) l ks → CutIn p (x ∷ bs) o l ks
-  new_line : {x o : ℕ} {bs : List ℕ} {l : LineState} {ks : List Lexeme} → (x == 10) ≡ true → CutIn p bs (o + 1) (line_ended l) ks → CutIn p (x ∷ bs) o l (comma_if l o ks)
-  comment : {o : ℕ} {bs : List ℕ} {l : LineState} {ks : List Lexeme} → begins_comment bs ≡ true → CutIn p (drop (line_len bs) bs) (o + line_len bs) (line_ended l) ks → CutIn p bs o l (comma_if l o ks)
-  attribute : {n o : ℕ} {bs : List ℕ} {l : LineState} {ks : List Lexeme} → attribute_in p bs ≡ Some n → CutIn p (drop n bs) (o + n) l ks → CutIn p bs o l ks
-  token : {n o : ℕ} {s : Sort} {bs : List ℕ} {l : LineState} {ks : List Lexeme} → Begins l bs n s → CutIn p (drop n bs) (o + n) (line_after s (take n bs)) ks → CutIn p bs o l (lexeme s (take n bs) o ∷ ks)
-  finish : {o : ℕ} {l : LineState} → CutIn p [] o l (comma_if l o (lexeme sorts.End [] o ∷ []))
+-- CutBy attribute_at bs o l ks: the text bs, which begins at offset o behind a token that leaves the line as l, is blanks, comments, attributes and the tokens ks. `attribute_at` says how long the attribute at the front of a text is, if one is there. An attribute leaves the line as it was.
+pub data CutBy (attribute_at : List ℕ → Option ℕ) : List ℕ → ℕ → LineState → List Lexeme → Type 0 where
+  blank : {x o : ℕ} {bs : List ℕ} {l : LineState} {ks : List Lexeme} → is_space x ≡ true → CutBy attribute_at bs (o + 1) l ks → CutBy attribute_at (x ∷ bs) o l ks
+  new_line : {x o : ℕ} {bs : List ℕ} {l : LineState} {ks : List Lexeme} → (x == 10) ≡ true → CutBy attribute_at bs (o + 1) (line_ended l) ks → CutBy attribute_at (x ∷ bs) o l (comma_if l o ks)
+  comment : {o : ℕ} {bs : List ℕ} {l : LineState} {ks : List Lexeme} → begins_comment bs ≡ true → CutBy attribute_at (drop (line_len bs) bs) (o + line_len bs) (line_ended l) ks → CutBy attribute_at bs o l (comma_if l o ks)
+  attribute : {n o : ℕ} {bs : List ℕ} {l : LineState} {ks : List Lexeme} → attribute_at bs ≡ Some n → CutBy attribute_at (drop n bs) (o + n) l ks → CutBy attribute_at bs o l ks
+  token : {n o : ℕ} {s : Sort} {bs : List ℕ} {l : LineState} {ks : List Lexeme} → Begins l bs n s → CutBy attribute_at (drop n bs) (o + n) (line_after s (take n bs)) ks → CutBy attribute_at bs o l (lexeme s (take n bs) o ∷ ks)
+  finish : {o : ℕ} {l : LineState} → CutBy attribute_at [] o l (comma_if l o (lexeme sorts.End [] o ∷ []))
 
--- the tokens of a source in a profile
-abbrev pub IsCutIn : Profile → List ℕ → List Lexeme → Type 0
-IsCutIn p bs ks = CutIn p bs 0 Plain ks
+-- the default profile has no attributes
+abbrev pub no_attribute : List ℕ → Option ℕ
+no_attribute bs = None
 
--- in the default profile
 abbrev pub Cut : List ℕ → ℕ → LineState → List Lexeme → Type 0
-Cut = CutIn profiles.Default
+Cut = CutBy no_attribute
 
+-- the tokens of a source in the default profile
 abbrev pub IsCut : List ℕ → List Lexeme → Type 0
-IsCut = IsCutIn profiles.Default
+IsCut bs ks = Cut bs 0 Plain ks

@@ -1,7 +1,6 @@
 -- How high a tree is (own rule): 1 for an expression without parts, and else one more than the greatest height of its parts.
 use Rattle.std.specs.Prelude.{ℕ, suc, max, List, [], ◌∷◌}
 use Rattle.cs_grammar.specs.Tree.{Tree, atom, named, reference, conjunction, disjunction, paren, struct, list, wide, Wide, marked, merged, shut, Declarations, no_declaration, declared, embedded, Trees, none, more, Fields, no_field, field, End, closed, any, each, DefinitionTree, body, FileTree, definitions}
-use Rattle.cs_grammar.specs.View.{SeenDeclaration, field_seen, embedding_seen}
 
 abbrev mutual
   pub height : Tree → ℕ
@@ -39,11 +38,6 @@ abbrev mutual
   height_end closed = 0
   height_end any = 0
   height_end (each e) = height e
-
--- a declaration is as high as its value; for private contracts alone
-abbrev pub declaration_height : SeenDeclaration → ℕ
-declaration_height (field_seen f) = height f.value
-declaration_height (embedding_seen o e) = height e
 
 abbrev pub height_definitions : List DefinitionTree → ℕ
 height_definitions [] = 0

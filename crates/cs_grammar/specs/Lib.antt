@@ -3,14 +3,16 @@ pub mod Spelling
 pub mod TextParts
 pub mod Values
 pub mod Front
-pub mod Attribute
 pub mod Cut
+pub mod Attribute
+pub mod CutIn
 pub mod Stuck
 pub mod Atom
 pub mod Words
 pub mod TokenWords
 pub mod Taken
 pub mod Tree
+pub mod Bodies
 pub mod Spells
 pub mod Written
 pub mod Limits

@@ -1,6 +1,7 @@
 -- What file a source spells, however deep it nests (CUE, source file organization).
 use Rattle.std.specs.Prelude.{ℕ, List}
-use Rattle.cs_grammar.specs.Cut.{Lexeme, IsCutIn}
+use Rattle.cs_grammar.specs.Cut.{Lexeme}
+use Rattle.cs_grammar.specs.CutIn.{IsCutIn}
 use Rattle.cs_grammar.specs.Tree.{FileTree}
 use Rattle.cs_grammar.specs.Spells.{SpellsFile}
 use Rattle.cs_grammar.specs.TokenWords.{words}

@@ -17,5 +17,5 @@ abbrev pub wide_lexeme : Lexeme → Lexeme
 wide_lexeme (lexeme s t o) = lexeme (wide_sort s t) t o
 
 abbrev pub taken : Profile → List Lexeme → List Lexeme
-taken profiles.Default ks = ks
-taken profiles.Wide ks = map wide_lexeme ks
+taken profiles.Default = λ ks. ks
+taken profiles.Wide = map wide_lexeme

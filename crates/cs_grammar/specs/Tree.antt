@@ -1,6 +1,5 @@
 -- The tree of a file, apart from where it lies in memory. Offsets are kept where a fault may be.
-use Rattle.std.specs.Prelude.{ℕ, Bool, List, Option, map, filter}
-use Rattle.std.specs.Str.{bytes_eq}
+use Rattle.std.specs.Prelude.{ℕ, Bool, List, Option}
 use Rattle.cs_grammar.specs.declared.ast.FieldMark.{FieldMark}
 use Rattle.cs_grammar.specs.Atom.{Atom}
 pub use Rattle.cs_grammar.specs.Atom.{top, bottom, null, boolean, integer, text, bound, not_integer, not_text, not_null}
@@ -64,10 +63,6 @@ defined_name (definition s o e) = s
 
 abbrev pub body : DefinitionTree → Tree
 body (definition s o e) = e
-
--- the bodies of a definition
-abbrev pub bodies : List ℕ → List DefinitionTree → List Tree
-bodies s ds = map body (filter (λ d. bytes_eq (defined_name d) s) ds)
 
 abbrev pub package_name : FileTree → Option (List ℕ)
 package_name (file p ds) = p

@@ -9,7 +9,8 @@ use Rattle.cs_grammar.specs.declared.line.LineState.{LineState}
 use Rattle.cs_grammar.specs.declared.fault.SyntaxFault.{SyntaxFault}
 use Rattle.cs_grammar.specs.declared.fault.SyntaxFault.TheVariants.{NoToken, IntegerRange}
 use Rattle.cs_grammar.specs.Spelling.{sort_of}
-use Rattle.cs_grammar.specs.Cut.{IsLongest, begins_bad_number, begins_quotes, begins_comment, line_len, is_out_of_range, Begins, is_space, line_after, line_ended, Lexeme, lexeme, comma_if, CutIn, blank, new_line, comment, attribute, token, finish}
+use Rattle.cs_grammar.specs.Cut.{IsLongest, begins_bad_number, begins_quotes, begins_comment, line_len, is_out_of_range, Begins, is_space, line_after, line_ended, Lexeme, lexeme, comma_if, blank, new_line, comment, attribute, token, finish}
+use Rattle.cs_grammar.specs.CutIn.{CutIn}
 use Rattle.cs_grammar.specs.Stuck.{BeginsNone, NoneBegins, number, quotes, nothing, StuckIn, no_token, too_large, past_blank, past_line, past_comment, past_attribute, past_token}
 use Rattle.cs_grammar.specs.declared.profile.Profile.{Profile}
 use Rattle.cs_grammar.specs.Attribute.{attribute_in}

@@ -11,7 +11,8 @@ use Rattle.cs_lexer.proofs.Marks.{mark_has}
 use Rattle.cs_grammar.specs.declared.fault.SyntaxFault.{SyntaxFault}
 use Rattle.cs_grammar.specs.declared.fault.SyntaxFault.TheVariants.{NoToken, IntegerRange}
 use Rattle.cs_grammar.specs.Spelling.{is_digit, is_integer, begins_definition, sort_of}
-use Rattle.cs_grammar.specs.Cut.{IsLongest, run, is_space, begins_bad_number, begins_quotes, begins_comment, line_len, Begins, Lexeme, lexeme, line_after, line_ended, comma_if, CutIn, blank, new_line, comment, attribute, token, finish, is_too_large, is_out_of_range}
+use Rattle.cs_grammar.specs.Cut.{IsLongest, run, is_space, begins_bad_number, begins_quotes, begins_comment, line_len, Begins, Lexeme, lexeme, line_after, line_ended, comma_if, blank, new_line, comment, attribute, token, finish, is_too_large, is_out_of_range}
+use Rattle.cs_grammar.specs.CutIn.{CutIn}
 use Rattle.cs_grammar.specs.Stuck.{NoneBegins, number, quotes, nothing, TooLarge, StuckIn, no_token, too_large, past_blank, past_line, past_comment, past_attribute, past_token}
 use Rattle.cs_grammar.specs.declared.profile.Profile.{Profile}
 use Rattle.cs_grammar.specs.declared.profile.Profile.TheVariants as profiles
@@ -243,8 +244,8 @@ goes_once (a_large {n = m} h) (a_none i j) = absurd (none_token m sorts.Integer 
 goes_once {p = p} (a_large {n = m} {bs = bs} h) (an_attribute {n = n} i j) = absurd (attribute_token p bs n m sorts.Integer i h.token)
 goes_once (a_large {n = m} {bs = bs} h) d = let e = longest_front bs m sorts.Integer h.token h.no_comment in let f = kind_is d in absurd cc
 
-pub cut_once : {p : Profile} {bs : List ℕ} {o : ℕ} {l : LineState} {ks js : List Lexeme} → CutIn p bs o l ks → CutIn p bs o l js → ks ≡ js
-cut_once {ks = ks} {js = js} p q = let e : whole ks ≡ whole js = goes_once (cut_goes p) (cut_goes q) in cc
+pub cut_once : (p : Profile) {bs : List ℕ} {o : ℕ} {l : LineState} {ks js : List Lexeme} → CutIn p bs o l ks → CutIn p bs o l js → ks ≡ js
+cut_once p {ks = ks} {js = js} h k = let e : whole ks ≡ whole js = goes_once (cut_goes {p = p} h) (cut_goes {p = p} k) in cc
 
 pub stuck_once : {p : Profile} {bs : List ℕ} {o : ℕ} {l : LineState} {f g : SyntaxFault} → StuckIn p bs o l f → StuckIn p bs o l g → f ≡ g
 stuck_once {f = f} {g = g} p q = let e : halted f ≡ halted g = goes_once (stuck_goes p) (stuck_goes q) in cc

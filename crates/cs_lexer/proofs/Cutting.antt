@@ -18,7 +18,8 @@ use Rattle.cs_grammar.specs.Attribute.{attribute_in}
 use Rattle.cs_lexer.proofs.Attributes.{attribute_in_within}
 use Rattle.cs_lexer.specs.Pieces.{Edges}
 use Rattle.cs_lexer.proofs.Runs.{prefix_within}
-use Rattle.cs_grammar.specs.Cut.{is_space, Begins, Lexeme, lexeme, line_after, line_ended, line_len, begins_comment, comma_if, CutIn, blank, new_line, comment, attribute, token, finish}
+use Rattle.cs_grammar.specs.Cut.{is_space, Begins, Lexeme, lexeme, line_after, line_ended, line_len, begins_comment, comma_if, blank, new_line, comment, attribute, token, finish}
+use Rattle.cs_grammar.specs.CutIn.{CutIn}
 use Rattle.cs_grammar.specs.Stuck.{NoneBegins, TooLarge, StuckIn, no_token, too_large, past_blank, past_line, past_comment, past_attribute, past_token}
 
 pub record Before (p : Profile) (bs : List ℕ) (at : ℕ) (l : LineState) (front : List Lexeme) : Type 0 where

@@ -1,7 +1,7 @@
 // Attributes.
 
 ghost use Rattle.std.specs.Prelude.{◌≡◌, [], IfOk, ℕ};
-ghost use Rattle.cs_grammar.specs.Front.{begins_bytes, begins_other_text, begins_raw};
+ghost use Rattle.cs_grammar.specs.Attribute.{begins_bytes, begins_other_text, begins_raw};
 ghost use Rattle.cs_grammar.specs.Attribute.{attribute_in, attribute_len, attribute_step, begins_attribute, bracket_step, commented_step, escaped_step, first_step, head_len, is_closing, open_len, opening_step, parenthesis_len, quoted_step};
 ghost use Rattle.cs_grammar.specs.declared.attribute.Opened.TheVariants as opened;
 

@@ -1,7 +1,8 @@
 // The loop that cuts a source into tokens.
 
 ghost use Rattle.std.specs.Prelude.{◌≡◌, ◌⊎◌, List, [], ◌∷◌, ℕ, IfOk, IfErr};
-ghost use Rattle.cs_grammar.specs.Cut.{Lexeme, lexeme, IsCut, IsCutIn, comma_if};
+ghost use Rattle.cs_grammar.specs.Cut.{Lexeme, lexeme, IsCut, comma_if};
+ghost use Rattle.cs_grammar.specs.CutIn.{IsCutIn};
 ghost use Rattle.cs_grammar.specs.Stuck.{IsStuck, IsStuckIn};
 ghost use Rattle.cs_grammar.specs.declared.profile.Profile.{Profile};
 ghost use Rattle.cs_grammar.specs.declared.profile.Profile.TheVariants as profiles;

@@ -16,7 +16,7 @@ use Rattle.cs_grammar.specs.declared.token.Sort.{Sort}
 use Rattle.cs_grammar.specs.declared.token.Sort.TheVariants as sorts
 use Rattle.cs_grammar.specs.Atom as A
 use Rattle.cs_grammar.specs.Spelling.{is_letter, is_digit, is_name_byte, is_definition_rest, sort_if, underscore_sort, mark_sort, used_marks, left_out_marks, sort_of}
-use Rattle.cs_grammar.specs.Cut.{Lexeme, lexeme, CutIn, blank, new_line, comment, attribute, token, finish, comma_if}
+use Rattle.cs_grammar.specs.Cut.{Lexeme, lexeme, CutBy, blank, new_line, comment, attribute, token, finish, comma_if}
 use Rattle.cs_grammar.specs.Source.{IsSpelledByIn}
 use Rattle.cs_grammar.specs.Taken.{wide_lexeme, taken}
 use Rattle.cs_grammar.specs.TokenWords.{mark_kind, wide_kind, bare_name, word_of, word, words}
@@ -149,7 +149,7 @@ comma_good Plain o ks h = h
 comma_good WantsComma o ks h = (tt, h)
 comma_good Minus o ks h = h
 
-words_good : {p : Profile} {bs : List ℕ} {o : ℕ} {l : LineState} {ks : List Lexeme} → CutIn p bs o l ks → AreGood (words ks)
+words_good : {attribute_at : List ℕ → Option ℕ} {bs : List ℕ} {o : ℕ} {l : LineState} {ks : List Lexeme} → CutBy attribute_at bs o l ks → AreGood (words ks)
 words_good (blank h k) = words_good k
 words_good (new_line {x} {o} {bs} {l} {ks} h k) = comma_good l o ks (words_good k)
 words_good (comment {o} {bs} {l} {ks} h k) = comma_good l o ks (words_good k)

@@ -8,7 +8,8 @@ use Rattle.cs_grammar.specs.declared.line.LineState.TheVariants.{Plain, WantsCom
 use Rattle.cs_grammar.specs.declared.profile.Profile.TheVariants as profiles
 use Rattle.cs_grammar.specs.declared.token.Sort.TheVariants as sorts
 use Rattle.cs_grammar.proofs.CutSamples.{begins}
-use Rattle.cs_grammar.specs.Cut.{Lexeme, lexeme, IsCutIn, blank, token, finish}
+use Rattle.cs_grammar.specs.Cut.{Lexeme, lexeme, blank, token, finish}
+use Rattle.cs_grammar.specs.CutIn.{IsCutIn}
 use Rattle.cs_grammar.specs.Spells.{every_label}
 use Rattle.cs_grammar.specs.Taken.{wide_sort, taken}
 use Rattle.cs_grammar.specs.TokenWords.{kind_of, words}
@@ -16,7 +17,7 @@ use Rattle.cs_grammar.specs.Tree as T
 use Rattle.cs_grammar.specs.Tree.{Label, Tree, FileTree, file, definition}
 use Rattle.cs_grammar.specs.Words as W
 use Rattle.cs_grammar.specs.Words.{Words}
-use Rattle.cs_syntax.specs.Answer.{IsSpelledIn}
+use Rattle.cs_syntax.specs.AnswerIn.{IsSpelledIn}
 use Rattle.cs_grammar.specs.Height.{height}
 use Rattle.cs_syntax.specs.Nesting.{nesting}
 use Rattle.cs_syntax.specs.Reading.{word_kind, unbracketed_at, many, label_at, every_key_at, head_at, field_with, struct_with, declaration_with, wide_struct_with, operand_with, uncalled_with, paren_with, conj_with, branch_with, expr_with, inner, definition_at, line_at, package_at, file_with, file_at}

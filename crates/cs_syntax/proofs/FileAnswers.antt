@@ -4,7 +4,8 @@ use Rattle.std.proofs.lemmas.Bool.Decides.{nat_tests}
 use Rattle.std.specs.Prelude.{◌⊎◌, Bool, IfOk, IfErr, nat_lt, nat_le, max}
 use Rattle.cs_grammar.specs.declared.fault.SyntaxFault.{SyntaxFault}
 use Rattle.cs_grammar.specs.declared.fault.SyntaxFault.TheVariants as faults
-use Rattle.cs_grammar.specs.Cut.{Lexeme, IsCutIn}
+use Rattle.cs_grammar.specs.Cut.{Lexeme}
+use Rattle.cs_grammar.specs.CutIn.{IsCutIn}
 use Rattle.cs_grammar.specs.Words.{Words}
 use Rattle.cs_grammar.specs.Tree.{FileTree}
 use Rattle.cs_grammar.specs.Height.{file_height}
@@ -16,7 +17,7 @@ use Rattle.cs_grammar.specs.declared.profile.Profile.{Profile}
 use Rattle.cs_syntax.specs.Reading.{◌>>=◌, Gives, file_at}
 use Rattle.cs_syntax.specs.Within.{if_low, if_deep, file_within}
 use Rattle.cs_lexer.specs.Lexed.{Answers, IsRefusalIn}
-use Rattle.cs_syntax.specs.Answer.{IsSpelledIn}
+use Rattle.cs_syntax.specs.AnswerIn.{IsSpelledIn}
 use Rattle.cs_syntax.specs.Refusal.{IsFileRefusalIn}
 use Rattle.cs_lexer.proofs.CutUnique.{cut_once, cut_not_stuck}
 use Rattle.cs_syntax.proofs.Soundness.{file_found}
@@ -121,7 +122,7 @@ module _ {X : Type 0} (p : Profile) (view : X → FileTree) (source : List ℕ) 
 
   pub spelled_only : (r : Result X SyntaxFault) (ks : List Lexeme) → IsCutIn p source ks → Gives view r (file_within (words (taken p ks))) → (f : FileTree) → IsSpelledIn p source f → Answers view r f
   spelled_only r ks cut g f s =
-      let same : s.tokens ≡ ks = cut_once s.cut cut in
+      let same : s.tokens ≡ ks = cut_once p s.cut cut in
       let read : file_within (words (taken p ks)) ≡ Ok f = sym (ap (λ js. file_within (words (taken p js))) same) ∙ within_complete (words (taken p s.tokens)) f s.nested s.spelled s.low in
       answered r f (subst (λ m. Gives view r m) read g)
 

@@ -10,7 +10,8 @@ use Rattle.cs_grammar.specs.Tree as T
 use Rattle.cs_grammar.specs.Tree.{Tree}
 use Rattle.cs_grammar.specs.View.{expr_view, fields_view, SeenDeclaration, field_seen, embedding_seen, declarations_of, declaration_view, declarations_view}
 use Rattle.cs_grammar.proofs.Views.{view-value}
-use Rattle.cs_grammar.specs.Height.{height, height_all, height_fields, height_declarations, height_end, declaration_height}
+use Rattle.cs_grammar.specs.Height.{height, height_all, height_fields, height_declarations, height_end}
+use Rattle.cs_syntax.specs.SeenHeight.{declaration_height}
 
 max_within : (m n k : ℕ) → nat_le m k ≡ true → nat_le (max m n) k ≡ nat_le n k
 max_within m n k h = grind (arith, nat_tests)

@@ -13,7 +13,8 @@ use Rattle.cs_grammar.specs.declared.profile.Profile.{Profile}
 use Rattle.cs_grammar.specs.declared.profile.Profile.TheVariants as profiles
 use Rattle.cs_grammar.specs.declared.token.Sort.TheVariants as sorts
 use Rattle.cs_grammar.specs.Taken.{taken}
-use Rattle.cs_grammar.specs.Cut.{Lexeme, lexeme, comma_if, CutIn, blank, new_line, comment, attribute, token, finish}
+use Rattle.cs_grammar.specs.Cut.{Lexeme, lexeme, comma_if, blank, new_line, comment, attribute, token, finish}
+use Rattle.cs_grammar.specs.CutIn.{CutIn}
 use Rattle.cs_grammar.specs.Stuck.{StuckIn, no_token, too_large, past_blank, past_line, past_comment, past_attribute, past_token}
 use Rattle.cs_grammar.specs.Words as W
 use Rattle.std.specs.Prelude.{◌&&◌, ◌||◌, not, cond}

@@ -5,7 +5,8 @@ use Rattle.cs_grammar.specs.declared.line.LineState.TheVariants.{Plain, WantsCom
 use Rattle.cs_grammar.specs.declared.profile.Profile.TheVariants as profiles
 use Rattle.cs_grammar.specs.declared.token.Sort.TheVariants as sorts
 use Rattle.cs_grammar.proofs.CutSamples.{begins}
-use Rattle.cs_grammar.specs.Cut.{Lexeme, lexeme, IsCutIn, blank, token, finish}
+use Rattle.cs_grammar.specs.Cut.{Lexeme, lexeme, blank, token, finish}
+use Rattle.cs_grammar.specs.CutIn.{IsCutIn}
 use Rattle.cs_grammar.specs.Spelling.{is_integer}
 use Rattle.cs_grammar.specs.Taken.{wide_sort, taken}
 use Rattle.cs_grammar.specs.TokenWords.{words}
@@ -14,7 +15,7 @@ use Rattle.cs_grammar.specs.Tree as T
 use Rattle.cs_grammar.specs.Tree.{Tree, FileTree, file, definition}
 use Rattle.cs_grammar.specs.Words as W
 use Rattle.cs_grammar.specs.Words.{Words}
-use Rattle.cs_syntax.specs.Answer.{IsSpelledIn}
+use Rattle.cs_syntax.specs.AnswerIn.{IsSpelledIn}
 use Rattle.cs_syntax.specs.Reading.{number_at, integer_at, unbracketed_at, many, operand_with, uncalled_with, paren_with, conj_with, branch_with, expr_with, inner, definition_at, line_at, package_at, file_with, file_at}
 use Rattle.cs_syntax.proofs.Soundness.{file_found}
 

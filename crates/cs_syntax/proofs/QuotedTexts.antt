@@ -15,7 +15,7 @@ use Rattle.cs_grammar.specs.Spelling.{is_letter, is_digit, is_name_byte, is_inte
 use Rattle.cs_grammar.specs.declared.profile.Profile.{Profile}
 use Rattle.cs_grammar.specs.declared.profile.Profile.TheVariants as profiles
 use Rattle.cs_grammar.specs.Taken.{wide_sort, taken}
-use Rattle.cs_grammar.specs.Cut.{Lexeme, lexeme, comma_if, CutIn, blank, new_line, comment, attribute, token, finish}
+use Rattle.cs_grammar.specs.Cut.{Lexeme, lexeme, comma_if, CutBy, blank, new_line, comment, attribute, token, finish}
 use Rattle.cs_grammar.specs.View.{lexemes_view}
 use Rattle.cs_grammar.specs.TokenWords.{mark_kind, wide_kind, kind_of}
 use Rattle.cs_lexer.specs.Quoted.{begins_quote, is_quoted, are_quoted}
@@ -77,7 +77,7 @@ comma_quoted Plain o ks h = h
 comma_quoted WantsComma o ks h = h
 comma_quoted Minus o ks h = h
 
-pub cut_quoted : {p : Profile} {bs : List ℕ} {o : ℕ} {l : LineState} {ks : List Lexeme} → CutIn p bs o l ks → are_quoted ks ≡ true
+pub cut_quoted : {attribute_at : List ℕ → Option ℕ} {bs : List ℕ} {o : ℕ} {l : LineState} {ks : List Lexeme} → CutBy attribute_at bs o l ks → are_quoted ks ≡ true
 cut_quoted (blank h k) = cut_quoted k
 cut_quoted (new_line {l} h k) = comma_quoted l _ _ (cut_quoted k)
 cut_quoted (comment {l} h k) = comma_quoted l _ _ (cut_quoted k)

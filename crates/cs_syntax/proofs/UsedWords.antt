@@ -9,7 +9,8 @@ use Rattle.cs_grammar.specs.TokenWords.{words}
 use Rattle.cs_grammar.specs.Tree.{Label, Tree, Trees, Fields, Declarations, End, DefinitionTree, FileTree}
 use Rattle.cs_grammar.specs.Words.{Words}
 use Rattle.cs_lexer.proofs.CutWide.{cut_wide}
-use Rattle.cs_syntax.specs.Answer.{IsSpelled, IsSpelledIn}
+use Rattle.cs_syntax.specs.Answer.{IsSpelled}
+use Rattle.cs_syntax.specs.AnswerIn.{IsSpelledIn}
 use Rattle.cs_syntax.specs.Nesting.{nesting, most_nested}
 use Rattle.cs_syntax.proofs.WideWords.{all_widened, is_left_out, lexeme_widened, file_widened, nesting_widened}
 

@@ -3,6 +3,7 @@ pub use Rattle.cs_grammar.specs.Spelling
 pub use Rattle.cs_grammar.specs.TextParts
 pub use Rattle.cs_grammar.specs.Values
 pub use Rattle.cs_grammar.specs.Cut
+pub use Rattle.cs_grammar.specs.CutIn
 pub use Rattle.cs_grammar.specs.Stuck
 pub use Rattle.cs_grammar.specs.Words
 pub use Rattle.cs_grammar.specs.TokenWords
@@ -18,6 +19,7 @@ pub use Rattle.cs_lexer.specs.Lexed
 pub mod Nesting
 pub mod Place
 pub mod Answer
+pub mod AnswerIn
 pub mod Refusal
 pub mod Earlier
 -- for contracts of private functions and proofs alone
@@ -25,3 +27,4 @@ pub mod Left
 pub mod Reading
 pub mod Within
 pub mod Counting
+pub mod SeenHeight

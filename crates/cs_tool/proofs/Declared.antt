@@ -1,5 +1,6 @@
 -- Sources declare one environment, and a root names one of its definitions.
 use Rattle.std.proofs.Common.{◌≡◌, ℕ, List, [], ◌∷◌, refl, sym, subst, ◌∙◌}
+use Rattle.cs_grammar.specs.declared.profile.Profile.TheVariants as profiles
 use Rattle.cs_grammar.specs.Cut.{Lexeme}
 use Rattle.cs_grammar.specs.Tree.{FileTree}
 use Rattle.cs_grammar.specs.Spells.{SpellsFile}
@@ -13,7 +14,7 @@ use Rattle.cs_resolve.proofs.BaseLaw as resolve
 use Rattle.cs_tool.specs.Accepted.{AreFiles, IsAccepted}
 
 one_file : (s : List ℕ) (f g : FileTree) → IsSpelled s f → IsSpelled s g → f ≡ g
-one_file s f g a b = file_once f g (words a.tokens) a.spelled (subst (λ (ks : List Lexeme). SpellsFile g (words ks)) (cut_once b.cut a.cut) b.spelled)
+one_file s f g a b = file_once f g (words a.tokens) a.spelled (subst (λ (ks : List Lexeme). SpellsFile g (words ks)) (cut_once profiles.Default b.cut a.cut) b.spelled)
 
 -- sources are spelled by one list of files
 pub one_files : (ss : List (List ℕ)) (fs gs : List FileTree) → AreFiles ss fs → AreFiles ss gs → fs ≡ gs

@@ -3,9 +3,7 @@
 use Rattle.std.specs.Prelude.{ℕ, ◌≤◌, List, [], ◌∷◌, length, sum_by, IsUtf8}
 use Rattle.std.specs.List.{AllByRecursion}
 use Rattle.cs_grammar.specs.Tree.{FileTree}
-use Rattle.cs_grammar.specs.declared.profile.Profile.{Profile}
-use Rattle.cs_grammar.specs.declared.profile.Profile.TheVariants as profiles
-use Rattle.cs_syntax.specs.Answer.{IsSpelledIn}
+use Rattle.cs_syntax.specs.Answer.{IsSpelled}
 use Rattle.cs_package.specs.Environment.{Environment, Names}
 use Rattle.cs_resolve.specs.Resolved.{IsPackage}
 use Rattle.cs_guard.specs.Guarded.{IsGuarded}
@@ -22,15 +20,15 @@ pub record AreTexts (sources : List (List ℕ)) : Type 0 where
   pub within : bytes_of sources ≤ most_bytes
   pub utf8 : AllByRecursion IsUtf8 sources
 
--- each source is spelled in the profile by the file at its place
-abbrev pub AreFilesIn : Profile → List (List ℕ) → List FileTree → Type 0
-AreFilesIn p [] [] = Unit {0}
-AreFilesIn p [] (f ∷ fs) = ⊥
-AreFilesIn p (s ∷ ss) [] = ⊥
-AreFilesIn p (s ∷ ss) (f ∷ fs) = IsSpelledIn p s f × AreFilesIn p ss fs
+-- each source spells the file at its place, where R says which file a source spells
+abbrev pub AreFilesBy : (List ℕ → FileTree → Type 0) → List (List ℕ) → List FileTree → Type 0
+AreFilesBy R [] [] = Unit {0}
+AreFilesBy R [] (f ∷ fs) = ⊥
+AreFilesBy R (s ∷ ss) [] = ⊥
+AreFilesBy R (s ∷ ss) (f ∷ fs) = R s f × AreFilesBy R ss fs
 
 abbrev pub AreFiles : List (List ℕ) → List FileTree → Type 0
-AreFiles = AreFilesIn profiles.Default
+AreFiles = AreFilesBy IsSpelled
 
 -- the sources are accepted, and declare the environment
 pub record IsAccepted (sources : List (List ℕ)) (E : Environment) : Type 0 where

@@ -12,7 +12,8 @@ use Rattle.cs_resolve.specs.Resolved.{IsPackage}
 use Rattle.cs_resolve.specs.declared.fault.ResolveFault.{ResolveFault}
 use Rattle.cs_guard.specs.Cycles as guard
 use Rattle.cs_guard.specs.declared.fault.GuardFault.{GuardFault}
-use Rattle.cs_tool.specs.Accepted.{most_bytes, bytes_of, AreTexts, AreFilesIn, AreFiles, IsAccepted}
+use Rattle.cs_tool.specs.Accepted.{most_bytes, bytes_of, AreTexts, AreFiles, IsAccepted}
+use Rattle.cs_tool.specs.FilesIn.{AreFilesIn}
 use Rattle.cs_tool.specs.Conversions.{of_syntax, of_resolve, of_guard}
 use Rattle.cs_tool.specs.declared.fault.Fault.{Fault}
 use Rattle.cs_tool.specs.declared.fault.Fault.TheVariants.{SourcesTooLong, NotUtf8, NoToken, Syntax, LeftOut, IntegerRange, TooHigh, PackageName, UnknownName, FieldReference, NotOpened, Cycle, UnknownRoot, TooLarge, OutOfMemory, ChainTooLong}

@@ -1,6 +1,7 @@
 -- What the calls answer and refuse.
 pub mod Given
 pub mod Accepted
+pub mod FilesIn
 pub mod Headline
 pub mod Translated
 pub mod Agreement

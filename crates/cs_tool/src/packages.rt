@@ -4,7 +4,8 @@ ghost use Rattle.std.specs.List.{AllByRecursion};
 ghost use Rattle.cs_grammar.specs.Tree.{FileTree};
 ghost use Rattle.cs_grammar.specs.View.{file_view};
 ghost use Rattle.cs_package.specs.Environment.{Environment};
-ghost use Rattle.cs_tool.specs.Accepted.{most_bytes, bytes_of, AreTexts, AreFilesIn, IsAccepted};
+ghost use Rattle.cs_tool.specs.Accepted.{most_bytes, bytes_of, AreTexts, IsAccepted};
+ghost use Rattle.cs_tool.specs.FilesIn.{AreFilesIn};
 ghost use Rattle.cs_tool.specs.Given.{bytes_in};
 ghost use Rattle.cs_tool.specs.First.{SourcesRefusal, SpellingRefusal, TextsRefusal, FilesRefusalIn};
 

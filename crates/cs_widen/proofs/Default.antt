@@ -4,12 +4,14 @@ use Rattle.std.specs.List.{AllByRecursion}
 use Rattle.cs_grammar.specs.declared.profile.Profile.TheVariants as profiles
 use Rattle.cs_grammar.specs.DefaultForms.{IsDefaultFile}
 use Rattle.cs_grammar.specs.Tree.{FileTree}
-use Rattle.cs_syntax.specs.Answer.{IsSpelled, IsSpelledIn}
+use Rattle.cs_syntax.specs.Answer.{IsSpelled}
+use Rattle.cs_syntax.specs.AnswerIn.{IsSpelledIn}
 use Rattle.cs_package.specs.Environment.{Environment}
 use Rattle.cs_resolve.specs.Resolved.{IsPackage}
 use Rattle.cs_print.specs.Printed.{IsReadAs}
 use Rattle.cs_defaults.specs.Widened.{IsUnmarked}
-use Rattle.cs_tool.specs.Accepted.{AreFiles, AreFilesIn, IsAccepted}
+use Rattle.cs_tool.specs.Accepted.{AreFiles, IsAccepted}
+use Rattle.cs_tool.specs.FilesIn.{AreFilesIn}
 use Rattle.cs_widen.specs.Accepted.{IsAcceptedIn}
 use Rattle.cs_widen.specs.Meant.{IsMeant, IsMeantIn, Declare}
 use Rattle.cs_widen.specs.Stands.{AreMeant}

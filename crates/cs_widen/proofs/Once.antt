@@ -10,7 +10,7 @@ use Rattle.cs_grammar.specs.Tree.{FileTree}
 use Rattle.cs_grammar.specs.declared.profile.Profile.{Profile}
 use Rattle.cs_grammar.specs.declared.profile.Profile.TheVariants as profiles
 use Rattle.cs_lexer.proofs.CutUnique.{cut_once}
-use Rattle.cs_syntax.specs.Answer.{IsSpelledIn}
+use Rattle.cs_syntax.specs.AnswerIn.{IsSpelledIn}
 use Rattle.cs_syntax.proofs.FileAnswers.{file_once}
 use Rattle.cs_package.specs.Environment.{Environment}
 use Rattle.cs_resolve.specs.Resolved.{IsPackage}
@@ -20,7 +20,7 @@ use Rattle.cs_defaults.specs.Unmarked.{unmarked_file}
 use Rattle.cs_defaults.specs.Widened.{handing_on, mark_faults}
 use Rattle.cs_embeddings.specs.Size.{size_of_files}
 use Rattle.cs_embeddings.specs.Without.{IsJoined, IsWithin, flaws_of_files, clashes_of_files, joined_files}
-use Rattle.cs_tool.specs.Accepted.{AreFilesIn}
+use Rattle.cs_tool.specs.FilesIn.{AreFilesIn}
 use Rattle.cs_widen.specs.Accepted.{IsAcceptedIn}
 use Rattle.cs_widen.specs.Stands.{AreMeant, AreMeantIn}
 use Rattle.cs_widen.proofs.Sizes.{same_size_files}
@@ -28,7 +28,7 @@ use Rattle.cs_widen.proofs.Sizes.{same_size_files}
 one_file : (p : Profile) (s : List ℕ) (f g : FileTree) → IsSpelledIn p s f → IsSpelledIn p s g → f ≡ g
 one_file p s f g a b =
     file_once f g (words (taken p a.tokens)) a.spelled
-    (subst (λ (ks : List Lexeme). SpellsFile g (words (taken p ks))) (cut_once b.cut a.cut) b.spelled)
+    (subst (λ (ks : List Lexeme). SpellsFile g (words (taken p ks))) (cut_once p b.cut a.cut) b.spelled)
 
 pub one_files : (p : Profile) (ss : List (List ℕ)) (fs gs : List FileTree) → AreFilesIn p ss fs → AreFilesIn p ss gs → fs ≡ gs
 one_files p [] [] [] a b = refl

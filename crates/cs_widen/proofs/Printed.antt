@@ -13,7 +13,8 @@ use Rattle.cs_defaults.specs.Unmarked.{unmarked_file}
 use Rattle.cs_defaults.specs.Widened.{IsUnmarked, handing_on}
 use Rattle.cs_embeddings.specs.Without.{IsJoined, IsWithin}
 use Rattle.cs_print.specs.Printed.{IsPrinted, IsReadAs}
-use Rattle.cs_tool.specs.Accepted.{AreFiles, AreFilesIn}
+use Rattle.cs_tool.specs.Accepted.{AreFiles}
+use Rattle.cs_tool.specs.FilesIn.{AreFilesIn}
 use Rattle.cs_widen.specs.Stands.{AreMeant, AreMeantIn}
 
 -- ---- heights

@@ -6,7 +6,8 @@ use Rattle.cs_grammar.specs.declared.profile.Profile.{Profile}
 use Rattle.cs_package.specs.Environment.{Environment}
 use Rattle.cs_resolve.specs.Resolved.{IsPackage}
 use Rattle.cs_guard.specs.Guarded.{IsGuarded}
-use Rattle.cs_tool.specs.Accepted.{AreTexts, AreFilesIn}
+use Rattle.cs_tool.specs.Accepted.{AreTexts}
+use Rattle.cs_tool.specs.FilesIn.{AreFilesIn}
 use Rattle.cs_widen.specs.Stands.{AreMeantIn}
 
 -- the sources are accepted in the profile, and declare the environment

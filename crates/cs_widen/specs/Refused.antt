@@ -16,7 +16,8 @@ use Rattle.cs_embeddings.specs.Without as embeddings
 use Rattle.cs_embeddings.specs.Without.{IsJoined}
 use Rattle.cs_embeddings.specs.declared.fault.EmbeddingFault.{EmbeddingFault}
 use Rattle.cs_embeddings.specs.declared.fault.EmbeddingFault.TheVariants as joins
-use Rattle.cs_tool.specs.Accepted.{most_bytes, AreTexts, AreFilesIn}
+use Rattle.cs_tool.specs.Accepted.{most_bytes, AreTexts}
+use Rattle.cs_tool.specs.FilesIn.{AreFilesIn}
 use Rattle.cs_tool.specs.Conversions.{of_resolve, of_guard}
 use Rattle.cs_tool.specs.First.{IsMisspelledIn, SpellingRefusal}
 use Rattle.cs_tool.specs.declared.fault.Fault.{Fault}

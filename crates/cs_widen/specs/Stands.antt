@@ -9,7 +9,8 @@ use Rattle.cs_grammar.specs.declared.profile.Profile.{Profile}
 use Rattle.cs_grammar.specs.declared.profile.Profile.TheVariants as profiles
 use Rattle.cs_defaults.specs.Widened.{IsUnmarked}
 use Rattle.cs_embeddings.specs.Without.{IsJoined}
-use Rattle.cs_tool.specs.Accepted.{AreTexts, AreFilesIn}
+use Rattle.cs_tool.specs.Accepted.{AreTexts}
+use Rattle.cs_tool.specs.FilesIn.{AreFilesIn}
 
 -- the files gs are what the files fs stand for in the wide profile, and no body is too high with what it embeds
 pub record AreMeant (fs gs : List FileTree) : Type 0 where

@@ -13,7 +13,8 @@ ghost use Rattle.cs_syntax.specs.Reading.{Gives, definition_at, line_at, definit
 ghost use Rattle.cs_syntax.specs.Within.{file_within};
 ghost use Rattle.cs_syntax.specs.Nesting.{nesting, most_nested};
 ghost use Rattle.cs_lexer.specs.Lexed.{Answers};
-ghost use Rattle.cs_syntax.specs.Answer.{IsSpelled, IsSpelledIn};
+ghost use Rattle.cs_syntax.specs.Answer.{IsSpelled};
+ghost use Rattle.cs_syntax.specs.AnswerIn.{IsSpelledIn};
 ghost use Rattle.cs_syntax.specs.Refusal.{IsFileRefusal, IsFileRefusalIn};
 
 use crate::parser::height::are_low_bodies;

@@ -4,7 +4,8 @@ ghost use Rattle.std.specs.Prelude.{◌≡◌, map, nat_le};
 ghost use Rattle.cs_grammar.specs.View.{expr_view, exprs_view, fields_view, end_view, definition_view};
 ghost use Rattle.cs_grammar.specs.View.{wide_view, declaration_view, declarations_view};
 ghost use Rattle.cs_grammar.specs.Height.{height, height_all, height_fields, height_end, height_definitions};
-ghost use Rattle.cs_grammar.specs.Height.{height_wide, declaration_height, height_declarations};
+ghost use Rattle.cs_grammar.specs.Height.{height_wide, height_declarations};
+ghost use Rattle.cs_syntax.specs.SeenHeight.{declaration_height};
 
 use cs_grammar::{Declaration, Definition, Expr, Field, ListEnd, Wide};
 

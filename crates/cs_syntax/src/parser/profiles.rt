@@ -7,7 +7,8 @@ ghost use Rattle.cs_grammar.specs.Taken.{taken, wide_lexeme, wide_sort};
 ghost use Rattle.cs_grammar.specs.Tree.{FileTree};
 ghost use Rattle.cs_grammar.specs.View.{lexemes_view};
 ghost use Rattle.cs_grammar.specs.declared.profile.Profile.TheVariants as profiles;
-ghost use Rattle.cs_syntax.specs.Answer.{IsSpelled, IsSpelledIn};
+ghost use Rattle.cs_syntax.specs.Answer.{IsSpelled};
+ghost use Rattle.cs_syntax.specs.AnswerIn.{IsSpelledIn};
 
 use cs_grammar::{Profile, Sort, Token};
 

@@ -1,5 +1,6 @@
 use Rattle.std.proofs.Common.{◌≡◌, ℕ, suc, List, [], ◌∷◌, Some, sym, ap, ◌∙◌, subst, arith}
-use Rattle.cs_grammar.specs.Tree.{Tree, DefinitionTree, bodies}
+use Rattle.cs_grammar.specs.Tree.{Tree, DefinitionTree}
+use Rattle.cs_grammar.specs.Bodies.{bodies}
 use Rattle.cs_grammar.specs.View.{expr_view}
 use Rattle.cs_defaults.specs.Checks.{TellsBody}
 use Rattle.cs_defaults.specs.Leading.{leading, leading_of, leads, to}

@@ -74,7 +74,7 @@ pub returns-in-TooLarge-clause-stuck : goal.returns-in-TooLarge-clause-stuck
 returns-in-TooLarge-clause-stuck c f stuck = stuck_once (returns-in-TooLarge-clause-refused c) stuck
 
 pub returns-clause-only : goal.returns-clause-only
-returns-clause-only c ks cut = cut_once (returns-clause-found c) cut
+returns-clause-only c ks cut = cut_once c.args.profile (returns-clause-found c) cut
 
 pub returns-clause-stuck : goal.returns-clause-stuck
 returns-clause-stuck c f stuck = cut_not_stuck (returns-clause-found c) stuck

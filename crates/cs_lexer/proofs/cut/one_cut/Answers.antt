@@ -4,7 +4,7 @@ use Rattle.cs_lexer.proofs.CutExists.{cut_or_stuck}
 use Rattle.cs_lexer.proofs.cut.one_cut.Goals as goal
 
 pub returns-clause-once : goal.returns-clause-once
-returns-clause-once c profile bs ks js p q = cut_once p q
+returns-clause-once c profile bs ks js p q = cut_once profile p q
 
 pub returns-clause-stuck_once : goal.returns-clause-stuck_once
 returns-clause-stuck_once c profile bs f g p q = stuck_once p q

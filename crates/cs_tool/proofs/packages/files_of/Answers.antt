@@ -3,12 +3,12 @@ use Rattle.std.proofs.lemmas.List.{map-append}
 use Rattle.cs_grammar.specs.Tree.{FileTree}
 use Rattle.cs_grammar.specs.View.{file_view}
 use Rattle.cs_lexer.specs.Lexed.{Answers}
-use Rattle.cs_syntax.specs.Answer.{IsSpelledIn}
+use Rattle.cs_syntax.specs.AnswerIn.{IsSpelledIn}
 use Rattle.cs_syntax.specs.Refusal.{IsFileRefusalIn}
 use Rattle.cs_grammar.specs.declared.fault.SyntaxFault.{SyntaxFault}
 use Rattle.cs_grammar.specs.declared.fault.SyntaxFault.TheVariants as syntax
 use Rattle.cs_grammar.specs.declared.profile.Profile.{Profile}
-use Rattle.cs_tool.specs.Accepted.{AreFilesIn}
+use Rattle.cs_tool.specs.FilesIn.{AreFilesIn}
 use Rattle.cs_tool.specs.First.{IsFirstMisspelledIn, FilesRefusalIn}
 use Rattle.cs_tool.specs.Conversions.{of_syntax}
 use Rattle.cs_tool.specs.declared.fault.Fault.{Fault}

@@ -5,7 +5,7 @@ use Rattle.cs_grammar.specs.declared.ast.File.{File}
 use Rattle.cs_grammar.specs.declared.profile.Profile.{Profile}
 use Rattle.cs_grammar.specs.declared.profile.Profile.TheVariants as profiles
 use Rattle.cs_embeddings.specs.Without.{IsJoined}
-use Rattle.cs_tool.specs.Accepted.{AreFilesIn}
+use Rattle.cs_tool.specs.FilesIn.{AreFilesIn}
 use Rattle.cs_tool.specs.Given.{bytes_in}
 use Rattle.cs_widen.proofs.Once.{no_flaw, no_clash, within, no_fault}
 use Rattle.cs_widen.proofs.source.wide_files.Goals as goal

@@ -3,7 +3,7 @@ use Rattle.std.specs.Map.{update}
 use Rattle.std.specs.Str.{bytes_eq}
 use Rattle.std.proofs.lemmas.Map.Text.{btree_map_updates_str}
 use Rattle.cs_grammar.specs.View.{definition_view}
-use Rattle.cs_grammar.specs.Tree.{bodies}
+use Rattle.cs_grammar.specs.Bodies.{bodies}
 use Rattle.cs_embeddings.specs.Flaws.{is_none}
 use Rattle.cs_embeddings.proofs.Bodies.{Named, table_added, named_again, named_first, declared_by, at_name, entry_items}
 use Rattle.cs_embeddings.proofs.definitions.Bodies.add.Goals as goal

@@ -2,7 +2,8 @@ use Rattle.std.proofs.Common.{rules, ◌≡◌, suc, ◌+◌, ◌∷◌, [], ◌
 use Rattle.std.specs.List.{flat_map}
 use Rattle.std.specs.Vec.Iter.{into_iter_items}
 use Rattle.std.proofs.lemmas.Result.{err_from_is_err_and}
-use Rattle.cs_grammar.specs.Tree.{reference, conjunction, disjunction, paren, wide, merged, bodies}
+use Rattle.cs_grammar.specs.Tree.{reference, conjunction, disjunction, paren, wide, merged}
+use Rattle.cs_grammar.specs.Bodies.{bodies}
 use Rattle.cs_grammar.specs.View.{expr_view, exprs_view, fields_view, field_view, declarations_view}
 use Rattle.cs_grammar.specs.declared.ast.Expr as Exprs
 use Rattle.cs_grammar.proofs.Views.{view-Struct, view-Paren, view-And, view-Or, view-Reference}

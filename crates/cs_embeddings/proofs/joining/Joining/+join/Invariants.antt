@@ -1,7 +1,8 @@
 use Rattle.std.proofs.Common.{◌≡◌, ◌+◌, ◌*◌, true, List, [], ◌∷◌, ◌++◌, Some, drop}
 use Rattle.std.specs.List.{flat_map, list_all}
 use Rattle.std.specs.Vec.Iter.{into_iter_items}
-use Rattle.cs_grammar.specs.Tree.{DefinitionTree, bodies}
+use Rattle.cs_grammar.specs.Tree.{DefinitionTree}
+use Rattle.cs_grammar.specs.Bodies.{bodies}
 use Rattle.cs_grammar.specs.View.{expr_view, exprs_view, declarations_view}
 use Rattle.cs_embeddings.specs.Alternatives as Spec
 use Rattle.cs_embeddings.specs.Checks.{TellsBodies, bodies_view}

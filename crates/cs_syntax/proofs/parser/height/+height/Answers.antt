@@ -1,7 +1,8 @@
 use Rattle.std.proofs.Common.{refl, sym, ap, ◌∙◌}
 use Rattle.std.specs.Prelude.{nat_le, max, ◌&&◌, ◌-◌}
 use Rattle.cs_grammar.specs.View.{expr_view, exprs_view, fields_view, declaration_view, declarations_view, end_view}
-use Rattle.cs_grammar.specs.Height.{height, height_all, height_fields, height_declarations, declaration_height, height_end}
+use Rattle.cs_grammar.specs.Height.{height, height_all, height_fields, height_declarations, height_end}
+use Rattle.cs_syntax.specs.SeenHeight.{declaration_height}
 use Rattle.cs_grammar.proofs.Views.{view-And, view-Or, view-Paren, view-Struct, view-List, view-Closed, view-Any, view-Each}
 use Rattle.cs_syntax.proofs.Heights.{low_one, high_one, low_all, field_parts, declaration_parts, no_height, one_more, positive, nothing_high, within_both}
 use Rattle.cs_syntax.proofs.parser.height.+height.Goals as goal
