@@ -5,7 +5,7 @@ use Rattle.std.specs.declared.alloc.Global.{Global}
 use Rattle.std.specs.Prelude.{string_eq}
 use Rattle.std.specs.String.{string_eq_equiv}
 use Rattle.cs_document.specs.Document.{Document}
-use Rattle.cs_json.specs.Texts.{IsJson, HasOtherNumber}
+use Rattle.cs_json.specs.Refusal.{IsJson, HasOtherNumber}
 use Rattle.cs_check.specs.Flaws.{IsFirstFlaw, IsFlawOf, BeginsWithFirstFlaw, is_same}
 use Rattle.cs_check.specs.declared.schema.Flaw.{Flaw}
 use Rattle.cs_check.specs.declared.schema.Flaw.TheVariants as flaw

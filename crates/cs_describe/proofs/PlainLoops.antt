@@ -8,7 +8,8 @@ use Rattle.cs_document.specs.Document.{Document, null, boolean, integer, text, l
 use Rattle.cs_profile.specs.Keywords.{keywords, defined}
 use Rattle.cs_profile.specs.declared.keyword.Keyword.{Keyword}
 use Rattle.cs_profile.specs.declared.keyword.Keyword.TheVariants as keyword
-use Rattle.cs_profile.specs.Loops.{by_keyword, value_names, direct_names, keyword_names, list_names, each_names, RefersDirectly, NoLoop}
+use Rattle.cs_profile.specs.Loops.{by_keyword, direct_names, keyword_names, list_names, each_names, RefersDirectly, NoLoop}
+use Rattle.cs_profile.specs.ValueNames.{value_names}
 use Rattle.cs_profile.specs.Shapes.{form_in}
 use Rattle.cs_describe.specs.Plain.{as_schema, plain_by, plain_schema, plain_members, plain_list, plain_elements, plain_values, plain_value, plain}
 use Rattle.cs_describe.proofs.PlainDefined.{defined_plain}

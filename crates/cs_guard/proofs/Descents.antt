@@ -8,7 +8,8 @@ use Rattle.cs_graph.specs.Paths.{Links}
 use Rattle.cs_graph.proofs.Paths.{height_falls, links_push}
 use Rattle.cs_graph.proofs.Places.{on_cases}
 use Rattle.cs_guard.specs.Descent.{IsDescent}
-use Rattle.cs_guard.specs.Limits.{IsTooDeep, most_references}
+use Rattle.cs_guard.specs.Limits.{most_references}
+use Rattle.cs_guard.specs.LongChains.{IsTooDeep}
 
 -- the numbers so far, of which the last is as high as the chain still goes on
 pub record IsUnderWay (G : Graph) (hs : List ℕ) (first : ℕ) (ns : List ℕ) (last : ℕ) : Type 0 where

@@ -6,7 +6,8 @@ use Rattle.std.proofs.lemmas.Option.{slice_get_within}
 use Rattle.cs_graph.specs.Chains.{Chain, NoCycle}
 use Rattle.cs_graph.specs.Graph.{Graph, Refers, AreHeights}
 use Rattle.cs_package.specs.Environment.{Environment, declared_names}
-use Rattle.cs_guard.specs.Limits.{IsGuarded, IsTooDeep, most_references}
+use Rattle.cs_guard.specs.Limits.{IsGuarded, most_references}
+use Rattle.cs_guard.specs.LongChains.{IsTooDeep}
 use Rattle.cs_guard.specs.Numbered.{IsGraphOf, name_of}
 use Rattle.cs_guard.specs.Descent.{IsDescent}
 use Rattle.cs_guard.specs.Ranks.{AreRanks}

@@ -14,7 +14,8 @@ use Rattle.cs_guard.specs.Ranks.{AreRanks}
 use Rattle.cs_guard.specs.Cycles as refused
 use Rattle.cs_graph.specs.Chains.{On, Distinct, Chain, NoCycle, IsHeight}
 use Rattle.cs_graph.specs.Graph.{Graph, Refers, IsLowestFirst, IsLowestCycle, AreHeights}
-use Rattle.cs_guard.specs.Limits.{IsGuarded, IsTooDeep, most_references}
+use Rattle.cs_guard.specs.Limits.{IsGuarded, most_references}
+use Rattle.cs_guard.specs.LongChains.{IsTooDeep}
 use Rattle.cs_guard.specs.Numbered.{name_of, IsGraphOf}
 use Rattle.cs_graph.proofs.Paths.{none_closed}
 use Rattle.cs_graph.proofs.Named.{StandsFor, on_map, map_on, chain_along, chain_back, height_named, no_cycle_named, closed_named, closed_inside, distinct_named, distinct_by}

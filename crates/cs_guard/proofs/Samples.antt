@@ -11,7 +11,8 @@ use Rattle.cs_guard.specs.References.{direct, inside, strong, strong_of, RefersS
 use Rattle.cs_graph.specs.Chains as general
 use Rattle.cs_graph.specs.Chains.{On, Chain, NoCycle}
 use Rattle.cs_guard.specs.Limits as limits
-use Rattle.cs_guard.specs.Limits.{IsTooDeep, most_references}
+use Rattle.cs_guard.specs.Limits.{most_references}
+use Rattle.cs_guard.specs.LongChains.{IsTooDeep}
 use Rattle.cs_guard.specs.Guarded.{IsGuarded, IsHeight}
 use Rattle.cs_guard.specs.Cycles.{IsCycle, IsRefusal}
 use Rattle.cs_guard.specs.declared.fault.GuardFault.TheVariants.{Cycle, ChainTooLong}

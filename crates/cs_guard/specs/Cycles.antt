@@ -5,7 +5,7 @@ use Rattle.std.specs.List.{IsDistinct}
 use Rattle.std.specs.Str.{bytes_eq}
 use Rattle.cs_package.specs.Environment.{Environment, name_at, written}
 use Rattle.cs_graph.specs.Chains as general
-use Rattle.cs_guard.specs.Limits as limits
+use Rattle.cs_guard.specs.LongChains as long
 use Rattle.cs_guard.specs.References.{RefersStrongly}
 use Rattle.cs_guard.specs.declared.fault.GuardFault.{GuardFault}
 use Rattle.cs_guard.specs.declared.fault.GuardFault.TheVariants.{OutOfMemory, Cycle, ChainTooLong}
@@ -23,7 +23,7 @@ pub record IsCycle (E : Environment) (ns : List (List ℕ)) : Type 0 where
 
 -- there is no cycle, and the names are a chain of more strong references than may be: each refers strongly to the next
 abbrev pub IsTooDeep : Environment → List (List ℕ) → Type 0
-IsTooDeep E = limits.IsTooDeep (RefersStrongly E)
+IsTooDeep E = long.IsTooDeep (RefersStrongly E)
 
 -- what is refused: a cycle, or a chain that is too long where there is no cycle, both told by their names as CUE writes them
 abbrev pub IsRefusal : GuardFault → Environment → Type 0

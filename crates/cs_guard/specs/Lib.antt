@@ -1,6 +1,7 @@
 -- What refers to what, and which environments are guarded.
 pub mod References
 pub mod Limits
+pub mod LongChains
 pub mod Guarded
 pub mod Cycles
 pub mod Numbered

@@ -7,7 +7,8 @@ use Rattle.std.proofs.lemmas.Str.{IsUtf8-from_is_utf8}
 use Rattle.serde_json.specs.Read.{read}
 use Rattle.cs_document.specs.Document.{Document, null, boolean, integer, text}
 use Rattle.cs_document.proofs.SampleDocuments.{number, array, map_of}
-use Rattle.cs_json.specs.Texts.{document_of, text_of, Reads, IsJson, HasOtherNumber}
+use Rattle.cs_json.specs.Texts.{document_of, text_of, Reads}
+use Rattle.cs_json.specs.Refusal.{IsJson, HasOtherNumber}
 use Rattle.cs_json.proofs.OnLiterals.{cs_doc_on_literals}
 use Prim.Native.String.{String}
 

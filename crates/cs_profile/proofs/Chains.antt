@@ -9,7 +9,8 @@ use Rattle.cs_graph.specs.Chains.{Chain}
 use Rattle.cs_graph.proofs.Paths.{chain_push, none_closed}
 use Rattle.cs_document.specs.Document.{Document, Entry, under}
 use Rattle.cs_profile.specs.Keywords.{defined, listed_under, entries_of}
-use Rattle.cs_profile.specs.Loops.{direct_names, RefersDirectly, IsLoop, NoLoop}
+use Rattle.cs_profile.specs.Loops.{direct_names, RefersDirectly, NoLoop}
+use Rattle.cs_profile.specs.Refusal.{IsLoop}
 
 -- where no definition reaches itself, no names are a loop
 pub none_loop : (R : Document) → NoLoop R → (ns : List (List ℕ)) → IsLoop R ns → ⊥

@@ -9,7 +9,8 @@ use Rattle.cs_document.proofs.Each.{each_append}
 use Rattle.cs_profile.specs.Keywords.{keywords, reference_start, text_after, entries_of, listed_under, defined}
 use Rattle.cs_profile.specs.declared.keyword.Keyword.{Keyword}
 use Rattle.cs_profile.specs.declared.keyword.Keyword.TheVariants as keyword
-use Rattle.cs_profile.specs.Loops.{name_in, by_keyword, value_names, direct_names, keyword_names, list_names, each_names}
+use Rattle.cs_profile.specs.Loops.{name_in, by_keyword, direct_names, keyword_names, list_names, each_names}
+use Rattle.cs_profile.specs.ValueNames.{value_names}
 use Rattle.cs_profile.specs.Shapes.{form_at, form_in, form_of, stands, by_form}
 use Rattle.cs_profile.specs.Places.{at_key, at_index}
 use Rattle.cs_profile.specs.Profile.{Visit, undefined, keyword_at, first, fault_of, form_fault, visits, member_visits, list_visits, element_visits, map_visits, named_visits, within, unless_defined, reference_fault, undefined_at, walk_fault, name_fault}

@@ -14,7 +14,8 @@ use Rattle.cs_profile.specs.declared.keyword.Keyword.{Keyword}
 use Rattle.cs_profile.specs.declared.keyword.Keyword.TheVariants as keyword
 use Rattle.cs_profile.specs.Constraint.{nothing, has_kind, assertion, assertion_at, constraint_of}
 use Rattle.cs_profile.specs.Validity.{is_satisfied, OneMeaning}
-use Rattle.cs_profile.specs.Loops.{by_keyword, value_names, direct_names, keyword_names, list_names, each_names, NoLoop}
+use Rattle.cs_profile.specs.Loops.{by_keyword, direct_names, keyword_names, list_names, each_names, NoLoop}
+use Rattle.cs_profile.specs.ValueNames.{value_names}
 use Rattle.cs_profile.proofs.Locality.{here_of, here_parts, inside_parts, satisfied_same}
 use Rattle.cs_profile.proofs.Chains.{Short, most_steps, all_short}
 

@@ -9,7 +9,8 @@ use Rattle.std.proofs.lemmas.Grind.{flat_map-append}
 use Rattle.cs_document.specs.Document.{Document, object, Entry, under}
 use Rattle.cs_document.specs.View.{documents_of}
 use Rattle.cs_profile.specs.Keywords.{keywords}
-use Rattle.cs_profile.specs.Loops.{ByReach, by_keyword, value_names, direct_names, keyword_names, each_names}
+use Rattle.cs_profile.specs.Loops.{ByReach, by_keyword, direct_names, keyword_names, each_names}
+use Rattle.cs_profile.specs.ValueNames.{value_names}
 use Rattle.cs_profile.specs.Numbered.{by_text, numbers_of, reference_names, names_of_each}
 use Rattle.cs_profile.specs.SchemaDocument.{Slot, reference_document, present, schema_view, schemas_view, slots_of, unless_no_list}
 use Rattle.cs_profile.specs.declared.keyword.Keyword.{Keyword}

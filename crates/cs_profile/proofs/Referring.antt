@@ -16,7 +16,8 @@ use Rattle.cs_profile.specs.declared.keyword.Form.{Form}
 use Rattle.cs_profile.specs.declared.keyword.Form.TheVariants as form
 use Rattle.cs_profile.specs.declared.fault.SchemaFault.{SchemaFault}
 use Rattle.cs_profile.specs.declared.fault.SchemaFault.TheVariants as fault
-use Rattle.cs_profile.specs.Loops.{ByReach, by_keyword, value_names, direct_names, keyword_names, list_names, each_names, NoLoop}
+use Rattle.cs_profile.specs.Loops.{ByReach, by_keyword, direct_names, keyword_names, list_names, each_names, NoLoop}
+use Rattle.cs_profile.specs.ValueNames.{value_names}
 use Rattle.cs_profile.specs.Shapes.{form_at, form_in, keeping, is_kept, dialect}
 use Rattle.cs_profile.specs.Places.{at_key, at_index}
 use Rattle.cs_profile.specs.Profile.{Fault, Visit, first, or_else, undefined_at, reference_fault, keyword_at, visits, member_visits, list_visits, element_visits, map_visits, named_visits, within, walk_fault, name_fault}

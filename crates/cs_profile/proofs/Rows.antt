@@ -4,7 +4,7 @@ use Rattle.std.specs.List.{list_all, list_any}
 use Rattle.cs_document.specs.Document.{Document, null, boolean, integer, text}
 use Rattle.cs_document.proofs.SampleDocuments.{number as n, string as t, array as l, named_map as o}
 use Rattle.cs_profile.specs.Validity.{IsValidity}
-use Rattle.cs_profile.specs.Loops.{IsLoop}
+use Rattle.cs_profile.specs.Refusal.{IsLoop}
 use Rattle.cs_profile.proofs.Unfolded.{unfolded, all_valid, none_valid}
 use Prim.Native.String.{String}
 

@@ -18,7 +18,8 @@ use Rattle.cs_profile.specs.Constraint.{nothing, assertion_at}
 use Rattle.cs_profile.specs.Places.{at_key, at_index}
 use Rattle.cs_graph.specs.Chains.{Chain}
 use Rattle.cs_graph.proofs.Paths.{chain_short, no_cycle}
-use Rattle.cs_profile.specs.Loops.{direct_names, RefersDirectly, IsLoop, NoLoop, IsRank}
+use Rattle.cs_profile.specs.Loops.{direct_names, RefersDirectly, NoLoop, IsRank}
+use Rattle.cs_profile.specs.Refusal.{IsLoop}
 use Rattle.cs_profile.specs.Refusal.{LeastFirst, IsLeastLoop, IsLoopRefusal}
 use Rattle.cs_profile.specs.declared.fault.SchemaFault.TheVariants as fault
 use Rattle.cs_profile.specs.SchemaDocument.{Slot, kind_name, keyword_slots, reference_document, text_document, unless_no_list, unless_no_map}

@@ -12,4 +12,5 @@ pub mod SchemaDocument
 pub mod Refusal
 -- for contracts of private functions and proofs alone
 pub mod Values
+pub mod ValueNames
 pub mod Numbered

@@ -3,7 +3,7 @@ use Rattle.std.specs.Prelude.{ℕ, List, [], ◌++◌, Option, Some, None, optio
 use Rattle.std.specs.Option.{option_map_or}
 use Rattle.std.specs.Str.{bytes_eq}
 use Rattle.std.specs.List.{list_any}
-use Rattle.cs_graph.specs.Chains.{IsClosed, NoCycle, IsHeight}
+use Rattle.cs_graph.specs.Chains.{NoCycle, IsHeight}
 use Rattle.cs_document.specs.Document.{Document, text, list, object, Documents, no_documents, document, Members, no_members, member, under}
 use Rattle.cs_profile.specs.Keywords.{keywords, reference_start, text_after, defined}
 use Rattle.cs_profile.specs.declared.keyword.Keyword.{Keyword}
@@ -66,21 +66,9 @@ abbrev mutual
   each_names no_documents = []
   each_names (document s ss) = direct_names s ++ each_names ss
 
--- the names in a value, by how its keyword reaches them; for private contracts alone
-abbrev pub value_names : Document → ByReach
-value_names v = record {
-  name = name_in v;
-  itself = direct_names v;
-  elements = list_names v;
-}
-
 -- the definition n of the root R refers directly to the name m
 abbrev pub RefersDirectly : Document → List ℕ → List ℕ → Type 0
 RefersDirectly R n m = IsTrue (list_any (bytes_eq m) (option_map_or direct_names (defined R n) []))
-
--- each of the names refers directly to the next, and the last one to the first
-abbrev pub IsLoop : Document → List (List ℕ) → Type 0
-IsLoop R = IsClosed (RefersDirectly R)
 
 -- no definition reaches itself directly
 abbrev pub NoLoop : Document → Type 0

@@ -6,7 +6,8 @@ use Rattle.std.specs.declared.cmp.Ordering.TheVariants.{Less}
 use Rattle.std.specs.List.{AllByRecursion, IsDistinct}
 use Rattle.std.specs.Str.{bytes_eq}
 use Rattle.cs_document.specs.Document.{Document}
-use Rattle.cs_profile.specs.Loops.{IsLoop}
+use Rattle.cs_graph.specs.Chains.{IsClosed}
+use Rattle.cs_profile.specs.Loops.{RefersDirectly}
 use Rattle.cs_profile.specs.Profile.{unknown, misshapen, undefined, walk_fault, name_fault}
 use Rattle.cs_profile.specs.declared.fault.SchemaFault.{SchemaFault}
 use Rattle.cs_profile.specs.declared.fault.SchemaFault.TheVariants as fault
@@ -15,6 +16,10 @@ use Rattle.cs_profile.specs.declared.fault.SchemaFault.TheVariants as fault
 abbrev pub LeastFirst : List (List ℕ) → Type 0
 LeastFirst [] = Unit {0}
 LeastFirst (n ∷ ns) = AllByRecursion (λ m. slice_cmp nat_cmp n m ≡ Less) ns
+
+-- each of the names refers directly to the next, and the last one to the first
+abbrev pub IsLoop : Document → List (List ℕ) → Type 0
+IsLoop R = IsClosed (RefersDirectly R)
 
 -- each of the names refers directly to the next and the last to the first, no name stands twice, and the least is first
 pub record IsLeastLoop (d : Document) (names : List (List ℕ)) : Type 0 where

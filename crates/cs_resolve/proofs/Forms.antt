@@ -11,7 +11,7 @@ use Rattle.cs_resolve.specs.Declarations.{distinct, bodies_of, faults_of_files}
 use Rattle.cs_resolve.specs.Offsets.{StandsBefore}
 use Rattle.cs_resolve.specs.Opening.{has_literal_or_reference, Literal, literals, conjunctions}
 use Rattle.cs_resolve.specs.Unopened.{demands_open, unopened}
-use Rattle.cs_resolve.specs.PackageName.{differing_file}
+use Rattle.cs_resolve.specs.DifferingFile.{differing_file}
 use Rattle.cs_resolve.specs.Predeclared.{predeclared}
 use Rattle.cs_resolve.specs.Earlier.{no_refinements}
 use Rattle.cs_resolve.specs.Resolved.{resolved}

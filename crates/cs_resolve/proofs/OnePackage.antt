@@ -7,7 +7,8 @@ use Rattle.std.proofs.lemmas.Iterator.Adapters.{position_from-zero}
 use Rattle.std.proofs.lemmas.Option.{same_Some}
 use Rattle.std.proofs.lemmas.Slice.Eq.{bytes_eq-Decides}
 use Rattle.cs_grammar.specs.Tree.{FileTree, package_name}
-use Rattle.cs_resolve.specs.PackageName.{first_named, names_other, differing_file, IsOnePackage}
+use Rattle.cs_resolve.specs.PackageName.{IsOnePackage}
+use Rattle.cs_resolve.specs.DifferingFile.{first_named, names_other, differing_file}
 use Rattle.cs_package.proofs.Environments.{all-at}
 
 -- ---- lists

@@ -13,7 +13,7 @@ use Rattle.cs_resolve.specs.Unopened.{unopened}
 use Rattle.cs_resolve.specs.Earlier.{no_refinements}
 use Rattle.cs_resolve.specs.Scopes.{places, faults, unknown, of_field}
 use Rattle.cs_resolve.specs.Declarations.{names, faults_of_files}
-use Rattle.cs_resolve.specs.PackageName.{differing_file}
+use Rattle.cs_resolve.specs.DifferingFile.{differing_file}
 use Rattle.std.proofs.Common.{Some, None}
 use Rattle.cs_resolve.proofs.Refined.{unopened_of}
 

@@ -15,6 +15,7 @@ pub mod Opening
 pub mod Unopened
 pub use Rattle.cs_grammar.specs.Size
 pub mod PackageName
+pub mod DifferingFile
 pub mod Resolved
 pub mod Refusal
 pub mod Offsets

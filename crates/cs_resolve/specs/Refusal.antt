@@ -4,7 +4,8 @@ use Rattle.std.specs.List.{All, flat_map}
 use Rattle.cs_grammar.specs.Source.{IsSpelledBy}
 use Rattle.cs_grammar.specs.Tree.{FileTree, definitions}
 use Rattle.cs_resolve.specs.Declarations.{names, faults_of_files}
-use Rattle.cs_resolve.specs.PackageName.{IsOnePackage, differing_file}
+use Rattle.cs_resolve.specs.PackageName.{IsOnePackage}
+use Rattle.cs_resolve.specs.DifferingFile.{differing_file}
 use Rattle.cs_resolve.specs.Refinement.{Refinements, AreRefinements}
 use Rattle.cs_resolve.specs.Resolved.{IsSmall, IsResolved}
 use Rattle.cs_resolve.specs.Scopes.{unknown, of_field}

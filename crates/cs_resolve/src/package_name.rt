@@ -3,7 +3,7 @@
 ghost use Rattle.std.specs.Prelude.{◌≡◌, map};
 ghost use Rattle.std.specs.Option.{option_map};
 ghost use Rattle.cs_grammar.specs.View.{file_view};
-ghost use Rattle.cs_resolve.specs.PackageName as Name;
+ghost use Rattle.cs_resolve.specs.DifferingFile as Name;
 
 use cs_grammar::File;
 

@@ -2,7 +2,8 @@
 use Rattle.std.proofs.Common.{◌≡◌, ℕ, Bool, true, false, List, [], ◌∷◌, map, Option, Some, None, is_some, String, Global, Box, string_bytes, codes, refl, sym, ap, ap₂, ◌∙◌, subst, bytes_eq, if◌then◌else◌}
 use Rattle.cs_document.specs.Document.{Document, boolean, object, text, Members, entries, under, put}
 use Rattle.cs_profile.specs.Keywords.{listed_under, defined, reference_start, text_after}
-use Rattle.cs_profile.specs.Loops.{NoLoop, IsLoop}
+use Rattle.cs_profile.specs.Loops.{NoLoop}
+use Rattle.cs_profile.specs.Refusal.{IsLoop}
 use Rattle.cs_profile.specs.Shapes.{dialect, form_at, has_form}
 use Rattle.cs_profile.specs.Profile.{Fault, undefined, Visit, value_at, keyword_at, first, fault_of, or_else, shape_fault, form_fault, is_truth, undefined_at, reference_fault, unless_defined, visits, member_visits, walk_fault, name_fault, IsSchema}
 use Rattle.cs_profile.specs.declared.keyword.Form.{Form}

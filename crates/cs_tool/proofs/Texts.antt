@@ -5,7 +5,8 @@ use Rattle.cs_document.specs.Document.{Document}
 use Rattle.cs_document.specs.declared.fault.DocFault.{DocFault}
 use Rattle.cs_document.specs.declared.fault.DocFault.TheVariants as doc
 use Rattle.cs_json.specs.Refusal as unread
-use Rattle.cs_json.specs.Texts.{Reads, IsJson, HasOtherNumber}
+use Rattle.cs_json.specs.Texts.{Reads}
+use Rattle.cs_json.specs.Refusal.{IsJson, HasOtherNumber}
 use Rattle.cs_tool.specs.CallRefusals.{IsSchemaText, ValidateRefusal}
 use Rattle.cs_tool.specs.Conversions.{of_schema_text}
 use Rattle.cs_tool.specs.declared.fault.Fault.TheVariants.{OutOfMemory}

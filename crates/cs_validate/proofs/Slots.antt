@@ -7,7 +7,8 @@ use Rattle.cs_document.specs.Document.{Document, list, elements, entries, Member
 use Rattle.cs_document.specs.View.{documents_of, members_of}
 use Rattle.cs_profile.specs.Keywords.{keywords, listed_under, entries_of, elements_of}
 use Rattle.cs_profile.specs.Constraint.{places_taken}
-use Rattle.cs_profile.specs.Loops.{ByReach, by_keyword, value_names, direct_names, keyword_names, each_names}
+use Rattle.cs_profile.specs.Loops.{ByReach, by_keyword, direct_names, keyword_names, each_names}
+use Rattle.cs_profile.specs.ValueNames.{value_names}
 use Rattle.cs_profile.specs.Numbered.{reference_names, names_of_each, names_in}
 use Rattle.cs_profile.specs.SchemaDocument.{Slot, reference_document, unless_no_map, unless_no_list, definitions_view, present, schema_view, schemas_view, slots_of}
 use Rattle.cs_profile.specs.declared.keyword.Keyword.{Keyword}

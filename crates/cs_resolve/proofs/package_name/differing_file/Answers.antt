@@ -5,7 +5,7 @@ use Rattle.std.proofs.lemmas.Iterator.{YieldsList-from_slice}
 use Rattle.std.proofs.lemmas.Iterator.Search.{position_from_yields_List}
 use Rattle.std.proofs.lemmas.List.{length-map}
 use Rattle.cs_grammar.specs.View.{file_view}
-use Rattle.cs_resolve.specs.PackageName.{names_other}
+use Rattle.cs_resolve.specs.DifferingFile.{names_other}
 use Rattle.cs_resolve.proofs.package_name.differing_file.Goals as goal
 
 prefix_len-map : {X Y : Type 0} (v : X → Y) (p : Y → Bool) (xs : List X) → prefix_len p (map v xs) ≡ prefix_len (λ x. p (v x)) xs

@@ -1,5 +1,5 @@
 use Rattle.std.proofs.Common.{◌≡◌, drop, map}
-use Rattle.cs_resolve.specs.PackageName.{first_named}
+use Rattle.cs_resolve.specs.DifferingFile.{first_named}
 use Rattle.cs_grammar.specs.View.{file_view}
 use Rattle.cs_resolve.proofs.package_name.first_named.Given as goal
 
