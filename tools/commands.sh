@@ -524,7 +524,7 @@ one: valid" '' 'run validate --why --schema names.json --docs many.json one'
 
 # Outputs for programs, judged by the program itself: `basic` by the standard's own schema as far as the profile has its
 # keywords, and `json` by a definition of it.
-cp "$cases"/why-schema/*.json "$cases"/why-schema/output.cue "$cases"/why-instance/forms.* .
+cp "$cases"/why-schema/*.json "$cases"/why-schema/output.cue "$cases"/why-instance/forms.* "$cases"/embeddings/base.cue "$cases"/embeddings/p.* .
 try valid '"$program" validate --format basic --schema schema.json --doc keywords.json > out.json || true; run validate --schema output.schema.json --doc out.json'
 try valid '"$program" validate --format basic --why=all --most 1000 --schema schema.json --doc keywords.json > out.json || true; run validate --schema output.schema.json --doc out.json'
 try_run 1 '{"valid":false}' '' 'run validate --format flag --schema schema.json --doc keywords.json'
@@ -533,6 +533,7 @@ try valid '"$program" validate --format json --most 1000 --schema schema.json --
 try valid '"$program" vet --format json --most 1000 --root "#P" --doc forms.json forms.cue > out.json || true; run vet --root "#Output" --doc out.json output.cue'
 try valid '"$program" agree --format json --why=all --most 1000 --root "#P" --doc forms.json forms.cue > out.json || true; run vet --root "#Output" --doc out.json output.cue'
 try valid '"$program" vet --format json --root "#P" --doc one port.cue > out.json || true; run vet --root "#Output" --doc out.json output.cue'
+try valid '"$program" vet --profile wide --format json --root "#P" --doc p.json base.cue p.cue > out.json || true; run vet --root "#Output" --doc out.json output.cue'
 try valid '"$program" vet --format json --root "#P" --doc one syntax.cue > out.json || true; run vet --root "#Output" --doc out.json output.cue'
 try valid '"$program" validate --format json --schema keyword.json --doc one > out.json || true; run vet --root "#Output" --doc out.json output.cue'
 try valid '"$program" validate --format json --schema names.json --doc many.json > out.json || true; run vet --root "#Output" --doc out.json output.cue'

@@ -831,6 +831,18 @@ try 'wide: 64,000 alternatives of three definitions: widen' 0 'error 14' 'widen 
 try 'wide: 20,000 operands put together: widen' 0 'shows a19999: int' 'widen --profile=wide wide.cue'
 { printf '#P: '; listed 40 '({a%d: int} | {b: int})' ' & '; printf '\n'; } > wide.cue
 try 'wide: 40 operands of two alternatives: widen' 0 'error 14' 'widen --profile=wide wide.cue'
+listed 20000 '#A: {a%d: int}' '\n' > wide.cue
+try 'wide: 20,000 bodies of one definition: widen' 0 'error 11 at 4' 'widen --profile=wide wide.cue'
+listed 64 '#A: {a%d: int} | {b: int}' '\n' > wide.cue
+try 'wide: 64 bodies of two alternatives: widen' 0 'error 14' 'widen --profile=wide wide.cue'
+awk 'BEGIN { for (i = 0; i < 15000; i++) printf "#A%d: {a%d?: int}\n", i % 900, i }' > wide.cue
+try 'wide: 15,000 bodies of 900 definitions: widen' 0 'shows a14999?: int' 'widen --profile=wide wide.cue'
+awk 'BEGIN { printf "#A: {"; for (i = 0; i < 12000; i++) printf "x%d: {a%d?: int}, ", i % 500, i; print "}" }' > wide.cue
+try 'wide: 12,000 values of 500 labels: widen' 0 'shows a11999?: int' 'widen --profile=wide wide.cue'
+{ printf '#A: {'; listed 40000 'x: {a%d: int}' ', '; printf '}\n'; } > wide.cue
+try 'wide: 40,000 values of one label: widen' 0 'error 14' 'widen --profile=wide wide.cue'
+{ printf '#A: {'; listed 20000 'x: {a%d: int}' ', '; printf '}\n'; } > wide.cue
+try 'wide: 20,000 values of one label: widen' 0 'error 11 at 8' 'widen --profile=wide wide.cue'
 { printf '#B: {k: int}\n#P: #B & '; listed 9000 '{a%d: int}' ' & '; printf '\n'; } > wide.cue
 try 'wide: 9,000 operands beside a reference: widen' 0 'error 11 at 22' 'widen --profile=wide wide.cue'
 {
@@ -874,4 +886,75 @@ printf '{}' > empty
 missing=$(awk 'BEGIN { for (i = 0; i < 20000; i++) printf "⏎empty:1:1: (root): the key \"a%d\" is missing [wide.cue:2:6 #A.a%d]", i, i }')
 try 'wide: 20,000 embedded keys, none there: vet --why' 2020002 'holds 1 the key "a19999" is missing' \
     'vet --why --profile=wide --most 1000000 --root #A --doc empty wide.cue'
+{ printf '#A: {'; listed 10000 'a%d: {x: int}' ', '; printf ', '; listed 10000 'a%d: {y: int}' ', '; printf '}\n'; } > wide.cue
+try 'wide: 10,000 labels that are declared twice, none there: vet --why' 1010002 \
+    'holds 1 the key "a9999" is missing [wide.cue:1:168879 #A.a9999]' \
+    'vet --why --profile=wide --most 1000000 --root #A --doc empty wide.cue'
+# Many declarations of one label in a literal that embeds something: plain values, opened literals, closed ones, references.
+{ printf '#B: {b: int}\n#A: {#B, '; many 20000 'a: >0, '; printf '}\n'; } > wide.cue
+try 'wide: 20,000 declarations of one label: widen' 0 'shows a: >0' 'widen --profile=wide wide.cue'
+try 'wide: 20,000 declarations of one label: export' 1000000 'shows "a":{"allOf":[{"exclusiveMinimum":0,"type":"number"},' \
+    'export --profile=wide --root #A wide.cue'
+printf '{"a":1,"b":2}' > one
+try 'wide: 20,000 declarations of one label: vet' 60000 valid 'vet --profile=wide --root #A --doc one wide.cue'
+{ printf '#B: {b: int}\n#A: {#B, '; many 20000 'a: {...}, '; printf '}\n'; } > wide.cue
+try 'wide: 20,000 opened structs of one label: widen' 0 'shows a: {...}' 'widen --profile=wide wide.cue'
+{ printf '#B: {b: int}\n#A: {#B, '; many 20000 'a: {}, '; printf '}\n'; } > wide.cue
+try 'wide: 20,000 closed structs of one label: widen' 0 'error 11 at 25' 'widen --profile=wide wide.cue'
+{ printf '#B: {b: int}\n#A: {#B, '; many 4000 'a: {}, '; printf '}\n'; } > wide.cue
+try 'wide: 4,000 closed structs of one label: check' 20000000 'holds 2 wide.cue:2:13: error 11' 'check --profile=wide wide.cue'
+{ printf '#B: {b: int}\n#A: {#B, '; many 20000 'a: #B, '; printf '}\n'; } > wide.cue
+try 'wide: 20,000 times one reference of one label: widen' 0 'shows a: #B' 'widen --profile=wide wide.cue'
+# Structs that `&` joins, by the commands that go on with what they stand for.
+{ printf '#P: '; listed 20000 '{a%d: int}' ' & '; printf '\n'; } > wide.cue
+try 'wide: 20,000 operands put together: export' 1000000 'shows "a19999":{"type":"integer"}' 'export --profile=wide --root #P wide.cue'
+try 'wide: 20,000 operands put together: check' 10000000 'lines 0' 'check --profile=wide wide.cue'
+# Attributes, each as long and as deep as it may be, and such as have no end.
+{ printf '#A: {'; listed 20000 'a%d: int @go(A, "x")' '\n'; printf '}\n'; } > wide.cue
+try 'wide: 20,000 attributes of fields: export' 1000000 'shows "a19999":{"type":"integer"}' 'export --profile=wide --root #A wide.cue'
+{ printf '#A: {\n'; many 20000 '@go(A)\n' | sed 's/\\n/\n/g'; printf '}\n'; } > wide.cue
+try 'wide: 20,000 attributes on lines: widen' 0 'lines 0 #A: {}' 'widen --profile=wide wide.cue'
+{ printf '#A: int'; many 20000 ' @a()'; printf '\n'; } > wide.cue
+try 'wide: 20,000 attributes of one value: widen' 0 'lines 0 #A: int' 'widen --profile=wide wide.cue'
+try 'wide: 20,000 attributes of one value: export --describe' 0 '{"A":{"type":"integer"}}' 'export --describe --profile=wide --root #A wide.cue'
+stack=1024
+{ printf '#A: int @a('; nested 500000 '(' '' ')'; printf ')\n'; } > wide.cue
+try 'wide: 500,000 parentheses in an attribute: export' 0 '{"A":{"type":"integer"}}' 'export --profile=wide --root #A wide.cue'
+stack=8192
+{ printf '#A: int @a('; many 500000 '['; printf ')\n'; } > wide.cue
+try 'wide: 500,000 open lists in an attribute: export' 0 'error 3 at 8' 'export --profile=wide --root #A wide.cue'
+try 'wide: 500,000 open lists in an attribute: check' 1000000 'holds 2 wide.cue:1:9: error 3' 'check --profile=wide wide.cue'
+{ printf '#A: int'; many 300000 ' @('; printf '\n'; } > wide.cue
+try 'wide: 300,000 attributes without a name: export' 0 'error 3 at 8' 'export --profile=wide --root #A wide.cue'
+{ printf '#A: int'; many 200000 ' @a('; printf '\n'; } > wide.cue
+try 'wide: 200,000 attributes without an end: export' 0 'error 3 at 8' 'export --profile=wide --root #A wide.cue'
+try 'wide: 200,000 attributes without an end: check' 20000000 'holds 2 wide.cue:1:9: error 3' 'check --profile=wide wide.cue'
+{ printf '#A: int'; many 150000 ' @a(])'; printf '\n'; } > wide.cue
+try 'wide: 150,000 attributes of a wrong bracket: check' 20000000 'holds 2 wide.cue:1:9: error 3' 'check --profile=wide wide.cue'
+{ printf '#A: int @a("'; fill 1048000 a; printf '\n'; } > wide.cue
+try 'wide: an attribute of a text without an end: export' 0 'error 3 at 8' 'export --profile=wide --root #A wide.cue'
+# Calls of `close` in one another: parentheses, of which 27 are taken around what is one level high.
+nested 27 'close(' '{}' ')' | sed 's/^/#A: /' > wide.cue
+stack=1024
+try 'wide: 27 close in one another, 1 MiB of stack: export' 0 '{"A":{"additionalProperties":false,"type":"object"}}' \
+    'export --profile=wide --root #A wide.cue'
+try 'wide: 27 close in one another, 1 MiB of stack: check' 0 'lines 0' 'check --profile=wide wide.cue'
+try 'wide: 27 close in one another, 1 MiB of stack: samples' 0 'lines 0 {}' 'samples --profile=wide --root #A wide.cue'
+stack=8192
+nested 27 'close(' '{a: int}' ')' | sed 's/^/#A: /' > wide.cue
+try 'wide: 27 close around a field: export' 0 'error 7' 'export --profile=wide --root #A wide.cue'
+nested 28 'close(' '{}' ')' | sed 's/^/#A: /' > wide.cue
+try 'wide: 28 close in one another: export' 0 'error 7' 'export --profile=wide --root #A wide.cue'
+try 'wide: 28 close in one another: widen --why' 0 'told error 7' 'widen --profile=wide --why wide.cue'
+nested 13 'close({a: ' int '})' | sed 's/^/#A: /' > wide.cue
+try 'wide: 13 close of structs in one another: export' 0 'shows "a":{"type":"integer"}' 'export --profile=wide --root #A wide.cue'
+nested 14 'close({a: ' int '})' | sed 's/^/#A: /' > wide.cue
+try 'wide: 14 close of structs in one another: export' 0 'error 7' 'export --profile=wide --root #A wide.cue'
+{ printf '#A: '; nested 149000 'close(' '{}' ')'; } > wide.cue
+try 'wide: 149,000 close in one another: export' 0 'error 7' 'export --profile=wide --root #A wide.cue'
+try 'wide: 149,000 close in one another: check' 0 \
+    'prints 2 wide.cue:1:178: error 7: this is the 29th bracket that is open; 28 may be: give an inner part a definition' \
+    'check --profile=wide wide.cue'
+{ printf '#A: '; many 170000 'close('; } > wide.cue
+try 'wide: 170,000 open close: export' 0 'error 7' 'export --profile=wide --root #A wide.cue'
 closing

@@ -75,6 +75,7 @@ FORMS: dict[str, Callable[[list[str]], list[Package]]] = {
     "samples": lambda row: [(texts(row[1]), root_in(row[0].split()))],
     "instances": lambda row: [(texts(row[0]), first_of(row[0]))],
     "editions": lambda row: [(texts(it), first_of(it)) for it in row[:2]],
+    "wide_editions": lambda row: [(texts(it), first_of(it)) for it in row[:2]],
     "faults": lambda row: [(texts(row[0]), "")],
 }
 

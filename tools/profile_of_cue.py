@@ -171,7 +171,7 @@ def spelled(package: Package) -> str:
 
 
 def text(it: tuple, labelled: Callable[[str], str] = json.dumps) -> str:
-    """A source of the expression, with labels as `labelled` writes them."""
+    """A source of the expression, with labels as `labelled` writes them; what is in `close` is of the wide profile."""
     form = it[0]
     if form in ("and", "or"):
         mark = " & " if form == "and" else " | "
@@ -186,6 +186,8 @@ def text(it: tuple, labelled: Callable[[str], str] = json.dumps) -> str:
         return ("!=" if form == "not" else "") + json.dumps(it[1])
     if form == "bound":
         return f"{it[1]}{it[2]}"
+    if form == "close":
+        return f"close({text(it[1], labelled)})"
     return {"top": "_", "bottom": "_|_"}.get(form) or it[1]
 
 

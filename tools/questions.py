@@ -6,8 +6,9 @@ has to be. A line for each wrong answer, the kinds of answers, and a closing cou
 
 - 1,000 random pairs of small packages, most of them a package and an edited copy of it, in both directions. Whatever small document
   separates them by the evaluator below, which knows the program's only by docs/PROFILE.md, has to be found: `compatible` and
-  `error 17` are wrong there. A document that is told has to separate them. Every other pair is asked with `--profile wide`, and written
-  with embeddings: the first fields of literals stand in literals that these embed, which means the same.
+  `error 17` are wrong there. A document that is told has to separate them. Every other pair is asked with `--profile wide`, and written in
+  forms of that profile which mean the same: the first fields of literals stand in literals that these embed or that `&` joins to them, and
+  literals in `close`.
 - The packages of each folder: each definition against itself, which is `compatible`, and against the package with an edit, for each kind
   of edit and each definition where the first one fits. A document that is told has to separate them. No question takes longer than
   is named, 1 second where nothing is.
@@ -256,24 +257,31 @@ def documents(chance: random.Random, old: Package, new: Package) -> list:
 # Questions.
 
 
-def with_embeddings(chance: random.Random, it: tuple) -> tuple:
-    """The same expression, with the first fields of some literals in literals that they embed; one of the two is open where it was open."""
-    parted = with_parts(it, [with_embeddings(chance, part) for part in inner(it)])
-    if it[0] != "struct" or chance.random() < 0.3:
+def in_wide_forms(chance: random.Random, it: tuple) -> tuple:
+    """The same expression, with some literals in `close`, and with the first fields of some in a literal of their own, which they embed or `&`
+    joins to them; one of the two is open where it was open."""
+    parted = with_parts(it, [in_wide_forms(chance, part) for part in inner(it)])
+    form = chance.random()
+    if it[0] != "struct" or form < 0.3:
         return parted
+    if form < 0.4:
+        return ("close", parted)
     _form, fields, is_open = parted
     place = chance.randint(0, len(fields))
     is_open_inside = is_open and chance.random() < 0.5
-    return ("struct", [("", "embed", ("struct", fields[:place], is_open_inside)), *fields[place:]], is_open and not is_open_inside)
+    first, is_open_behind = ("struct", fields[:place], is_open_inside), is_open and not is_open_inside
+    if form < 0.6:
+        return ("and", [first, ("struct", fields[place:], is_open_behind)])
+    return ("struct", [("", "embed", first), *fields[place:]], is_open_behind)
 
 
-def embedding(chance: random.Random, package_of: Package) -> Package:
-    return {name: [with_embeddings(chance, body) for body in bodies] for name, bodies in package_of.items()}
-
-
-def asked_with_embeddings(program: str, chance: random.Random, pair) -> str:
+def asked_in_wide_forms(program: str, chance: random.Random, pair) -> str:
+    """What is said of the pair in such forms. `&` means another thing there where the default profile refuses it."""
+    if asked(program, pair) == "refused":
+        return "refused"
     old, root, new, new_root = pair
-    return asked(program, (embedding(chance, old), root, embedding(chance, new), new_root), profile=["--profile", "wide"])
+    old, new = ({name: [in_wide_forms(chance, body) for body in bodies] for name, bodies in it.items()} for it in (old, new))
+    return asked(program, (old, root, new, new_root), profile=["--profile", "wide"])
 
 
 def asked(program: str, pair, seconds: float = 60, profile: Sequence[str] = ()) -> str:
@@ -316,7 +324,7 @@ def kind_of(answer: str) -> str:
 class Report:
     def __init__(self) -> None:
         self.kinds: Counter[str] = Counter()
-        self.embedded: Counter[str] = Counter()
+        self.wide: Counter[str] = Counter()
         self.wrong = 0
         self.slowest = 0.0
 
@@ -335,8 +343,8 @@ def try_random(program: str, count: int, seed: int, report: Report) -> None:
             old = package(chance)
             new = package(chance) if chance.random() < 0.25 else edited_copy(chance, old)
             pairs += [(old, "#A", new, "#A"), (new, "#A", old, "#A")]
-        answers = [asked_with_embeddings(program, chance, it) if place // 2 % 2 else asked(program, it) for place, it in enumerate(pairs)]
-        report.embedded.update(kind_of(it) for place, it in enumerate(answers) if place // 2 % 2)
+        answers = [asked_in_wide_forms(program, chance, it) if place // 2 % 2 else asked(program, it) for place, it in enumerate(pairs)]
+        report.wide.update(kind_of(it) for place, it in enumerate(answers) if place // 2 % 2)
         for place in range(0, len(pairs), 2):
             docs = [] if answers[place] == "refused" else documents(chance, pairs[place][0], pairs[place][2])
             for pair, answer in zip(pairs[place : place + 2], answers[place : place + 2]):
@@ -382,7 +390,7 @@ def main() -> int:
     try_random(program, given.pairs, given.seed, report)
     for folder in given.folders:
         try_folder(program, folder, given.slowest, report)
-    print(f"{told_of(report.embedded)} with embeddings")
+    print(f"{told_of(report.wide)} in forms of the wide profile")
     print(f"{told_of(report.kinds)}; the slowest of the folders took {report.slowest:.2f} seconds")
     print(f"{sum(report.kinds.values()) - report.wrong} passed, {report.wrong} failed")
     return 1 if report.wrong else 0

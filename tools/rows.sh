@@ -82,11 +82,11 @@ put_package() {
     root=${word#\#}
 }
 
-# call NAME: judges `document` by the package of `files`, or by the schema; `validate_in` names the profile too
+# call NAME: judges `document` by the package of `files`, or by the schema; `validate_in` names the profile, and judges by the one with notes
 call() {
     case $1 in
         validate) run validate --schema schema.json --doc document ;;
-        validate_in) run validate $profile --schema schema.json --doc document ;;
+        validate_in) run validate $profile --schema described.json --doc document ;;
         *) run "$1" --root "$word" $profile --doc document $files ;;
     esac
 }
@@ -165,6 +165,8 @@ refused_in() {
         call "$it"
         judge "$label: $it" "$(cat wanted)"
     done
+    run compare --root "$word" $profile --old $files --new $files
+    judge "$label: compare" "$(cat wanted)"
 }
 
 # is_widened WORD..: whether the sources are written as `wanted_text`
@@ -197,6 +199,8 @@ widening() {
     exported "$cell"
     case $cell in 'error '*) return ;; esac
     is_meant
+    run export --describe --root "$word" $profile $files
+    cp "$room/out" described.json
     while [ -n "$row" ]; do
         cut_cell
         each "$cell" vet agree validate validate_in
@@ -242,7 +246,7 @@ put_source() {
 
 # is_among SOURCE ROOT WANTED: whether `document` is an instance of the root
 is_among() {
-    run vet --root "$2" --doc document "$1"
+    run vet --root "$2" $profile --doc document "$1"
     judge "$label: $(cat document) by $1" "$3"
 }
 
@@ -255,7 +259,7 @@ is_between() {
 # compared ONE ROOT OTHER ROOT: takes a cell off `row`: whether each document of the one edition is one of the other
 compared() {
     one=$1 one_root=$2 other=$3 other_root=$4
-    run compare --root "$one_root" --new-root "$other_root" --old "$one" --new "$other"
+    run compare --root "$one_root" --new-root "$other_root" $profile --old "$one" --new "$other"
     cut_cell
     if [ "$cell" = compatible ]; then
         judge "$label: $one" 'lines 0 compatible'
@@ -280,6 +284,11 @@ edition() {
     compared new "$new_root" old "$old_root"
 }
 editions() { for_rows editions "$1" edition; } # folder
+wide_editions() { # folder
+    profile='--profile wide'
+    for_rows wide_editions "$1" edition
+    profile=
+}
 
 # is_cut: whether nothing is said but what `samples` leaves
 is_cut() {

@@ -11,11 +11,12 @@
   of an alternative for each, one for a name, every declared field is as all of them ask, and every other key is allowed by one of them.
 - With a program: the rows, by `widen --profile wide` and `vet --profile wide`; where the program doesn't take a form so far, `so far`
   says how it refuses that. Then random packages with defaults and embeddings, every third one without embeddings, every fifth one in a
-  file for each declaration. Where the model refuses, the program has to. Where it doesn't, `widen --profile wide` has to say of the
+  file for each declaration, and every tenth one in two files. Where the model refuses, the program has to. Where it doesn't, `widen --profile wide` has to say of the
   package what `widen` says of the one that the model means: the number of the same refusal, or a text that is read as the same package;
   `export` writes the same schemas, to the byte, and `vet` judges documents as the model does. The program has to refuse by 11 where the
-  model uses a rule that it doesn't take: `&` with a reference or a mark in what is embedded, two values of a label that an embedding
-  brings together, values of a label and bodies of a definition that are joined. `check` has to tell the same number first.
+  model uses a rule that it doesn't take: `&` with a reference or a mark in what is embedded, what is shut in one of two values of a label
+  that an embedding brings together, bodies of a definition in several files that are joined, and what is joined with a plain operand or
+  a mark among it. `check` has to tell the same number first.
 
 Numbers are compared in the order of the program's conditions: what can't be embedded (9, 11), then what an embedding brings together
 (11) or too many nodes with it (14), then marks (5), then the package that is meant, where 9 and 10 come before 11. They aren't told
@@ -39,7 +40,7 @@ from pathlib import Path
 
 sys.path.insert(0, str(Path(__file__).resolve().parent))
 from profile_of_cue import Package, admits, is_instance, parsed, text  # noqa: E402
-from widening import MOST_NODES, Alternative, Quoted, Refused, Widening, WideReader, asks_joining, breaks_opening, holds_shut, is_plain, is_shut, parts, spelled, widened  # noqa: E402
+from widening import MOST_NODES, Alternative, Declaration, Quoted, Refused, Widening, WideReader, asks_joining, breaks_opening, holds_shut, is_plain, is_shut, parts, spelled, together, widened  # noqa: E402
 
 ROWS = Path(__file__).resolve().parent / "widening.rows"
 LABELS = ["a", "b", "c"]
@@ -343,8 +344,17 @@ class Sources:
 
     def struct(self, depth: int) -> str:
         declared = [self.declaration(depth) for _ in range(self.chance.randint(0, 4 if self.has_embeddings else 3))]
+        if depth > 1 and self.chance.random() < 0.1:
+            declared += self.in_parts(depth - 1)
+            self.chance.shuffle(declared)
         between = self.chance.choice([", ", ", ", "\n"])
         return "{" + between.join(declared + ["..."] * (self.chance.random() < 0.4)) + "}"
+
+    def in_parts(self, depth: int) -> list[str]:
+        """Declarations of one label, which are put together where nothing in them is shut."""
+        label = self.chance.choice("abc")
+        marks = [self.chance.choice(["", "", "?", "!"]) for _ in range(self.chance.randint(2, 3))]
+        return [f"{json.dumps(label) if self.chance.random() < 0.2 else label}{mark}: {self.struct(depth)}" for mark in marks]
 
     def declaration(self, depth: int) -> str:
         return self.embedded(depth - 1) if self.chance.random() < self.embedded_share else self.field(depth)
@@ -398,28 +408,45 @@ class Sources:
         return self.value(3) if form < 0.3 else self.struct(3) if name == "#P" else self.disjunction(3)
 
     def further_body(self, name: str) -> str:
-        """Bodies that stand beside one another have to be opened."""
-        if self.chance.random() < 0.2:
+        """One of several bodies: those of a file are put together where nothing in them is shut, and those of several have to be opened."""
+        form = self.chance.random()
+        if form < 0.2:
             return self.body(name)
-        return "{" + f"{self.chance.choice(LABELS)}?: {self.chance.choice(ATOMS)}, ..." + "}"
+        if form < 0.5:
+            return "{" + f"{self.chance.choice(LABELS)}?: {self.chance.choice(ATOMS)}, ..." + "}"
+        share, self.embedded_share = self.embedded_share, self.chance.choice([0, 0, self.embedded_share])
+        found = self.struct(2) if form < 0.85 else f"{self.struct(2)} | {self.struct(2)}"
+        self.embedded_share = share
+        return found
+
+
+def files_of(chance: random.Random, lines: list[str]) -> list[str]:
+    """The files of declarations: one of all, one for each, or two."""
+    form = chance.random()
+    if form < 0.2:
+        return lines
+    place = chance.randint(1, len(lines)) if form < 0.3 else len(lines)
+    return ["".join(it) for it in (lines[:place], lines[place:]) if it]
 
 
 def sources_of(chance: random.Random) -> list[str]:
-    """The files of a random package: one of all declarations, or one for each. A definition refers to those behind it most of the time,
-    and has one body. Every third package has no embeddings."""
+    """The files of a random package. A definition refers to those behind it most of the time, and most have one body; a further one may
+    stand behind other definitions. Every third package has no embeddings."""
     has_embeddings = chance.random() < 0.67
     names = ["#P", "#A", "#B", "#C"][: chance.randint(1 + has_embeddings, 4)]
-    lines = []
+    lines, last = [], []
     for place, name in enumerate(names):
         behind = names[place + 1 :]
         sources = Sources(chance, (behind if chance.random() < 0.96 else names) or ["int"], has_embeddings)
         # Nothing stands behind the last one that it could embed.
         sources.embedded_share = sources.embedded_share if behind or chance.random() < 0.05 else 0
         bodies = [sources.body(name)]
-        if chance.random() < 0.07:
-            bodies = [sources.further_body(name), sources.further_body(name)]
-        lines += [f"{name}: {it}\n" for it in bodies]
-    return lines if chance.random() < 0.2 else ["".join(lines)]
+        if chance.random() < 0.12:
+            bodies = [sources.further_body(name) for _ in range(chance.choice([2, 2, 3]))]
+        near = chance.randint(1, len(bodies))
+        lines += [f"{name}: {it}\n" for it in bodies[:near]]
+        last += [f"{name}: {it}\n" for it in bodies[near:]]
+    return files_of(chance, lines + last)
 
 
 class Reading(WideReader):
@@ -433,12 +460,14 @@ class Reading(WideReader):
         self.has_wrong_mark = True
 
 
-# What the model has and the program doesn't take yet: the last one where it is no `&`. The program refuses the first three by 11 before it looks at marks, and the last
-# one where it looks whether literals are opened.
+# What the model has and the program doesn't take yet: the last one where `is_taken` says so. The program refuses the first three by 11 before it looks at marks,
+# and the last one where it looks whether literals are opened.
 EMBEDDED_CONJUNCTION = "`&` with a reference that is embedded"
 EMBEDDED_MARK = "a mark in what is embedded"
 TWO_VALUES = "two values of a label that an embedding brings together"
 JOINED = "literals that are joined"
+# So many values of a label, or bodies in a file, are joined at most.
+MOST_GATHERED = 64
 
 
 class Taken(Widening):
@@ -465,11 +494,27 @@ class Taken(Widening):
         return found
 
     def conjunction(self, operands: list[tuple], copied: frozenset, brought: tuple) -> tuple:
-        """The program joins operands of `&` where none of them is plain or has a mark."""
-        is_taken = asks_joining(operands) and not any(is_shut(it) or is_plain(it) or has_mark(it) for it in operands)
-        if is_taken and all(self.alternatives(it, copied, Alternative((), False, frozenset()), (), False) is not None for it in operands):
+        if self.is_taken(operands, copied):
             return Widening.joined(self, [(it, copied, brought) for it in operands], [])
         return super().conjunction(operands, copied, brought)
+
+    def together(self, same: list[Declaration], every: list[Declaration]) -> tuple | None:
+        values = [it.value for it in same]
+        if len(values) <= MOST_GATHERED and self.is_taken(values, frozenset().union(*(it.copied for it in same))):
+            return Widening.joined(self, [(it.value, it.copied, it.brought) for it in same], [])
+        return super().together(same, every)
+
+    def of_file(self, bodies: list[tuple]) -> Iterator[tuple]:
+        """What the bodies of a definition in one file stand for: they are put together as the values of a label are."""
+        if len(bodies) <= MOST_GATHERED and self.is_taken(bodies, frozenset()):
+            yield Widening.joined(self, [(it, frozenset(), ()) for it in bodies], [])
+        else:
+            yield from (self.stands_for(it) for it in bodies)
+
+    def is_taken(self, operands: list[tuple], copied: frozenset) -> bool:
+        """The program joins operands of `&`, values of a label and bodies in a file where none of them is plain or has a mark."""
+        is_taken = asks_joining(operands) and not any(is_shut(it) or is_plain(it) or has_mark(it) for it in operands)
+        return is_taken and all(self.alternatives(it, copied, Alternative((), False, frozenset()), (), False) is not None for it in operands)
 
     def joined(self, operands: list[tuple], meant: list[tuple]) -> tuple:
         self.beyond.add(JOINED)
@@ -529,15 +574,16 @@ class Meaning:
         return {"error 11", *ahead, *(["error 5"] if has_marks else [])}
 
 
-def meaning_of(source: str) -> Meaning:
-    """What a source means, by the order of the program's conditions: what is embedded, then marks, then the package that is meant."""
-    reader = Reading(source)
-    package = reader.package()
+def meaning_of(sources: list[str]) -> Meaning:
+    """What files mean, by the order of the program's conditions: what is embedded, then marks, then the package that is meant."""
+    readers = [Reading(source) for source in sources]
+    files = [reader.package() for reader in readers]
+    package = together(files)
     taken = Taken(package)
-    meaning, meant = Meaning(beyond=taken.beyond), {}
-    for name, bodies in package.items():
+    meaning, meant = Meaning(beyond=taken.beyond), {name: [] for name in package}
+    for name, bodies in (it for file in files for it in file.items()):
         try:
-            meant[name] = [taken.stands_for(body) for body in bodies]
+            meant[name] += taken.of_file(bodies)
         except Refused as why:
             meaning.numbers.add(why.number)
     if taken.beyond - {JOINED}:
@@ -549,10 +595,10 @@ def meaning_of(source: str) -> Meaning:
         # The program tells the first one by text, and a name that isn't declared where it is embedded itself.
         meaning.numbers |= set() if named <= package.keys() else {9, 11}
         return meaning
-    return with_marks_taken(reader, taken, meaning, meant)
+    return with_marks_taken(any(reader.has_wrong_mark for reader in readers), taken, meaning, meant)
 
 
-def with_marks_taken(reader: Reading, taken: Taken, meaning: Meaning, meant: Package) -> Meaning:
+def with_marks_taken(has_wrong_mark: bool, taken: Taken, meaning: Meaning, meant: Package) -> Meaning:
     for name, bodies in meant.items():
         if breaks_opening(bodies):
             taken.beyond.add(JOINED)
@@ -560,7 +606,7 @@ def with_marks_taken(reader: Reading, taken: Taken, meaning: Meaning, meant: Pac
             meaning.package[name] = [taken.unmarked(body, True) for body in bodies]
         except Refused as why:
             meaning.numbers.add(why.number)
-    if reader.has_wrong_mark:
+    if has_wrong_mark:
         meaning.numbers.add(5)
     # Literals that are joined may have no default any more.
     if meaning.numbers and JOINED in taken.beyond:
@@ -617,15 +663,14 @@ class Tried:
     def faults(self, chance: random.Random, sources: list[str]) -> Iterator[str]:
         """How the package is answered, and then what differs."""
         printed, refusal = self.widen(sources)
-        source = "".join(sources)
-        meaning = meaning_of(source)
+        meaning = meaning_of(sources)
         of_package = "" if meaning.numbers else self.run(["widen"], [as_written(meaning.package)])[1]
-        wanted = meaning.wanted(of_package, "*" in source)
+        wanted = meaning.wanted(of_package, any("*" in source for source in sources))
         yield f"{refusal or 'accepted'}{' for what is not taken yet' if refusal == 'error 11' and meaning.beyond else ''}"
         said = f"the program says {refusal!r} {printed}"
         if refusal not in wanted:
             yield f"wanted {sorted(wanted)} {sorted(meaning.beyond)} {as_written(meaning.package)}and {said}"
-        if is_refused(source) and not refusal:
+        if is_refused(sources) and not refusal:
             yield f"is refused by the model, and {said}"
         if refusal:
             yield from self.other_first(sources, refusal)
@@ -669,10 +714,10 @@ class Tried:
             yield from self.misjudged([row.source], row.documents)
 
 
-def is_refused(source: str) -> bool:
-    """Whether the model as it stands refuses it."""
+def is_refused(sources: list[str]) -> bool:
+    """Whether the model as it stands refuses the files."""
     try:
-        widened(source)
+        widened(*sources)
     except Refused:
         return True
     return False

@@ -10,7 +10,8 @@ are tried before code stands on them.
   first place.
 - Where the opening rule refuses a conjunction, the values of a label or the bodies of a definition, the operands are joined in the same
   way, if each that isn't plain is put together from literals that nothing has closed: no reference and no `close`. Of a conjunction this is
-  asked as it is written, where a literal that embeds something doesn't end with `...`.
+  asked as it is written, where a literal that embeds something doesn't end with `...`. Bodies of one file are joined first, and those of
+  several where it still refuses them.
 - A field may be missing where its value has a default, which is one marked operand of its disjunction.
 - Refused are: by 5 a mark elsewhere, a second one, and a default beside another declaration that may be absent; by 10 a name that would
   name a field of the literal that it is joined into; by 11 an embedded expression without alternatives, as a definition in itself, what
@@ -460,15 +461,21 @@ class Widening:
                 continue
             same = [other for other in one.declarations if other.mark != "[string]" and other.label == it.label]
             self.refuse_relaxed(same)
-            meant = [self.stands_for(other.value, other.copied, other.brought) for other in same]
-            above = [self.stands_for(other.value, other.copied, other.brought) for other in every]
-            if not breaks_opening(meant + above) or not breaks_opening(meant):
+            value = self.together(same, every)
+            if value is None:
                 fields.append((it.label, it.mark, self.stands_for(it.value, it.copied, it.brought)))
             elif it.label not in done:
                 done.add(it.label)
-                value = self.joined([(other.value, other.copied, other.brought) for other in same], meant)
-                fields.append((it.label, "?" if all(other.mark == "?" for other in same) else "", value))
+                fields.append((it.label, next((other.mark for other in same if other.mark != "?"), "?"), value))
         return ("struct", fields, one.opened)
+
+    def together(self, same: list[Declaration], every: list[Declaration]) -> tuple | None:
+        """What the values of a label stand for where they are joined."""
+        meant = [self.stands_for(it.value, it.copied, it.brought) for it in same]
+        above = [self.stands_for(it.value, it.copied, it.brought) for it in every]
+        if not breaks_opening(meant + above) or not breaks_opening(meant):
+            return None
+        return self.joined([(it.value, it.copied, it.brought) for it in same], meant)
 
     def refuse_names(self, one: Alternative) -> None:
         labels = frozenset(it.label for it in one.declarations if it.mark != "[string]" and not isinstance(it.label, Quoted))
@@ -518,12 +525,16 @@ class Widening:
             fields.append((label, mark, self.unmarked(value, True)))
         return ("struct", fields, it[2])
 
-    def whole(self) -> Package:
+    def of_bodies(self, bodies: list[tuple]) -> list[tuple]:
+        """What bodies of a definition stand for: one where the opening rule refuses them."""
+        found = [self.stands_for(body) for body in bodies]
+        return [self.joined([(body, frozenset(), ()) for body in bodies], found)] if breaks_opening(found) else found
+
+    def whole(self, files: list[Package] | None = None) -> Package:
         meant: Package = {}
         for name, bodies in self.package.items():
-            found = [self.stands_for(body) for body in bodies]
-            if breaks_opening(found):
-                found = [self.joined([(body, frozenset(), ()) for body in bodies], found)]
+            found = [it for file in files or [self.package] for it in self.of_bodies(file.get(name, []))]
+            found = self.of_bodies(bodies) if breaks_opening(found) else found
             meant[name] = [self.unmarked(body, True) for body in found]
         if any(breaks_opening(bodies) or any(breaks_rule_inside(meant, body) for body in bodies) for bodies in meant.values()):
             raise Refused(11, "a literal that has to be opened")
@@ -532,8 +543,17 @@ class Widening:
         return meant
 
 
-def widened(source: str) -> Package:
-    return Widening(WideReader(source).package()).whole()
+def together(files: list[Package]) -> Package:
+    """The package of files, with the bodies of each definition in their order."""
+    package: Package = {}
+    for name, bodies in (it for file in files for it in file.items()):
+        package[name] = [*package.get(name, []), *bodies]
+    return package
+
+
+def widened(*sources: str) -> Package:
+    files = [WideReader(source).package() for source in sources]
+    return Widening(together(files)).whole(files)
 
 
 def spelled(package: Package) -> str:
@@ -541,9 +561,9 @@ def spelled(package: Package) -> str:
 
 
 def main(paths: list[str]) -> int:
-    source = "\n".join(Path(it).read_text() for it in paths) if paths else sys.stdin.read()
+    sources = [Path(it).read_text() for it in paths] if paths else [sys.stdin.read()]
     try:
-        sys.stdout.write(spelled(widened(source)))
+        sys.stdout.write(spelled(widened(*sources)))
     except Refused as why:
         print(why)
         return 1

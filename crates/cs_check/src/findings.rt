@@ -1,8 +1,10 @@
 // What a check of sources or of a schema finds, in lines.
 ghost use Rattle.std.specs.Prelude.{◌≡◌, IfOk, None};
 ghost use Rattle.cs_check.specs.Told.{AreAccepted, AreWideAccepted};
+ghost use Rattle.cs_grammar.specs.declared.profile.Profile.TheVariants as profiles;
 ghost use Rattle.cs_tool.specs.CallRefusals.{IsSchemaText};
 ghost use Rattle.cs_tool.specs.Given.{bytes_in};
+ghost use Rattle.cs_widen.specs.Schemas.{SchemaMeans};
 
 use crate::schema::check_schema;
 use crate::sources::{check, check_wide};
@@ -12,7 +14,7 @@ use cs_guard::Guarded;
 use cs_place::Named;
 use cs_sources::{declared_in, sources_of};
 use cs_tool::{Fault, accepted_package};
-use cs_widen::stands_for;
+use cs_widen::{schema_stands_for_in, stands_for};
 use std::alloc::Global;
 
 /// What came of a check.
@@ -134,12 +136,38 @@ pub fn schema_findings(alloc: Global, schema: Named<'_>) -> Result<Findings, Fau
     ensures refused { IfOk result
         (λ f. f.checked ≡ Checked.Faulty → ¬ (IsSchemaText schema.entry.text.now)) }
 {
-    let faults = check_schema(alloc, schema.text)?;
+    findings_of(alloc, schema, schema.text)
+}
+
+/// What is found in the text of a schema in the wide profile, as by [`schema_findings`], of the schema that is meant.
+///
+/// # Errors
+/// Memory alone.
+pub fn wide_schema_findings(alloc: Global, schema: Named<'_>) -> Result<Findings, Fault>
+    ensures accepted { IfOk result (λ f. ¬ (f.checked ≡ Checked.Faulty)
+        → SchemaMeans profiles.Wide schema.entry.text.now IsSchemaText) }
+    ensures refused { IfOk result (λ f. f.checked ≡ Checked.Faulty
+        → SchemaMeans profiles.Wide schema.entry.text.now (λ judged. ¬ (IsSchemaText judged))) }
+{
+    match schema_stands_for_in(alloc, Profile::Wide, schema.text)? {
+        Some(meant) => findings_of(alloc, schema, &meant),
+        None => findings_of(alloc, schema, schema.text),
+    }
+}
+
+/// What is found in a schema's text, which is shown as another one with the same places.
+fn findings_of(alloc: Global, shown: Named<'_>, text: &[u8]) -> Result<Findings, Fault>
+    ensures accepted { IfOk result
+        (λ f. ¬ (f.checked ≡ Checked.Faulty) → IsSchemaText text.now) }
+    ensures refused { IfOk result
+        (λ f. f.checked ≡ Checked.Faulty → ¬ (IsSchemaText text.now)) }
+{
+    let faults = check_schema(alloc, text)?;
     if faults.is_empty() {
         let (checked, lines) = (Checked::Well, String::new(alloc));
         return Ok(Findings { checked, lines });
     }
-    faulty(alloc, &faults, Profile::Default, "", Some(schema), &[])
+    faulty(alloc, &faults, Profile::Default, "", Some(shown), &[])
 }
 
 /// Faults of a schema, or of sources in a profile and the root that was asked for, with a line for each.

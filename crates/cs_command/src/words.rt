@@ -97,7 +97,7 @@ const OPENAPI: Word = Word {
 
 const DESCRIBE: Word = Word {
     id: "describe",
-    help: "Writes the comments of definitions and fields as their descriptions",
+    help: "Writes the comments of definitions and fields as their descriptions, and in the wide profile default marks as `default`",
     ..FLAG
 };
 
@@ -295,7 +295,7 @@ const PROFILE: Word = Word {
 
 /// The same word for a command that judges by a schema.
 const PROFILE_OF_SCHEMA: Word = Word {
-    help: "Takes the schemas of the same profile of CUE: so far those of the default one",
+    help: "Takes the schemas that an export in the same profile can have: with `default` as a note",
     ..PROFILE
 };
 

@@ -1,7 +1,8 @@
-// The comments of CUE sources, as texts for the places of schemas.
+// The comments of CUE sources and the values of their default marks, as notes for the places of schemas.
 #![tactic(auto)]
 
 mod declared;
+mod defaults;
 mod lines;
 mod packages;
 mod texts;

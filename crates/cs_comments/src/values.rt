@@ -1,5 +1,6 @@
 // The notes of values, as their translation to schemas has places for them.
 use crate::declared::Declarations;
+use crate::defaults::default_among;
 use cs_describe::Notes;
 use cs_grammar::{Declaration, Expr, Field, FieldMark, ListEnd, Wide};
 use std::alloc::{AllocError, Global};
@@ -18,11 +19,14 @@ pub(crate) fn notes_of_value(
     let mut notes = Notes::new(alloc);
     match value {
         Expr::And(operands) => notes.all_of = notes_of_each(alloc, operands, texts)?,
-        Expr::Or(operands) => notes.any_of = notes_of_each(alloc, operands, texts)?,
+        Expr::Or(operands) => {
+            notes.any_of = notes_of_each(alloc, operands, texts)?;
+            notes.default = default_among(alloc, operands)?;
+        },
         Expr::Paren(inside) => return notes_of_value(alloc, inside, texts),
         // Nothing but its parentheses is left of `close` where it is widened.
         Expr::Wide(Wide::Shut { value, .. }) => return notes_of_value(alloc, value, texts),
-        // A mark of a default is dropped where it is widened.
+        // A mark of a default is dropped where it is widened; its value is a note of the disjunction.
         Expr::Wide(Wide::Marked { value, .. }) => return notes_of_value(alloc, value, texts),
         Expr::Wide(Wide::Merged { declarations, .. }) => {
             return notes_of_declarations(alloc, declarations, texts);

@@ -15,11 +15,11 @@ use Rattle.cs_document.proofs.Maps.{texts, insert_last, texts_more}
 
 -- ---- members
 
-abbrev join : Members → Members → Members
+abbrev pub join : Members → Members → Members
 join no_members ns = ns
 join (member k v ms) ns = member k v (join ms ns)
 
-join_push : (es : List Entry) (e : Entry) → object_view (es ++ e ∷ []) ≡ join (object_view es) (member (string_bytes e.0) (doc_view e.1) no_members)
+pub join_push : (es : List Entry) (e : Entry) → object_view (es ++ e ∷ []) ≡ join (object_view es) (member (string_bytes e.0) (doc_view e.1) no_members)
 join_push [] e = refl
 join_push (x ∷ es) e = ap (member (string_bytes x.0) (doc_view x.1)) (join_push es e)
 

@@ -1,9 +1,13 @@
--- Which schema gets which text, worked by the definitions. A wrong expectation stops the check here.
+-- Which schema gets which note, worked by the definitions. A wrong expectation stops the check here.
 use Rattle.std.proofs.Common.{◌≡◌, true, false, List, [], ◌∷◌, Option, Some, None, option_map, String as Text, Global, string_bytes, codes, refl, ap}
 use Rattle.cs_document.specs.Document.{Document, boolean}
 use Rattle.cs_document.proofs.SampleDocuments.{string as t, array as l, named_map as o}
 use Rattle.cs_describe.specs.declared.notes.Notes.{Notes, out-Notes}
-use Rattle.cs_describe.specs.Described.{described, described_document}
+use Rattle.cs_document.specs.View.{doc_view}
+use Rattle.cs_document.specs.declared.doc.Doc.{Doc}
+use Rattle.cs_describe.specs.declared.note.Note.TheVariants as note
+use Rattle.cs_describe.specs.Described.{described, described_document, note_of, unless_deep}
+use Rattle.cs_describe.specs.Plain.{without_defaults}
 use Prim.Native.String.{String}
 
 -- ---- texts, and where they are for
@@ -40,9 +44,9 @@ root d = o (("$defs", o (("P", d) ∷ [])) ∷ ("$ref", t "#/$defs/P") ∷ [])
 
 -- what becomes of the schema of `P`, with these texts for it
 abbrev Becomes : Notes → Document → Document → Type 0
-Becomes n d e = (p : Text Global) → IsText p "P" → described_document ((p, n) ∷ []) (root d) ≡ root e
+Becomes n d e = (p : Text Global) → IsText p "P" → described_document note.Description ((p, n) ∷ []) (root d) ≡ root e
 
-of_root : (n : Notes) (d e : Document) → described (Some n) d ≡ e → Becomes n d e
+of_root : (n : Notes) (d e : Document) → described note.Description (Some n) d ≡ e → Becomes n d e
 of_root n d e h p is = rw is (ap root h)
 
 -- ---- a schema
@@ -91,3 +95,32 @@ rest_and_additional : (n rest additional : Notes) (others more : Text Global) �
     (o (("additionalProperties", o (("description", t "more") ∷ [])) ∷ ("items", o (("description", t "others") ∷ [])) ∷ []))
 rest_and_additional n rest additional others more is_others is_more none has_rest says_rest has_additional says_additional =
     of_root n _ _ (rw (none, has_additional, says_additional, is_more, has_rest, says_rest, is_others) refl)
+
+-- ---- defaults
+
+-- for the schema itself there is this default
+abbrev Defaults : Notes → Doc → Document → Type 0
+Defaults n v d = ((out-Notes n).default ≡ Some v) × (doc_view v ≡ d)
+
+default_noted : (n : Notes) (v : Doc) (d : Document) → Defaults n v d → note_of note.Default n ≡ unless_deep d
+default_noted n v d h = rw (h.0, h.1) refl
+
+-- a default is put in place of another, and a text isn't put with it
+beside_constants : (n : Notes) (v : Doc) → Defaults n v (t "a")
+    → described note.Default (Some n) (o (("default", t "b") ∷ ("enum", l (t "a" ∷ t "b" ∷ [])) ∷ [])) ≡ o (("default", t "a") ∷ ("enum", l (t "a" ∷ t "b" ∷ [])) ∷ [])
+beside_constants n v h = rw (default_noted n v (t "a") h) refl
+
+-- eight lists may nest in it, and not nine
+abbrev nested : Document → Document
+nested d = l (l (l (l (l (l (l (l (d ∷ []) ∷ []) ∷ []) ∷ []) ∷ []) ∷ []) ∷ []) ∷ [])
+
+eight : unless_deep (nested (boolean true)) ≡ Some (nested (boolean true))
+eight = refl
+
+nine : unless_deep (nested (l [])) ≡ None
+nine = refl
+
+-- without defaults what asks nothing is `true`; a property of that name, a constant and the other notes stay
+bare : without_defaults (o (("default", boolean true) ∷ ("properties", o (("a", o (("default", l []) ∷ [])) ∷ ("default", o (("const", o (("default", boolean true) ∷ [])) ∷ [])) ∷ ("text", o (("default", t "x") ∷ ("description", t "y") ∷ [])) ∷ [])) ∷ []))
+    ≡ o (("properties", o (("a", boolean true) ∷ ("default", o (("const", o (("default", boolean true) ∷ [])) ∷ [])) ∷ ("text", o (("description", t "y") ∷ [])) ∷ [])) ∷ [])
+bare = refl

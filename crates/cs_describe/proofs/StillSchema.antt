@@ -1,5 +1,5 @@
--- A schema of the profile with texts is one: the walk over it meets no fault where it met none, and its references are the same.
-use Rattle.std.proofs.Common.{◌≡◌, ℕ, suc, Bool, true, false, List, [], Option, Some, None, is_some, Ordering, Less, Equal, Greater, nat_cmp, bytes_eq, is_eq, codes, String, Global, string_bytes, refl, sym, ap, ap₂, ◌∙◌, subst, if◌then◌else◌}
+-- A schema of the profile with descriptions is one: the walk over it meets no fault where it met none, and its references are the same.
+use Rattle.std.proofs.Common.{◌≡◌, ℕ, suc, Bool, true, false, List, [], Option, Some, None, option_map, is_some, Ordering, Less, Equal, Greater, nat_cmp, bytes_eq, is_eq, codes, String, Global, string_bytes, refl, sym, ap, ap₂, ◌∙◌, subst, if◌then◌else◌}
 use Rattle.std.proofs.lemmas.Map.Text.{is_eq-slice_cmp}
 use Rattle.std.proofs.lemmas.Slice.Eq.{bytes_eq-Decides}
 use Rattle.std.specs.Cmp.Lexicographic.{slice_cmp}
@@ -18,17 +18,27 @@ use Rattle.cs_profile.specs.Values.{keyword_visits, value_visits}
 use Rattle.cs_profile.proofs.Faultless.{parted, joined, or_else_none}
 use Rattle.cs_profile.proofs.Profiles.{is_some-map}
 use Rattle.cs_describe.specs.declared.notes.Notes.{Notes, out-Notes}
-use Rattle.cs_describe.specs.Described.{with_text, truth_with_text, front_notes, further_notes, labelled_notes, described, described_members, described_value, described_list, described_elements, described_map, described_named, described_root, described_document}
-use Rattle.cs_describe.specs.Plain.{plain, plain_schema}
+use Rattle.cs_describe.specs.declared.note.Note.{Note}
+use Rattle.cs_describe.specs.declared.note.Note.TheVariants as note
+use Rattle.cs_describe.specs.Described.{with_note, truth_with_note, front_notes, further_notes, labelled_notes, described, described_members, described_value, described_list, described_elements, described_map, described_named, described_root, described_document}
+use Rattle.cs_describe.specs.Plain.{without, schema_without, is_note, plain, LeavesOutNotes}
+use Rattle.cs_describe.proofs.Leaving.{notes_are_notes}
 use Rattle.cs_describe.proofs.Unchanged.{document_same}
 use Rattle.cs_describe.proofs.PlainDefined.{defined_plain}
 use Rattle.cs_describe.proofs.PlainLoops.{no_loop_plain, no_loop_full}
 
+abbrev w : Note
+w = note.Description
+
+-- the value of a description
+abbrev as_text : String Global → Document
+as_text t = text (string_bytes t)
+
 -- ---- faults of some kind: a description has none, nor has a value with texts that had none
 
 module _ (f : Visit → Option Fault) (description : (place t : List ℕ) → f (keyword_at false place (codes "description") (text t)) ≡ None)
-    (valued : (place k : List ℕ) (v : Document) (n : Notes) → f (keyword_at false place k v) ≡ None → f (keyword_at false place k (described_value (under k keywords) n v)) ≡ None)
-    (definitions : (place : List ℕ) (v : Document) (ns : List (String Global × Notes)) → f (keyword_at true place (codes "$defs") v) ≡ None → f (keyword_at true place (codes "$defs") (described_map ns v)) ≡ None) where
+    (valued : (place k : List ℕ) (v : Document) (n : Notes) → f (keyword_at false place k v) ≡ None → f (keyword_at false place k (described_value w (under k keywords) n v)) ≡ None)
+    (definitions : (place : List ℕ) (v : Document) (ns : List (String Global × Notes)) → f (keyword_at true place (codes "$defs") v) ≡ None → f (keyword_at true place (codes "$defs") (described_map w ns v)) ≡ None) where
   abbrev Free : List Visit → Type 0
   Free vs = first f vs ≡ None
 
@@ -52,18 +62,18 @@ module _ (f : Visit → Option Fault) (description : (place t : List ℕ) → f 
   put_free place t (member m e ms) h =
       by_order place t m e ms h (put_free place t ms (parted f (keyword_visits false place m e) (member_visits false place ms) h).1) (slice_cmp nat_cmp (codes "description") m) refl
 
-  text_free : (place : List ℕ) (t : Option (String Global)) (ms : Members) → Free (member_visits false place ms) → Free (member_visits false place (with_text t ms))
+  text_free : (place : List ℕ) (t : Option (String Global)) (ms : Members) → Free (member_visits false place ms) → Free (member_visits false place (with_note w (option_map as_text t) ms))
   text_free place None ms h = h
   text_free place (Some t) ms h = put_free place (string_bytes t) ms h
 
-  truth_free : (place : List ℕ) (t : Option (String Global)) → Free (visits false place (boolean true)) → Free (visits false place (truth_with_text t))
+  truth_free : (place : List ℕ) (t : Option (String Global)) → Free (visits false place (boolean true)) → Free (visits false place (truth_with_note w (option_map as_text t)))
   truth_free place None h = h
   truth_free place (Some t) h = joined f (keyword_visits false place (codes "description") (text (string_bytes t))) [] (description_free place (string_bytes t)) refl
 
   inside_free : (o : Option Keyword) (place : List ℕ) (v : Document) (n : Notes)
-      → ((p : Option Notes) → Free (visits false place v) → Free (visits false place (described p v))) → ((ns : List Notes) → Free (list_visits place v) → Free (list_visits place (described_list ns v)))
-      → ((ns : List (String Global × Notes)) → Free (map_visits place v) → Free (map_visits place (described_map ns v)))
-      → Free (within (option_and_then (form_in false) o) (value_visits place v)) → Free (within (option_and_then (form_in false) o) (value_visits place (described_value o n v)))
+      → ((p : Option Notes) → Free (visits false place v) → Free (visits false place (described w p v))) → ((ns : List Notes) → Free (list_visits place v) → Free (list_visits place (described_list w ns v)))
+      → ((ns : List (String Global × Notes)) → Free (map_visits place v) → Free (map_visits place (described_map w ns v)))
+      → Free (within (option_and_then (form_in false) o) (value_visits place v)) → Free (within (option_and_then (form_in false) o) (value_visits place (described_value w o n v)))
   inside_free (Some keyword.Properties) place v n itself elements members h = members _ h
   inside_free (Some keyword.AllOf) place v n itself elements members h = elements _ h
   inside_free (Some keyword.AnyOf) place v n itself elements members h = elements _ h
@@ -73,9 +83,9 @@ module _ (f : Visit → Option Fault) (description : (place t : List ℕ) → f 
   inside_free _ place v n itself elements members h = h
 
   mutual
-    schema_free : (o : Option Notes) (place : List ℕ) (d : Document) → Free (visits false place d) → Free (visits false place (described o d))
+    schema_free : (o : Option Notes) (place : List ℕ) (d : Document) → Free (visits false place d) → Free (visits false place (described w o d))
     schema_free None place d h = h
-    schema_free (Some n) place (object ms) h = text_free place (out-Notes n).text (described_members n ms) (members_free n place ms h)
+    schema_free (Some n) place (object ms) h = text_free place (out-Notes n).text (described_members w n ms) (members_free n place ms h)
     schema_free (Some n) place (boolean true) h = truth_free place (out-Notes n).text h
     schema_free (Some n) place (boolean false) h = h
     schema_free (Some n) place null h = h
@@ -83,16 +93,16 @@ module _ (f : Visit → Option Fault) (description : (place t : List ℕ) → f 
     schema_free (Some n) place (text s) h = h
     schema_free (Some n) place (list ds) h = h
 
-    members_free : (n : Notes) (place : List ℕ) (ms : Members) → Free (member_visits false place ms) → Free (member_visits false place (described_members n ms))
+    members_free : (n : Notes) (place : List ℕ) (ms : Members) → Free (member_visits false place ms) → Free (member_visits false place (described_members w n ms))
     members_free n place no_members h = refl
     members_free n place (member k v ms) h =
-        let w = described_value (under k keywords) n v in
+        let x = described_value w (under k keywords) n v in
         let parts = parted f (keyword_visits false place k v) (member_visits false place ms) h in
         let mine = or_else_none (f (keyword_at false place k v)) (first f (within (option_and_then (form_in false) (under k keywords)) (value_visits (at_key place k) v))) parts.0 in
         let deeper = inside_free (under k keywords) (at_key place k) v n (λ p. schema_free p (at_key place k) v) (λ ns. list_free ns (at_key place k) v) (λ ns. map_free ns (at_key place k) v) mine.1 in
-        joined f (keyword_visits false place k w) (member_visits false place (described_members n ms)) (ap₂ or_else (valued place k v n mine.0) deeper) (members_free n place ms parts.1)
+        joined f (keyword_visits false place k x) (member_visits false place (described_members w n ms)) (ap₂ or_else (valued place k v n mine.0) deeper) (members_free n place ms parts.1)
 
-    list_free : (ns : List Notes) (place : List ℕ) (d : Document) → Free (list_visits place d) → Free (list_visits place (described_list ns d))
+    list_free : (ns : List Notes) (place : List ℕ) (d : Document) → Free (list_visits place d) → Free (list_visits place (described_list w ns d))
     list_free ns place (list ds) h = elements_free ns place 0 ds h
     list_free ns place null h = h
     list_free ns place (boolean b) h = h
@@ -100,14 +110,14 @@ module _ (f : Visit → Option Fault) (description : (place t : List ℕ) → f 
     list_free ns place (text s) h = h
     list_free ns place (object ms) h = h
 
-    elements_free : (ns : List Notes) (place : List ℕ) (i : ℕ) (ds : Documents) → Free (element_visits place i ds) → Free (element_visits place i (described_elements ns ds))
+    elements_free : (ns : List Notes) (place : List ℕ) (i : ℕ) (ds : Documents) → Free (element_visits place i ds) → Free (element_visits place i (described_elements w ns ds))
     elements_free ns place i no_documents h = refl
     elements_free ns place i (document d ds) h =
         let parts = parted f (visits false (at_index place i) d) (element_visits place (suc i) ds) h in
-        joined f (visits false (at_index place i) (described (front_notes ns) d)) (element_visits place (suc i) (described_elements (further_notes ns) ds))
+        joined f (visits false (at_index place i) (described w (front_notes ns) d)) (element_visits place (suc i) (described_elements w (further_notes ns) ds))
         (schema_free (front_notes ns) (at_index place i) d parts.0) (elements_free (further_notes ns) place (suc i) ds parts.1)
 
-    map_free : (ns : List (String Global × Notes)) (place : List ℕ) (d : Document) → Free (map_visits place d) → Free (map_visits place (described_map ns d))
+    map_free : (ns : List (String Global × Notes)) (place : List ℕ) (d : Document) → Free (map_visits place d) → Free (map_visits place (described_map w ns d))
     map_free ns place (object ms) h = named_free ns place ms h
     map_free ns place null h = h
     map_free ns place (boolean b) h = h
@@ -115,29 +125,29 @@ module _ (f : Visit → Option Fault) (description : (place t : List ℕ) → f 
     map_free ns place (text s) h = h
     map_free ns place (list ds) h = h
 
-    named_free : (ns : List (String Global × Notes)) (place : List ℕ) (ms : Members) → Free (named_visits place ms) → Free (named_visits place (described_named ns ms))
+    named_free : (ns : List (String Global × Notes)) (place : List ℕ) (ms : Members) → Free (named_visits place ms) → Free (named_visits place (described_named w ns ms))
     named_free ns place no_members h = refl
     named_free ns place (member k v ms) h =
         let parts = parted f (visits false (at_key place k) v) (named_visits place ms) h in
-        joined f (visits false (at_key place k) (described (labelled_notes k ns) v)) (named_visits place (described_named ns ms)) (schema_free (labelled_notes k ns) (at_key place k) v parts.0) (named_free ns place ms parts.1)
+        joined f (visits false (at_key place k) (described w (labelled_notes k ns) v)) (named_visits place (described_named w ns ms)) (schema_free (labelled_notes k ns) (at_key place k) v parts.0) (named_free ns place ms parts.1)
 
   part_free : (ns : List (String Global × Notes)) (place k : List ℕ) (v : Document) (t : Bool) → bytes_eq k (codes "$defs") ≡ t → Free (keyword_visits true place k v)
-      → Free (keyword_visits true place k (if t then described_map ns v else v))
+      → Free (keyword_visits true place k (if t then described_map w ns v else v))
   part_free ns place k v false e h = h
   part_free ns place k v true e h =
       let is = (bytes_eq-Decides k (codes "$defs")).0 e in
       let there : Free (keyword_visits true place (codes "$defs") v) = subst (λ n. Free (keyword_visits true place n v)) is h in
       let parts = or_else_none (f (keyword_at true place (codes "$defs") v)) (first f (map_visits (at_key place (codes "$defs")) v)) there in
-      subst (λ n. Free (keyword_visits true place n (described_map ns v))) (sym is) (ap₂ or_else (definitions place v ns parts.0) (map_free ns (at_key place (codes "$defs")) v parts.1))
+      subst (λ n. Free (keyword_visits true place n (described_map w ns v))) (sym is) (ap₂ or_else (definitions place v ns parts.0) (map_free ns (at_key place (codes "$defs")) v parts.1))
 
-  root_free : (ns : List (String Global × Notes)) (place : List ℕ) (ms : Members) → Free (member_visits true place ms) → Free (member_visits true place (described_root ns ms))
+  root_free : (ns : List (String Global × Notes)) (place : List ℕ) (ms : Members) → Free (member_visits true place ms) → Free (member_visits true place (described_root w ns ms))
   root_free ns place no_members h = refl
   root_free ns place (member k v ms) h =
       let parts = parted f (keyword_visits true place k v) (member_visits true place ms) h in
-      joined f (keyword_visits true place k (if bytes_eq k (codes "$defs") then described_map ns v else v)) (member_visits true place (described_root ns ms))
+      joined f (keyword_visits true place k (if bytes_eq k (codes "$defs") then described_map w ns v else v)) (member_visits true place (described_root w ns ms))
       (part_free ns place k v (bytes_eq k (codes "$defs")) refl parts.0) (root_free ns place ms parts.1)
 
-  document_free : (ns : List (String Global × Notes)) (d : Document) → Free (visits true [] d) → Free (visits true [] (described_document ns d))
+  document_free : (ns : List (String Global × Notes)) (d : Document) → Free (visits true [] d) → Free (visits true [] (described_document w ns d))
   document_free ns (object ms) h = root_free ns [] ms h
   document_free ns null h = h
   document_free ns (boolean b) h = h
@@ -147,7 +157,7 @@ module _ (f : Visit → Option Fault) (description : (place t : List ℕ) → f 
 
 -- ---- faults of a keyword or its value
 
-list_shaped : (ns : List Notes) (v : Document) → has_form form.Schemas (described_list ns v) ≡ has_form form.Schemas v
+list_shaped : (ns : List Notes) (v : Document) → has_form form.Schemas (described_list w ns v) ≡ has_form form.Schemas v
 list_shaped ns null = refl
 list_shaped ns (boolean b) = refl
 list_shaped ns (integer z) = refl
@@ -156,7 +166,7 @@ list_shaped ns (list no_documents) = refl
 list_shaped ns (list (document d ds)) = refl
 list_shaped ns (object ms) = refl
 
-map_shaped : (ns : List (String Global × Notes)) (v : Document) → has_form form.NamedSchemas (described_map ns v) ≡ has_form form.NamedSchemas v
+map_shaped : (ns : List (String Global × Notes)) (v : Document) → has_form form.NamedSchemas (described_map w ns v) ≡ has_form form.NamedSchemas v
 map_shaped ns null = refl
 map_shaped ns (boolean b) = refl
 map_shaped ns (integer z) = refl
@@ -164,14 +174,14 @@ map_shaped ns (text s) = refl
 map_shaped ns (list ds) = refl
 map_shaped ns (object ms) = refl
 
-value_shaped : (o : Option Keyword) (place k : List ℕ) (v : Document) (n : Notes) → form_fault place k (described_value o n v) (option_and_then (form_in false) o) ≡ form_fault place k v (option_and_then (form_in false) o)
+value_shaped : (o : Option Keyword) (place k : List ℕ) (v : Document) (n : Notes) → form_fault place k (described_value w o n v) (option_and_then (form_in false) o) ≡ form_fault place k v (option_and_then (form_in false) o)
 value_shaped (Some keyword.Properties) place k v n = ap (shape_fault place k) (map_shaped _ v)
 value_shaped (Some keyword.AllOf) place k v n = ap (shape_fault place k) (list_shaped _ v)
 value_shaped (Some keyword.AnyOf) place k v n = ap (shape_fault place k) (list_shaped _ v)
 value_shaped (Some keyword.PrefixItems) place k v n = ap (shape_fault place k) (list_shaped _ v)
 value_shaped _ place k v n = refl
 
-pub still_shaped : (ns : List (String Global × Notes)) (d : Document) → first fault_of (visits true [] d) ≡ None → first fault_of (visits true [] (described_document ns d)) ≡ None
+pub still_shaped : (ns : List (String Global × Notes)) (d : Document) → first fault_of (visits true [] d) ≡ None → first fault_of (visits true [] (described_document w ns d)) ≡ None
 still_shaped ns d h =
     document_free fault_of (λ place t. refl) (λ place k v n e. value_shaped (under k keywords) place k v n ∙ e) (λ place v ms e. ap (shape_fault place (codes "$defs")) (map_shaped ms v) ∙ e) ns d h
 
@@ -179,25 +189,28 @@ still_shaped ns d h =
 
 module _ (known : List ℕ → Bool) where
   reference_same : (place k : List ℕ) (v : Document) (n : Notes) (t : Bool) → bytes_eq k (codes "$ref") ≡ t
-      → (if t then reference_fault known place (described_value (under k keywords) n v) else None) ≡ (if t then reference_fault known place v else None)
+      → (if t then reference_fault known place (described_value w (under k keywords) n v) else None) ≡ (if t then reference_fault known place v else None)
   reference_same place k v n false e = refl
   reference_same place k v n true e =
-      subst (λ m. reference_fault known place (described_value (under m keywords) n v) ≡ reference_fault known place v) (sym ((bytes_eq-Decides k (codes "$ref")).0 e)) refl
+      subst (λ m. reference_fault known place (described_value w (under m keywords) n v) ≡ reference_fault known place v) (sym ((bytes_eq-Decides k (codes "$ref")).0 e)) refl
 
-  still_known : (ns : List (String Global × Notes)) (d : Document) → first (undefined_at known) (visits true [] d) ≡ None → first (undefined_at known) (visits true [] (described_document ns d)) ≡ None
+  still_known : (ns : List (String Global × Notes)) (d : Document) → first (undefined_at known) (visits true [] d) ≡ None → first (undefined_at known) (visits true [] (described_document w ns d)) ≡ None
   still_known ns d h =
       document_free (undefined_at known) (λ place t. refl) (λ place k v n e. reference_same place k v n (bytes_eq k (codes "$ref")) refl ∙ e) (λ place v ms e. e) ns d h
 
-known_plain : (R : Document) (n : List ℕ) → is_some (defined (plain R) n) ≡ is_some (defined R n)
-known_plain R n = ap is_some (defined_plain R n) ∙ is_some-map plain_schema (defined R n)
+pub known_plain : (left_out : List ℕ → Bool) → LeavesOutNotes left_out → (R : Document) (n : List ℕ) → is_some (defined (without left_out R) n) ≡ is_some (defined R n)
+known_plain left_out notes R n = ap is_some (defined_plain left_out notes R n) ∙ is_some-map (schema_without left_out) (defined R n)
 
-known_same : (ns : List (String Global × Notes)) (R : Document) (n : List ℕ) → is_some (defined R n) ≡ is_some (defined (described_document ns R) n)
-known_same ns R n = sym (known_plain R n) ∙ ap (λ d. is_some (defined d n)) (sym (document_same ns R)) ∙ known_plain (described_document ns R) n
+plain_same : (ns : List (String Global × Notes)) (d : Document) → plain (described_document w ns d) ≡ plain d
+plain_same = document_same is_note w refl
 
-pub still_schema : (ns : List (String Global × Notes)) (d : Document) → IsSchema d → IsSchema (described_document ns d)
+known_same : (ns : List (String Global × Notes)) (R : Document) (n : List ℕ) → is_some (defined R n) ≡ is_some (defined (described_document w ns R) n)
+known_same ns R n = sym (known_plain is_note notes_are_notes R n) ∙ ap (λ d. is_some (defined d n)) (sym (plain_same ns R)) ∙ known_plain is_note notes_are_notes (described_document w ns R) n
+
+pub still_schema : (ns : List (String Global × Notes)) (d : Document) → IsSchema d → IsSchema (described_document w ns d)
 still_schema ns d h =
-    let e = described_document ns d in record {
+    let e = described_document w ns d in record {
       shaped = still_shaped ns d h.shaped;
       named = subst (λ (known : List ℕ → Bool). first (undefined_at known) (visits true [] e) ≡ None) (λ i n. known_same ns d n i) (still_known (λ n. is_some (defined d n)) ns d h.named);
-      no_loop = no_loop_full e (subst NoLoop (sym (document_same ns d)) (no_loop_plain d h.no_loop));
+      no_loop = no_loop_full is_note notes_are_notes e (subst NoLoop (sym (plain_same ns d)) (no_loop_plain is_note notes_are_notes d h.no_loop));
     }

@@ -1,4 +1,4 @@
--- What descriptions say of validity: nothing (JSON Schema Validation 2020-12, section 9.1).
+-- What descriptions and defaults say of validity: nothing (JSON Schema Validation 2020-12, sections 9.1 and 9.2).
 use Rattle.std.specs.Prelude.{◌≡◌, Bool}
 use Rattle.cs_document.specs.Document.{Document}
 use Rattle.cs_profile.specs.Validity.{IsValidity}

@@ -1,5 +1,5 @@
--- A schema without its descriptions (own rule).
-use Rattle.std.specs.Prelude.{ℕ, List, Bool, true, false, Option, Some, None, codes, if◌then◌else◌}
+-- A schema without some of its notes, which are keywords that say nothing of validity (own rule).
+use Rattle.std.specs.Prelude.{◌≡◌, ◌⊎◌, ℕ, List, Bool, true, false, ◌||◌, Option, Some, None, codes, if◌then◌else◌}
 use Rattle.std.specs.Str.{bytes_eq}
 use Rattle.cs_document.specs.Document.{Document, null, boolean, integer, text, list, object, Documents, no_documents, document, Members, no_members, member}
 use Rattle.cs_profile.specs.Shapes.{form_at, BySchemas, by_form}
@@ -15,47 +15,68 @@ abbrev pub plain_by : Option Form → BySchemas Document → Document
 plain_by None answers = answers.none
 plain_by (Some f) answers = by_form f answers
 
-abbrev mutual
-  -- a schema below the root
-  pub plain_schema : Document → Document
-  plain_schema (object ms) = as_schema (plain_members false ms)
-  plain_schema null = null
-  plain_schema (boolean b) = boolean b
-  plain_schema (integer z) = integer z
-  plain_schema (text s) = text s
-  plain_schema (list ds) = list ds
+-- `left_out` says which keywords are left out
+module _ (left_out : List ℕ → Bool) where
+  abbrev mutual
+    -- a schema below the root
+    pub schema_without : Document → Document
+    schema_without (object ms) = as_schema (members_without false ms)
+    schema_without null = null
+    schema_without (boolean b) = boolean b
+    schema_without (integer z) = integer z
+    schema_without (text s) = text s
+    schema_without (list ds) = list ds
 
-  -- the members of the root, or of a schema below it
-  pub plain_members : Bool → Members → Members
-  plain_members root no_members = no_members
-  plain_members root (member k v ms) =
-      if bytes_eq (codes "description") k then plain_members root ms
-      else member k (plain_by (form_at root k) (record { none = v; itself = plain_schema v; elements = plain_list v; members = plain_map v })) (plain_members root ms)
+    -- the members of the root, or of a schema below it
+    pub members_without : Bool → Members → Members
+    members_without root no_members = no_members
+    members_without root (member k v ms) =
+        if left_out k then members_without root ms
+        else member k (plain_by (form_at root k) (record { none = v; itself = schema_without v; elements = list_without v; members = map_without v })) (members_without root ms)
 
-  pub plain_list : Document → Document
-  plain_list (list ds) = list (plain_elements ds)
-  plain_list d = d
+    pub list_without : Document → Document
+    list_without (list ds) = list (elements_without ds)
+    list_without d = d
 
-  pub plain_elements : Documents → Documents
-  plain_elements no_documents = no_documents
-  plain_elements (document d ds) = document (plain_schema d) (plain_elements ds)
+    pub elements_without : Documents → Documents
+    elements_without no_documents = no_documents
+    elements_without (document d ds) = document (schema_without d) (elements_without ds)
 
-  pub plain_map : Document → Document
-  plain_map (object ms) = object (plain_named ms)
-  plain_map d = d
+    pub map_without : Document → Document
+    map_without (object ms) = object (named_without ms)
+    map_without d = d
 
-  pub plain_named : Members → Members
-  plain_named no_members = no_members
-  plain_named (member k v ms) = member k (plain_schema v) (plain_named ms)
+    pub named_without : Members → Members
+    named_without no_members = no_members
+    named_without (member k v ms) = member k (schema_without v) (named_without ms)
 
--- a keyword's value, by how it holds schemas; for proofs alone
-abbrev pub plain_values : Document → BySchemas Document
-plain_values v = record { none = v; itself = plain_schema v; elements = plain_list v; members = plain_map v }
+  -- a keyword's value, by how it holds schemas, and by its form; for private contracts and proofs alone
+  abbrev pub values_without : Document → BySchemas Document
+  values_without v = record { none = v; itself = schema_without v; elements = list_without v; members = map_without v }
 
-abbrev pub plain_value : Bool → List ℕ → Document → Document
-plain_value root k v = plain_by (form_at root k) (plain_values v)
+  abbrev pub value_without : Bool → List ℕ → Document → Document
+  value_without root k v = plain_by (form_at root k) (values_without v)
 
--- a schema document without its descriptions
+  -- a schema document
+  abbrev pub without : Document → Document
+  without (object ms) = object (members_without true ms)
+  without d = d
+
+-- `default`, and each note that an export can have
+abbrev pub is_default : List ℕ → Bool
+is_default k = bytes_eq (codes "default") k
+
+abbrev pub is_note : List ℕ → Bool
+is_note k = bytes_eq (codes "description") k || is_default k
+
+-- a schema document without its defaults
+abbrev pub without_defaults : Document → Document
+without_defaults = without is_default
+
+-- and without all its notes
 abbrev pub plain : Document → Document
-plain (object ms) = object (plain_members true ms)
-plain d = d
+plain = without is_note
+
+-- notes alone are left out; for proofs
+abbrev pub LeavesOutNotes : (List ℕ → Bool) → Type 0
+LeavesOutNotes left_out = (k : List ℕ) → left_out k ≡ true → (codes "description" ≡ k) ⊎ (codes "default" ≡ k)

@@ -1,15 +1,18 @@
-// The texts for schemas.
-ghost use Rattle.cs_describe.specs.Described.{HasNoTexts};
+// The notes for schemas.
+ghost use Rattle.cs_describe.specs.Described.{HasNoNotes};
 
+use cs_document::Doc;
 use std::alloc::Global;
 use std::collections::BTreeMap;
 
-/// The texts for a schema: its own, and those for the schemas in it, by keyword.
+/// The notes for a schema: its own, and those for the schemas in it, by keyword.
 #[cycle(notes)]
 #[derive(Drop)]
 pub struct Notes {
-    /// For the schema itself.
+    /// The description of the schema itself.
     pub text: Option<String>,
+    /// The default of the schema itself.
+    pub default: Option<Doc>,
     /// `properties`, by label
     pub properties: BTreeMap<String, Notes>,
     /// `allOf`, by place
@@ -25,12 +28,13 @@ pub struct Notes {
 }
 
 impl Notes {
-    /// No text, neither for the schema nor for those in it.
+    /// No note, neither for the schema nor for those in it.
     pub fn new(alloc: Global) -> Notes
-        ensures { HasNoTexts result }
+        ensures { HasNoNotes result }
     {
         Notes {
             text: None,
+            default: None,
             properties: BTreeMap::new(alloc),
             all_of: Vec::new(alloc),
             any_of: Vec::new(alloc),

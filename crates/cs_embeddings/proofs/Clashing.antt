@@ -15,7 +15,8 @@ use Rattle.cs_grammar.specs.Tree.{Tree, atom, named, reference, conjunction, dis
 use Rattle.cs_grammar.specs.View.{expr_view}
 use Rattle.cs_grammar.specs.declared.ast.Expr.{Expr}
 use Rattle.cs_embeddings.specs.Alternatives.{Brought}
-use Rattle.cs_embeddings.specs.Clashes.{is_every, is_plain, is_same_reference, are_apart, differ, held, is_some_place, place_in, clashes_behind}
+use Rattle.cs_embeddings.specs.Gathered.{is_every}
+use Rattle.cs_embeddings.specs.Clashes.{is_plain, is_same_reference, are_apart, differ, held, is_some_place, place_in, clashes_behind}
 use Rattle.cs_embeddings.specs.ClashTable.{is_nothing, is_other, TellsFirst, TellsSeen}
 use Rattle.cs_embeddings.specs.Held.{holds}
 use Rattle.cs_embeddings.specs.Shut.{is_shut}

@@ -5,20 +5,23 @@ use Rattle.std.specs.List.{flat_map, AllByRecursion}
 use Rattle.cs_grammar.specs.Height.{height, height_definitions, file_height}
 use Rattle.cs_grammar.specs.Limits.{most_height, most_nodes}
 use Rattle.cs_grammar.specs.Tree.{Tree, DefinitionTree, body, FileTree, definitions}
-use Rattle.cs_grammar.specs.View.{expr_view, definition_view, file_view}
+use Rattle.cs_grammar.specs.View.{definition_view, file_view}
 use Rattle.cs_grammar.specs.declared.ast.Definition.{Definition}
 use Rattle.cs_grammar.specs.declared.ast.File.{File}
 use Rattle.cs_embeddings.proofs.Flawless.{first_empty, second_empty}
 use Rattle.cs_embeddings.proofs.FoundFiles.{first_numbered}
 use Rattle.cs_embeddings.proofs.Firsts.{first_left, first_right}
+use Rattle.cs_embeddings.proofs.Listed.{standing}
 use Rattle.cs_embeddings.proofs.Parts.{highest, total, AreMade, none_more}
 use Rattle.cs_embeddings.specs.Clashes.{clashes, clashes_with, clashes_value}
-use Rattle.cs_embeddings.specs.Joined.{joined, joined_with, joined_value, joined_definition, joined_file}
+use Rattle.cs_embeddings.specs.GatheredTable.{gathered_view}
+use Rattle.cs_embeddings.specs.Joined.{joined, joined_with, joined_value, joined_definition, gathered_file, joined_file}
 use Rattle.cs_embeddings.specs.Made.{IsNoRoom, IsMade, IsNoRoomForFiles, AreFilesMade}
 use Rattle.cs_embeddings.specs.Size.{size, size_of_definitions, size_of_files}
 use Rattle.cs_embeddings.specs.Without.{found_from, IsWithin}
 use Rattle.cs_embeddings.specs.declared.fault.EmbeddingFault.{EmbeddingFault}
 use Rattle.cs_embeddings.specs.declared.fault.EmbeddingFault.TheVariants.{OutOfMemory, UnknownName, NoStruct, Reopened, TooHigh, TooLarge}
+use Rattle.cs_embeddings.specs.declared.gathered.Gathered.{Gathered}
 
 -- ---- bodies
 
@@ -41,42 +44,42 @@ module _ (ds : List DefinitionTree) where
   pub body_clashes : (e : Tree) → clashes_with ds (clashes_value ds most_height) None e ≡ clashes ds e
   body_clashes e = sym (whole_clashes most_height e)
 
-  abbrev pub own_body : Definition → Tree
-  own_body d = joined ds (expr_view d.body)
+  abbrev pub own_body : Gathered → Tree
+  own_body g = joined ds (gathered_view g).value
 
-  abbrev pub own_definition : Definition → DefinitionTree
-  own_definition d = joined_definition ds (definition_view d)
+  abbrev pub own_definition : Gathered → DefinitionTree
+  own_definition g = joined_definition ds (standing g)
 
-  abbrev pub definition_clashes : Definition → List ℕ
-  definition_clashes d = clashes ds (expr_view d.body)
+  abbrev pub definition_clashes : Gathered → List ℕ
+  definition_clashes g = clashes ds (gathered_view g).value
 
-  abbrev pub AreDefinitions : ℕ → ℕ → List Definition → List Definition → Type 0
-  AreDefinitions nodes rest xs ys = AreMade definition_view own_definition (λ d. height (own_body d))
-      (λ d. size (own_body d)) definition_clashes most_height nodes rest xs ys
+  abbrev pub AreDefinitions : ℕ → ℕ → List Gathered → List Definition → Type 0
+  AreDefinitions nodes rest xs ys = AreMade definition_view own_definition (λ g. height (own_body g))
+      (λ g. size (own_body g)) definition_clashes most_height nodes rest xs ys
 
-  abbrev meant : List Definition → List DefinitionTree
-  meant xs = map (joined_definition ds) (map definition_view xs)
+  abbrev meant : List Gathered → List DefinitionTree
+  meant xs = map (joined_definition ds) (map standing xs)
 
-  definitions_are : (xs : List Definition) → map own_definition xs ≡ meant xs
+  definitions_are : (xs : List Gathered) → map own_definition xs ≡ meant xs
   definitions_are [] = refl
   definitions_are (x ∷ xs) = ap (λ es. own_definition x ∷ es) (definitions_are xs)
 
-  definitions_high : (xs : List Definition) → height_definitions (meant xs) ≡ highest (λ d. height (own_body d)) xs
+  definitions_high : (xs : List Gathered) → height_definitions (meant xs) ≡ highest (λ g. height (own_body g)) xs
   definitions_high [] = refl
   definitions_high (x ∷ xs) = ap (λ h. max (height (own_body x)) h) (definitions_high xs)
 
-  definitions_large : (xs : List Definition) → size_of_definitions (meant xs) ≡ total (λ d. size (own_body d)) xs
+  definitions_large : (xs : List Gathered) → size_of_definitions (meant xs) ≡ total (λ g. size (own_body g)) xs
   definitions_large [] = refl
   definitions_large (x ∷ xs) = sum_by-cons (λ d. size (body d)) (own_definition x) (meant xs) ∙ ap (λ s. size (own_body x) + s) (definitions_large xs)
 
-  clashes_are : (xs : List Definition) → flat_map (λ d. clashes ds (body d)) (map definition_view xs) ≡ flat_map definition_clashes xs
+  clashes_are : (xs : List Gathered) → flat_map (λ d. clashes ds (body d)) (map standing xs) ≡ flat_map definition_clashes xs
   clashes_are [] = refl
   clashes_are (x ∷ xs) = ap (λ os. definition_clashes x ++ os) (clashes_are xs)
 
-  module _ (xs : List Definition) (nodes : ℕ) where
+  module _ (xs : List Gathered) (nodes : ℕ) where
     pub definitions_made : (rest : ℕ) (ys : List Definition) → AreDefinitions nodes rest xs ys
         → IsMade most_height nodes rest (height_definitions (meant xs)) (size_of_definitions (meant xs)) (map definition_view ys) (meant xs)
-        (flat_map (λ d. clashes ds (body d)) (map definition_view xs))
+        (flat_map (λ d. clashes ds (body d)) (map standing xs))
     definitions_made rest ys h = record {
       made = h.made ∙ definitions_are xs;
       low = rw (definitions_high xs) h.low;
@@ -85,9 +88,9 @@ module _ (ds : List DefinitionTree) where
     }
 
     pub definitions_unmade : (e : EmbeddingFault) (file : ℕ)
-        → IsNoRoom e file most_height nodes (highest (λ d. height (own_body d)) xs) (total (λ d. size (own_body d)) xs) (flat_map definition_clashes xs)
+        → IsNoRoom e file most_height nodes (highest (λ g. height (own_body g)) xs) (total (λ g. size (own_body g)) xs) (flat_map definition_clashes xs)
         → IsNoRoom e file most_height nodes (height_definitions (meant xs)) (size_of_definitions (meant xs))
-        (flat_map (λ d. clashes ds (body d)) (map definition_view xs))
+        (flat_map (λ d. clashes ds (body d)) (map standing xs))
     definitions_unmade e file h = rw (definitions_high xs, definitions_large xs, clashes_are xs) h
 
   -- ---- files
@@ -99,13 +102,17 @@ module _ (ds : List DefinitionTree) where
   file_large f = size_of_definitions (definitions (own_file f))
 
   abbrev pub file_clashes : File → List ℕ
-  file_clashes f = flat_map (λ d. clashes ds (body d)) (definitions (file_view f))
+  file_clashes f = flat_map (λ d. clashes ds (body d)) (definitions (gathered_file ds (file_view f)))
 
   abbrev pub AreFiles : ℕ → ℕ → List File → List File → Type 0
   AreFiles nodes rest xs ys = AreMade file_view own_file (λ f. file_height (own_file f)) file_large file_clashes most_height nodes rest xs ys
 
   abbrev files_meant : List File → List FileTree
   files_meant xs = map (joined_file ds) (map file_view xs)
+
+  -- those in which what would be opened is looked for
+  abbrev files_gathered : List File → List FileTree
+  files_gathered xs = map (gathered_file ds) (map file_view xs)
 
   files_are : (xs : List File) → map own_file xs ≡ files_meant xs
   files_are [] = refl
@@ -122,7 +129,7 @@ module _ (ds : List DefinitionTree) where
       ∙ ap (λ s. file_large x + s) (files_large xs)
 
   -- where no file has any, none is found
-  none_found : (i : ℕ) (xs : List File) → flat_map file_clashes xs ≡ [] → found_from (clashes ds) i (map file_view xs) ≡ []
+  none_found : (i : ℕ) (xs : List File) → flat_map file_clashes xs ≡ [] → found_from (clashes ds) i (files_gathered xs) ≡ []
   none_found i [] h = refl
   none_found i (x ∷ xs) h =
       let here = first_empty (file_clashes x) (flat_map file_clashes xs) h in
@@ -144,10 +151,10 @@ module _ (ds : List DefinitionTree) where
   -- ---- the first that would be opened
 
   first_found : (j : ℕ) (xs : List File) (i : ℕ) (x : File) → i < length xs → x ≡ get_or xs i x → flat_map file_clashes (take i xs) ≡ [] → (o : ℕ)
-      → slice_get (file_clashes x) 0 ≡ Some o → slice_get (found_from (clashes ds) j (map file_view xs)) 0 ≡ Some (j + i, o)
+      → slice_get (file_clashes x) 0 ≡ Some o → slice_get (found_from (clashes ds) j (files_gathered xs)) 0 ≡ Some (j + i, o)
   first_found j [] i x l is none o h = absurd (omega arith)
   first_found j (y ∷ xs) zero x l is none o h =
-      rw (add_zero j) (first_left (map (λ p. (j, p)) (file_clashes y)) (found_from (clashes ds) (suc j) (map file_view xs)) (j, o)
+      rw (add_zero j) (first_left (map (λ p. (j, p)) (file_clashes y)) (found_from (clashes ds) (suc j) (files_gathered xs)) (j, o)
       (first_numbered (clashes ds) j (file_clashes y) o (subst (λ z. slice_get (file_clashes z) 0 ≡ Some o) is h)))
     where
       add_zero : (j : ℕ) → j + 0 ≡ j
@@ -156,9 +163,9 @@ module _ (ds : List DefinitionTree) where
       let here = first_empty (file_clashes y) (flat_map file_clashes (take i xs)) none in
       let none_later = second_empty (file_clashes y) (flat_map file_clashes (take i xs)) none in
       let later = first_found (suc j) xs i x (omega arith) is none_later o h in
-      first_right (map (λ p. (j, p)) (file_clashes y)) (found_from (clashes ds) (suc j) (map file_view xs)) (j + suc i, o)
+      first_right (map (λ p. (j, p)) (file_clashes y)) (found_from (clashes ds) (suc j) (files_gathered xs)) (j + suc i, o)
       (ap (map {B = ℕ × ℕ} (λ p. (j, p))) here)
-      (subst (λ k. slice_get (found_from (clashes ds) (suc j) (map file_view xs)) 0 ≡ Some (k, o)) (across j i) later)
+      (subst (λ k. slice_get (found_from (clashes ds) (suc j) (files_gathered xs)) 0 ≡ Some (k, o)) (across j i) later)
     where
       across : (j i : ℕ) → suc j + i ≡ j + suc i
       across j i = omega arith
@@ -175,7 +182,7 @@ module _ (ds : List DefinitionTree) where
     pub files_unmade : (e : EmbeddingFault) → IsNoRoom e i most_height rest (file_height (own_file x)) (file_large x) (file_clashes x)
         → IsNoRoomForFiles e ds (map file_view xs)
     files_unmade OutOfMemory h = tt
-    files_unmade (Reopened f o) h = subst (λ j. slice_get (found_from (clashes ds) 0 (map file_view xs)) 0 ≡ Some (j, o)) (from_zero i ∙ sym h.0)
+    files_unmade (Reopened f o) h = subst (λ j. slice_get (found_from (clashes ds) 0 (files_gathered xs)) 0 ≡ Some (j, o)) (from_zero i ∙ sym h.0)
         (first_found 0 xs i x l is before.apart o h.1)
       where
         from_zero : (i : ℕ) → 0 + i ≡ i

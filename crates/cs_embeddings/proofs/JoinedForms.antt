@@ -2,20 +2,20 @@
 use Rattle.std.proofs.Common.{◌≡◌, ℕ, suc, ◌+◌, ◌≤◌, Bool, true, false, not, ◌&&◌, List, ◌++◌, Result, sym, ap, ap₂, ◌∙◌, subst, arith}
 use Rattle.std.proofs.lemmas.Bool.{and_parts, cond-true, cond-false}
 use Rattle.std.specs.List.{flat_map}
-use Rattle.cs_grammar.specs.Height.{height, height_all, height_fields, height_end}
-use Rattle.cs_grammar.specs.Tree.{Tree, Trees, Fields, End, conjunction, disjunction, struct, list, wide, marked, DefinitionTree}
+use Rattle.cs_grammar.specs.Height.{height, height_all, height_end}
+use Rattle.cs_grammar.specs.Tree.{Tree, Trees, End, conjunction, disjunction, list, wide, marked, DefinitionTree}
 use Rattle.cs_embeddings.proofs.Marked.{well_behind, marks_joined, marks_high, marks_large, marks_clashes}
 use Rattle.cs_embeddings.proofs.Parts.{no_room_left, no_room_right, no_room_inside, made_inside}
 use Rattle.cs_embeddings.specs.Alternatives.{at, most_steps}
-use Rattle.cs_embeddings.specs.Clashes.{clashes_with, clashes_each, clashes_fields, clashes_end, clashes_of, clashes_value}
-use Rattle.cs_embeddings.specs.Embedded.{can_be_embedded, embeds_well, embed_well, fields_embed_well, end_embeds_well}
-use Rattle.cs_embeddings.specs.Joined.{joined_with, joined_each, joined_fields, joined_end, joined_value, one_of}
+use Rattle.cs_embeddings.specs.Clashes.{clashes_with, clashes_each, clashes_end, clashes_of, clashes_value}
+use Rattle.cs_embeddings.specs.Embedded.{can_be_embedded, embeds_well, embed_well, end_embeds_well}
+use Rattle.cs_embeddings.specs.Joined.{joined_with, joined_each, joined_end, joined_value, one_of}
 use Rattle.cs_embeddings.specs.Held.{first_place}
 use Rattle.cs_embeddings.specs.United.{are_several, unites, united}
 use Rattle.cs_embeddings.specs.Shut.{are_open}
 use Rattle.cs_grammar.specs.declared.ast.Expr.{Expr}
 use Rattle.cs_embeddings.specs.Made.{IsNoRoom, IsMade, Makes, IsBelow, behind_marks, with_marks}
-use Rattle.cs_embeddings.specs.Size.{size, sizes, size_fields, size_end}
+use Rattle.cs_embeddings.specs.Size.{size, sizes, size_end}
 use Rattle.cs_embeddings.specs.declared.fault.EmbeddingFault.{EmbeddingFault}
 use Rattle.cs_embeddings.specs.declared.joined.Room.{Room}
 
@@ -69,20 +69,6 @@ module _ (ds : List DefinitionTree) (n : ℕ) where
   EndMade room nodes rest x end = IsMade room.levels nodes rest (height_end (end_meant room end)) (size_end (end_meant room end)) x (end_meant room end)
       (end_found room end)
 
-  abbrev pub fields_meant : Room → Fields → Fields
-  fields_meant room fs = joined_fields ds (joined_value ds n) room.place fs
-
-  abbrev pub fields_found : Room → Fields → List ℕ
-  fields_found room fs = clashes_fields ds (clashes_value ds n) room.place fs
-
-  abbrev pub FieldsUnmade : EmbeddingFault → ℕ → Room → ℕ → Fields → Type 0
-  FieldsUnmade e file room nodes fs = IsNoRoom e file room.levels nodes (height_fields (fields_meant room fs)) (size_fields (fields_meant room fs))
-      (fields_found room fs)
-
-  abbrev pub FieldsMade : Room → ℕ → ℕ → Fields → Fields → Type 0
-  FieldsMade room nodes rest x fs = IsMade room.levels nodes rest (height_fields (fields_meant room fs)) (size_fields (fields_meant room fs)) x
-      (fields_meant room fs) (fields_found room fs)
-
   -- operands of `&` that stay, and those that are put together
   staying_meant : (room : Room) (es : Trees) → unites ds es ≡ false
       → meant room (conjunction es) ≡ conjunction (joined_each ds (joined_value ds n) false room.place es)
@@ -92,19 +78,19 @@ module _ (ds : List DefinitionTree) (n : ℕ) where
   staying_found room es stay = cond-false (unites ds es) _ _ stay
 
   united_meant : (room : Room) (es : Trees) → unites ds es ≡ true
-      → meant room (conjunction es) ≡ one_of (joined_value ds n) room.is_whole (at room.place (first_place es)) (united ds room.place es)
+      → meant room (conjunction es) ≡ one_of ds (joined_value ds n) room.is_whole (at room.place (first_place es)) (united ds room.place es)
   united_meant room es unite = cond-true (unites ds es) _ _ unite
 
   united_found : (room : Room) (es : Trees) → unites ds es ≡ true
-      → found room (conjunction es) ≡ flat_map (clashes_of (clashes_value ds n) false) (united ds room.place es)
+      → found room (conjunction es) ≡ flat_map (clashes_of ds (clashes_value ds n) false) (united ds room.place es)
   united_found room es unite = cond-true (unites ds es) _ _ unite
 
   module _ (room : Room) (es : Trees) (unite : unites ds es ≡ true) where
     abbrev united_one : Tree
-    united_one = one_of (joined_value ds n) room.is_whole (at room.place (first_place es)) (united ds room.place es)
+    united_one = one_of ds (joined_value ds n) room.is_whole (at room.place (first_place es)) (united ds room.place es)
 
     abbrev united_clashes : List ℕ
-    united_clashes = flat_map (clashes_of (clashes_value ds n) false) (united ds room.place es)
+    united_clashes = flat_map (clashes_of ds (clashes_value ds n) false) (united ds room.place es)
 
     pub united_unmade : (e : EmbeddingFault) (file nodes : ℕ) → IsNoRoom e file room.levels nodes (height united_one) (size united_one) united_clashes
         → IsUnmade e file room nodes (conjunction es)
@@ -168,25 +154,6 @@ module _ (ds : List DefinitionTree) (n : ℕ) where
         or_made is made = subst (IsMadeOf room nodes rest y) (sym is)
             (made_inside room.levels inside.levels goes.0.levels mid rest _ _ x _ _ disjunction y made nodes goes.1
             (operands_made (subst (λ u. embeds_well inner u ≡ true) is embeds)))
-
-    -- a literal
-    module _ (t : Tree) (o : ℕ) (fs : Fields) (b : Bool) (is : t ≡ struct o fs b) (embeds : embeds_well inner t ≡ true) where
-      pub struct_unmade : (e : EmbeddingFault) (file : ℕ) → (fields_embed_well inner fs ≡ true → inside.levels ≤ n → FieldsUnmade e file inside mid fs)
-          → IsUnmade e file room nodes t
-      struct_unmade e file fields =
-          let h = fields (subst (λ u. embeds_well inner u ≡ true) is embeds) lower in
-          let k : FieldsUnmade e file (parts true) mid fs = subst
-          (λ p. let q : Room = record { place = p; is_whole = true; levels = inside.levels } in FieldsUnmade e file q mid fs) goes.0.place h in
-          subst (IsUnmade e file room nodes) (sym is) (no_room_inside e file room.levels inside.levels nodes mid _ _ _ goes.0.levels goes.1 k)
-
-      pub struct_made : (rest : ℕ) (x : Fields) (y : Tree) → y ≡ struct (at room.place o) x b
-          → (fields_embed_well inner fs ≡ true → inside.levels ≤ n → FieldsMade inside mid rest x fs) → IsMadeOf room nodes rest y t
-      struct_made rest x y made fields =
-          let h = fields (subst (λ u. embeds_well inner u ≡ true) is embeds) lower in
-          let k : FieldsMade (parts true) mid rest x fs = subst
-          (λ p. let q : Room = record { place = p; is_whole = true; levels = inside.levels } in FieldsMade q mid rest x fs) goes.0.place h in
-          subst (IsMadeOf room nodes rest y) (sym is) (made_inside room.levels inside.levels goes.0.levels mid rest _ _ x _ _
-          (λ gs. struct (at room.place o) gs b) y made nodes goes.1 k)
 
     -- a list
     module _ (es : Trees) (end : End) (embeds : embeds_well inner (list es end) ≡ true) (r : Room) (set : r ≡ record inside { is_whole = true }) where

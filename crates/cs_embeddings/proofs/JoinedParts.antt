@@ -3,20 +3,21 @@ use Rattle.std.proofs.Common.{◌≡◌, ℕ, ◌+◌, max, Bool, true, List, []
 use Rattle.std.proofs.lemmas.Bool.{and_parts}
 use Rattle.std.specs.List.{flat_map, AllByRecursion}
 use Rattle.cs_grammar.specs.Height.{height, height_all, height_fields}
-use Rattle.cs_grammar.specs.Tree.{Tree, Fields, more, field, DefinitionTree}
+use Rattle.cs_grammar.specs.Tree.{Tree, more, field, DefinitionTree}
 use Rattle.cs_grammar.specs.View.{expr_view, exprs_view, trees_of, fields_of, field_view, fields_view, Seen}
 use Rattle.cs_grammar.specs.declared.ast.Expr.{Expr}
 use Rattle.cs_grammar.specs.declared.ast.Field.{Field}
 use Rattle.cs_embeddings.proofs.Parts.{highest, total, AreMade}
-use Rattle.cs_embeddings.specs.Clashes.{clashes_with, clashes_each, clashes_fields, clashes_of}
-use Rattle.cs_embeddings.specs.Embedded.{embeds_well, embed_well, fields_embed_well}
-use Rattle.cs_embeddings.specs.Joined.{joined_with, joined_each, joined_fields, literal_of, literals_of, fields_of_brought, placed}
-use Rattle.cs_embeddings.specs.Made.{IsNoRoom, IsMade, with_value}
+use Rattle.cs_embeddings.specs.Clashes.{clashes_with, clashes_each, clashes_of}
+use Rattle.cs_embeddings.specs.Embedded.{embeds_well, embed_well}
+use Rattle.cs_embeddings.specs.GatheredTable.{gathered_view}
+use Rattle.cs_embeddings.specs.Joined.{joined_with, joined_each, literal_of, literals_of, fields_of_brought, placed}
+use Rattle.cs_embeddings.specs.Made.{IsNoRoom, IsMade}
 use Rattle.cs_embeddings.specs.Size.{size, sizes, size_fields}
-use Rattle.cs_embeddings.specs.Views.{alternative_view, alternatives_view, brought_view}
+use Rattle.cs_embeddings.specs.Views.{alternative_view, alternatives_view}
 use Rattle.cs_embeddings.specs.declared.alternatives.Alternative as rust
-use Rattle.cs_embeddings.specs.declared.alternatives.Brought as brought
 use Rattle.cs_embeddings.specs.declared.fault.EmbeddingFault.{EmbeddingFault}
+use Rattle.cs_embeddings.specs.declared.gathered.Gathered.{Gathered}
 
 -- ---- what embeds well, part by part
 
@@ -24,20 +25,11 @@ module _ (inner : Tree → Bool) where
   abbrev pub IsWellExpr : Expr → Type 0
   IsWellExpr e = embeds_well inner (expr_view e) ≡ true
 
-  abbrev pub IsWellField : Field → Type 0
-  IsWellField f = embeds_well inner (field_view f).value ≡ true
-
   pub exprs_well : (es : List Expr) → embed_well inner (exprs_view es) ≡ true → AllByRecursion IsWellExpr es
   exprs_well [] h = tt
   exprs_well (e ∷ es) h =
       let p = and_parts (embeds_well inner (expr_view e)) (embed_well inner (exprs_view es)) h in
       (p.0, exprs_well es p.1)
-
-  pub fields_well : (fs : List Field) → fields_embed_well inner (fields_view fs) ≡ true → AllByRecursion IsWellField fs
-  fields_well [] h = tt
-  fields_well (f ∷ fs) h =
-      let p = and_parts (embeds_well inner (field_view f).value) (fields_embed_well inner (fields_view fs)) h in
-      (p.0, fields_well fs p.1)
 
 pub of_map : {X Y : Type 0} (P : Y → Type 0) (f : X → Y) (xs : List X) → AllByRecursion P (map f xs) → AllByRecursion (λ x. P (f x)) xs
 of_map P f [] h = tt
@@ -89,92 +81,42 @@ module _ (ds : List DefinitionTree) (value : Option ℕ → Tree → Tree) (inne
         (clashes_each ds inner p (exprs_view es))
     each_unmade e file h = rw (each_high whole es, each_large whole es, each_clashes es) h
 
-  -- fields
-
-  abbrev pub own_value : Field → Tree
-  own_value f = joined_with ds value true p (field_view f).value
-
-  abbrev pub own_seen : Field → Seen
-  own_seen f = with_value p (joined_with ds value true p) (field_view f)
-
-  abbrev pub field_clashes : Field → List ℕ
-  field_clashes f = clashes_with ds inner p (field_view f).value
-
-  abbrev pub AreFields : ℕ → ℕ → ℕ → List Field → List Field → Type 0
-  AreFields levels nodes rest fs ys = AreMade field_view own_seen (λ f. height (own_value f)) (λ f. size (own_value f)) field_clashes levels nodes rest fs ys
-
-  abbrev put : Seen → Fields → Fields
-  put f fs = field f.label f.mark f.value fs
-
-  fields_trees : (fs : List Field) → fields_of (map own_seen fs) ≡ joined_fields ds value p (fields_view fs)
-  fields_trees [] = refl
-  fields_trees (f ∷ fs) = ap (λ gs. put (own_seen f) gs) (fields_trees fs)
-
-  fields_high : (fs : List Field) → height_fields (joined_fields ds value p (fields_view fs)) ≡ highest (λ f. height (own_value f)) fs
-  fields_high [] = refl
-  fields_high (f ∷ fs) = ap (λ h. max (height (own_value f)) h) (fields_high fs)
-
-  fields_large : (fs : List Field) → size_fields (joined_fields ds value p (fields_view fs)) ≡ total (λ f. size (own_value f)) fs
-  fields_large [] = refl
-  fields_large (f ∷ fs) = ap (λ s. size (own_value f) + s) (fields_large fs)
-
-  fields_clashes : (fs : List Field) → clashes_fields ds inner p (fields_view fs) ≡ flat_map field_clashes fs
-  fields_clashes [] = refl
-  fields_clashes (f ∷ fs) = ap (λ os. field_clashes f ++ os) (fields_clashes fs)
-
-  module _ (fs : List Field) (levels nodes : ℕ) where
-    pub fields_made : (rest : ℕ) (ys : List Field) → AreFields levels nodes rest fs ys
-        → let meant = joined_fields ds value p (fields_view fs) in IsMade levels nodes rest (height_fields meant) (size_fields meant) (fields_view ys) meant
-        (clashes_fields ds inner p (fields_view fs))
-    fields_made rest ys h = record {
-      made = ap fields_of h.made ∙ fields_trees fs;
-      low = rw (fields_high fs) h.low;
-      left = rw (fields_large fs) h.left;
-      apart = fields_clashes fs ∙ h.apart;
-    }
-
-    pub fields_unmade : (e : EmbeddingFault) (file : ℕ)
-        → IsNoRoom e file levels nodes (highest (λ f. height (own_value f)) fs) (total (λ f. size (own_value f)) fs) (flat_map field_clashes fs)
-        → let meant = joined_fields ds value p (fields_view fs) in IsNoRoom e file levels nodes (height_fields meant) (size_fields meant)
-        (clashes_fields ds inner p (fields_view fs))
-    fields_unmade e file h = rw (fields_high fs, fields_large fs, fields_clashes fs) h
-
 -- ---- alternatives
 
-module _ (value : Option ℕ → Tree → Tree) (inner : Option ℕ → Tree → List ℕ) where
-  abbrev pub brought_value : brought.Brought → Tree
-  brought_value b = value b.place (brought_view b).value
+module _ (ds : List DefinitionTree) (value : Option ℕ → Tree → Tree) (inner : Option ℕ → Tree → List ℕ) where
+  abbrev pub brought_value : Gathered → Tree
+  brought_value b = value (gathered_view b).place (gathered_view b).value
 
-  abbrev pub brought_seen : brought.Brought → Seen
-  brought_seen b = record { label = (brought_view b).label; mark = placed b.place (brought_view b).mark; value = brought_value b }
+  abbrev pub brought_seen : Gathered → Seen
+  brought_seen b = record { label = (gathered_view b).label; mark = placed (gathered_view b).place (gathered_view b).mark; value = brought_value b }
 
-  abbrev pub brought_clashes : brought.Brought → List ℕ
-  brought_clashes b = inner b.place (brought_view b).value
+  abbrev pub brought_clashes : Gathered → List ℕ
+  brought_clashes b = inner (gathered_view b).place (gathered_view b).value
 
-  abbrev pub AreBrought : ℕ → ℕ → ℕ → List brought.Brought → List Field → Type 0
+  abbrev pub AreBrought : ℕ → ℕ → ℕ → List Gathered → List Field → Type 0
   AreBrought levels nodes rest bs ys = AreMade field_view brought_seen (λ b. height (brought_value b))
       (λ b. size (brought_value b)) brought_clashes levels nodes rest bs ys
 
-  brought_trees : (bs : List brought.Brought) → fields_of (map brought_seen bs) ≡ fields_of_brought value (map brought_view bs)
+  brought_trees : (bs : List Gathered) → fields_of (map brought_seen bs) ≡ fields_of_brought ds value (map gathered_view bs)
   brought_trees [] = refl
   brought_trees (b ∷ bs) = ap (λ fs. field (brought_seen b).label (brought_seen b).mark (brought_seen b).value fs) (brought_trees bs)
 
-  brought_high : (bs : List brought.Brought) → height_fields (fields_of_brought value (map brought_view bs)) ≡ highest (λ b. height (brought_value b)) bs
+  brought_high : (bs : List Gathered) → height_fields (fields_of_brought ds value (map gathered_view bs)) ≡ highest (λ b. height (brought_value b)) bs
   brought_high [] = refl
   brought_high (b ∷ bs) = ap (λ h. max (height (brought_value b)) h) (brought_high bs)
 
-  brought_large : (bs : List brought.Brought) → size_fields (fields_of_brought value (map brought_view bs)) ≡ total (λ b. size (brought_value b)) bs
+  brought_large : (bs : List Gathered) → size_fields (fields_of_brought ds value (map gathered_view bs)) ≡ total (λ b. size (brought_value b)) bs
   brought_large [] = refl
   brought_large (b ∷ bs) = ap (λ s. size (brought_value b) + s) (brought_large bs)
 
-  clashes_brought : (bs : List brought.Brought) → flat_map (λ d. inner d.place d.value) (map brought_view bs) ≡ flat_map brought_clashes bs
+  clashes_brought : (bs : List Gathered) → flat_map (λ d. inner d.place d.value) (map gathered_view bs) ≡ flat_map brought_clashes bs
   clashes_brought [] = refl
   clashes_brought (b ∷ bs) = ap (λ os. brought_clashes b ++ os) (clashes_brought bs)
 
-  module _ (bs : List brought.Brought) (levels nodes : ℕ) where
+  module _ (bs : List Gathered) (levels nodes : ℕ) where
     pub brought_made : (rest : ℕ) (ys : List Field) → AreBrought levels nodes rest bs ys
-        → let meant = fields_of_brought value (map brought_view bs) in IsMade levels nodes rest (height_fields meant) (size_fields meant)
-        (fields_view ys) meant (flat_map (λ d. inner d.place d.value) (map brought_view bs))
+        → let meant = fields_of_brought ds value (map gathered_view bs) in IsMade levels nodes rest (height_fields meant) (size_fields meant)
+        (fields_view ys) meant (flat_map (λ d. inner d.place d.value) (map gathered_view bs))
     brought_made rest ys h = record {
       made = ap fields_of h.made ∙ brought_trees bs;
       low = rw (brought_high bs) h.low;
@@ -184,41 +126,41 @@ module _ (value : Option ℕ → Tree → Tree) (inner : Option ℕ → Tree →
 
     pub brought_unmade : (e : EmbeddingFault) (file : ℕ)
         → IsNoRoom e file levels nodes (highest (λ b. height (brought_value b)) bs) (total (λ b. size (brought_value b)) bs) (flat_map brought_clashes bs)
-        → let meant = fields_of_brought value (map brought_view bs) in IsNoRoom e file levels nodes (height_fields meant) (size_fields meant)
-        (flat_map (λ d. inner d.place d.value) (map brought_view bs))
+        → let meant = fields_of_brought ds value (map gathered_view bs) in IsNoRoom e file levels nodes (height_fields meant) (size_fields meant)
+        (flat_map (λ d. inner d.place d.value) (map gathered_view bs))
     brought_unmade e file h = rw (brought_high bs, brought_large bs, clashes_brought bs) h
 
   module _ (o : ℕ) (embeds : Bool) where
     abbrev pub own_literal : rust.Alternative → Tree
-    own_literal a = literal_of value o (alternative_view a)
+    own_literal a = literal_of ds value o (alternative_view a)
 
     abbrev pub literal_clashes : rust.Alternative → List ℕ
-    literal_clashes a = clashes_of inner embeds (alternative_view a)
+    literal_clashes a = clashes_of ds inner embeds (alternative_view a)
 
     abbrev pub AreLiterals : ℕ → ℕ → ℕ → List rust.Alternative → List Expr → Type 0
     AreLiterals levels nodes rest xs ys = AreMade expr_view own_literal (λ a. height (own_literal a))
         (λ a. size (own_literal a)) literal_clashes levels nodes rest xs ys
 
-    literal_trees : (xs : List rust.Alternative) → trees_of (map own_literal xs) ≡ literals_of value o (alternatives_view xs)
+    literal_trees : (xs : List rust.Alternative) → trees_of (map own_literal xs) ≡ literals_of ds value o (alternatives_view xs)
     literal_trees [] = refl
     literal_trees (a ∷ xs) = ap (λ ts. more (own_literal a) ts) (literal_trees xs)
 
-    literal_high : (xs : List rust.Alternative) → height_all (literals_of value o (alternatives_view xs)) ≡ highest (λ a. height (own_literal a)) xs
+    literal_high : (xs : List rust.Alternative) → height_all (literals_of ds value o (alternatives_view xs)) ≡ highest (λ a. height (own_literal a)) xs
     literal_high [] = refl
     literal_high (a ∷ xs) = ap (λ h. max (height (own_literal a)) h) (literal_high xs)
 
-    literal_large : (xs : List rust.Alternative) → sizes (literals_of value o (alternatives_view xs)) ≡ total (λ a. size (own_literal a)) xs
+    literal_large : (xs : List rust.Alternative) → sizes (literals_of ds value o (alternatives_view xs)) ≡ total (λ a. size (own_literal a)) xs
     literal_large [] = refl
     literal_large (a ∷ xs) = ap (λ s. size (own_literal a) + s) (literal_large xs)
 
-    clashes_literals : (xs : List rust.Alternative) → flat_map (clashes_of inner embeds) (alternatives_view xs) ≡ flat_map literal_clashes xs
+    clashes_literals : (xs : List rust.Alternative) → flat_map (clashes_of ds inner embeds) (alternatives_view xs) ≡ flat_map literal_clashes xs
     clashes_literals [] = refl
     clashes_literals (a ∷ xs) = ap (λ os. literal_clashes a ++ os) (clashes_literals xs)
 
     module _ (xs : List rust.Alternative) (levels nodes : ℕ) where
       pub literals_made : (rest : ℕ) (ys : List Expr) → AreLiterals levels nodes rest xs ys
-          → let meant = literals_of value o (alternatives_view xs) in IsMade levels nodes rest (height_all meant) (sizes meant) (exprs_view ys) meant
-          (flat_map (clashes_of inner embeds) (alternatives_view xs))
+          → let meant = literals_of ds value o (alternatives_view xs) in IsMade levels nodes rest (height_all meant) (sizes meant) (exprs_view ys) meant
+          (flat_map (clashes_of ds inner embeds) (alternatives_view xs))
       literals_made rest ys h = record {
         made = ap trees_of h.made ∙ literal_trees xs;
         low = rw (literal_high xs) h.low;
@@ -228,6 +170,6 @@ module _ (value : Option ℕ → Tree → Tree) (inner : Option ℕ → Tree →
 
       pub literals_unmade : (e : EmbeddingFault) (file : ℕ)
           → IsNoRoom e file levels nodes (highest (λ a. height (own_literal a)) xs) (total (λ a. size (own_literal a)) xs) (flat_map literal_clashes xs)
-          → let meant = literals_of value o (alternatives_view xs) in IsNoRoom e file levels nodes (height_all meant) (sizes meant)
-          (flat_map (clashes_of inner embeds) (alternatives_view xs))
+          → let meant = literals_of ds value o (alternatives_view xs) in IsNoRoom e file levels nodes (height_all meant) (sizes meant)
+          (flat_map (clashes_of ds inner embeds) (alternatives_view xs))
       literals_unmade e file h = rw (literal_high xs, literal_large xs, clashes_literals xs) h

@@ -185,10 +185,10 @@ module _ (can : Tree → Bool) (inner : Option ℕ → Tree → Alternative → 
   all_too_much es well whole =
       too_much_of_more e room xs all (subst (λ ys. weight_of xs ≤ weight_of ys) whole (all_grow can inner grows p es well xs))
 
-  -- of the bodies of a definition
-  pub bodies_too_much : (s : List ℕ) (es : List Tree) → list_all can es ≡ true → join_bodies inner p es xs ≡ all → IsTooMuch e room xs
-      → IsTooMuch e room (map (meet s) all)
-  bodies_too_much s es well whole =
-      let bodies_more = subst (λ ys. weight_of xs ≤ weight_of ys) whole (bodies_grow can inner grows p es well xs) in
-      let kept = map_grows (meet s) (meet_keeps s) all in
-      too_much_of_more e room xs (map (meet s) all) (omega arith)
+  pub bodies_too_much : (es : List Tree) → list_all can es ≡ true → join_bodies inner p es xs ≡ all → IsTooMuch e room xs → IsTooMuch e room all
+  bodies_too_much es well whole =
+      too_much_of_more e room xs all (subst (λ ys. weight_of xs ≤ weight_of ys) whole (bodies_grow can inner grows p es well xs))
+
+-- where they embed a definition
+pub met_too_much : (e : EmbeddingFault) (room : ℕ) (s : List ℕ) (xs : List Alternative) → IsTooMuch e room xs → IsTooMuch e room (map (meet s) xs)
+met_too_much e room s xs = too_much_of_more e room xs (map (meet s) xs) (map_grows (meet s) (meet_keeps s) xs)

@@ -1,11 +1,12 @@
 -- Alternatives that are found one after another, while others are left, and how much they are.
-use Rattle.std.proofs.Common.{◌≡◌, ℕ, ◌+◌, ◌-◌, ◌<◌, List, [], ◌∷◌, ◌++◌, length, map, Option, append_assoc, sym, ap, ap₂, ◌∙◌, subst, arith}
+use Rattle.std.proofs.Common.{◌≡◌, ℕ, suc, ◌+◌, ◌-◌, ◌/◌, ◌<◌, List, [], ◌∷◌, ◌++◌, length, map, Option, append_assoc, sym, ap, ap₂, ◌∙◌, subst, arith}
 use Rattle.std.proofs.lemmas.List.{map-append, length-map}
 use Rattle.std.specs.Borrow.{Bor}
 use Rattle.cs_grammar.specs.View.{field_view}
 use Rattle.cs_grammar.specs.declared.ast.Field.{Field}
 use Rattle.cs_grammar.proofs.Views.{view-mark, view-value}
 use Rattle.cs_embeddings.specs.Alternatives.{Brought, Alternative}
+use Rattle.cs_embeddings.specs.Gathered.{most_gathered}
 use Rattle.cs_embeddings.specs.Views.{brought_view, alternative_view, alternatives_view, weight_of, IsTooMuch}
 use Rattle.cs_embeddings.specs.declared.alternatives.Alternative as rust
 use Rattle.cs_embeddings.specs.declared.alternatives.Brought as brought
@@ -20,19 +21,31 @@ too_much_here e room before own rest all whole h = subst (IsTooMuch e room) (app
 
 -- ---- how much is found
 
+-- how much one is
+own_weight : (a : rust.Alternative) (n : ℕ) → n ≡ length a.declarations.items → weight_of (alternative_view a ∷ []) ≡ suc (n / most_gathered) + 0
+own_weight a n counted = ap (λ k. suc (k / most_gathered) + 0) (length-map a.declarations.items brought_view ∙ sym counted)
+
+in_all : (w q before all own : ℕ) → all ≡ before + own → w ≡ before → own ≡ suc q + 0 → w + (q + 1) ≡ all
+in_all w q before all own whole weighed is = omega arith
+
+above_all : (room w q before all own : ℕ) → room - w < q + 1 → all ≡ before + own → w ≡ before → own ≡ suc q + 0 → room < all
+above_all room w q before all own above whole weighed is = omega arith
+
 -- it is as much as is counted
 pub weight_pushed : (xs ys : List rust.Alternative) (a : rust.Alternative) (w n : ℕ) → ys ≡ xs ++ a ∷ [] → w ≡ weight_of (alternatives_view xs)
-    → n ≡ length a.declarations.items → w + (n + 1) ≡ weight_of (alternatives_view ys)
+    → n ≡ length a.declarations.items → w + (n / most_gathered + 1) ≡ weight_of (alternatives_view ys)
 weight_pushed xs ys a w n grown weighed counted =
-    let e = ap (λ zs. weight_of (alternatives_view zs)) grown ∙ ap weight_of (map-append alternative_view xs (a ∷ []))
+    let whole = ap (λ zs. weight_of (alternatives_view zs)) grown ∙ ap weight_of (map-append alternative_view xs (a ∷ []))
     ∙ weight-append (alternatives_view xs) (alternative_view a ∷ []) in
-    omega (arith, length-map a.declarations.items brought_view)
+    in_all w (n / most_gathered) (weight_of (alternatives_view xs)) (weight_of (alternatives_view ys)) (weight_of (alternative_view a ∷ [])) whole weighed
+    (own_weight a n counted)
 
 -- it would be more than there is room for
-pub weight_above : (xs : List rust.Alternative) (a : rust.Alternative) (room w n : ℕ) → room - w < n + 1 → w ≡ weight_of (alternatives_view xs)
+pub weight_above : (xs : List rust.Alternative) (a : rust.Alternative) (room w n : ℕ) → room - w < n / most_gathered + 1 → w ≡ weight_of (alternatives_view xs)
     → n ≡ length a.declarations.items → room < weight_of (alternatives_view xs ++ alternative_view a ∷ [])
-weight_above xs a room w n above weighed counted = omega
-    (arith, length-map a.declarations.items brought_view, weight-append (alternatives_view xs) (alternative_view a ∷ []))
+weight_above xs a room w n above weighed counted =
+    above_all room w (n / most_gathered) (weight_of (alternatives_view xs)) (weight_of (alternatives_view xs ++ alternative_view a ∷ []))
+    (weight_of (alternative_view a ∷ [])) above (weight-append (alternatives_view xs) (alternative_view a ∷ [])) weighed (own_weight a n counted)
 
 -- ---- what stands in an alternative
 

@@ -13,6 +13,12 @@ pub mod Weights
 pub mod Left
 pub mod Joins
 pub mod WellAlternatives
+pub mod OwnLiterals
+-- declarations of one label that are put together
+pub mod Gathering
+pub mod GatheredParts
+pub mod GatheredSizes
+pub mod Listed
 -- what is made of parts one after another, and what expressions stand for
 pub mod Parts
 pub mod JoinedParts
@@ -25,6 +31,8 @@ pub mod FoundFiles
 pub mod FileAnswers
 -- in how many steps definitions can be embedded
 pub mod Steps
+-- operands as a list of values
+pub mod Operands
 -- whether each part of a list is well
 pub mod Walks
 -- samples

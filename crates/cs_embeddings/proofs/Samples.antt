@@ -93,10 +93,20 @@ one_choice : IsJoined (only (definition (codes "A") 0 (or (one (codes "a") 4) (o
 unfolding can_be_embedded alternatives clashes_value joined_value
 one_choice = record { flawless = refl; apart = refl; joined = refl }
 
--- `#B: {a: int}`, `#B: {b: int}` and `#P: {#B}` for `{a: int, b: int}`
-two_bodies : IsJoined (only (definition (codes "B") 0 (one (codes "a") 4) ∷ definition (codes "B") 0 (one (codes "b") 4) ∷ definition (codes "P") 0 (literal 24 (puts 25 (refers (codes "B")) no_declaration)) ∷ [])) (only (definition (codes "B") 0 (one (codes "a") 4) ∷ definition (codes "B") 0 (one (codes "b") 4) ∷ definition (codes "P") 0 (braces 24 (with (codes "a") (int 25) (with (codes "b") (int 25) no_field))) ∷ []))
+-- `#B: {a: int}`, `#B: {b: int}` and `#P: {#B}`: both for `{a: int, b: int}`
+two_bodies : IsJoined (only (definition (codes "B") 0 (one (codes "a") 4) ∷ definition (codes "B") 0 (one (codes "b") 4) ∷ definition (codes "P") 0 (literal 24 (puts 25 (refers (codes "B")) no_declaration)) ∷ [])) (only (definition (codes "B") 0 (braces 4 (with (codes "a") (int 9) (with (codes "b") (int 9) no_field))) ∷ definition (codes "P") 0 (braces 24 (with (codes "a") (int 25) (with (codes "b") (int 25) no_field))) ∷ []))
 unfolding can_be_embedded alternatives clashes_value joined_value
 two_bodies = record { flawless = refl; apart = refl; joined = refl }
+
+-- `#P: {a: int}` and `#P: {b: int}` for `#P: {a: int, b: int}`, at the first
+bodies_put_together : IsJoined (only (definition (codes "P") 0 (one (codes "a") 4) ∷ definition (codes "P") 13 (one (codes "b") 17) ∷ [])) (only (definition (codes "P") 0 (braces 4 (with (codes "a") (int 9) (with (codes "b") (int 9) no_field))) ∷ []))
+unfolding can_be_embedded alternatives clashes_value joined_value
+bodies_put_together = record { flawless = refl; apart = refl; joined = refl }
+
+-- `#A: {a: int}`, `#P: #A` and `#P: {b: int}`, where a body is shut: they stay
+shut_body_stays : let files = only (definition (codes "A") 0 (one (codes "a") 4) ∷ definition (codes "P") 13 (refers (codes "A") 17) ∷ definition (codes "P") 20 (one (codes "b") 24) ∷ []) in IsJoined files files
+unfolding can_be_embedded alternatives clashes_value joined_value
+shut_body_stays = record { flawless = refl; apart = refl; joined = refl }
 
 -- `#C: {c: int}` and `#P: {{a: int} | {b: int}} & #C` for `({a: int} | {b: int}) & #C`
 parentheses_where_needed : IsJoined (only (definition (codes "C") 0 (one (codes "c") 4) ∷ definition (codes "P") 0 (and (literal 4 (puts 5 (λ o. or (one (codes "a") o) (one (codes "b") 16)) no_declaration)) (refers (codes "C") 28)) ∷ [])) (only (definition (codes "C") 0 (one (codes "c") 4) ∷ definition (codes "P") 0 (and (paren (or (braces 4 (with (codes "a") (int 9) no_field)) (braces 4 (with (codes "b") (int 9) no_field)))) (refers (codes "C") 28)) ∷ []))
@@ -148,10 +158,20 @@ same_reference_twice : IsJoined (only (definition (codes "X") 0 (one (codes "a")
 unfolding can_be_embedded alternatives clashes_value joined_value
 same_reference_twice = record { flawless = refl; apart = refl; joined = refl }
 
--- `#B: {x: {a: int}}` and `#P: {#B, x: {b: int}}` for `{x: {a: int}, x: {b: int}}`: no reference stands there
-literals_of_one_label : IsJoined (only (definition (codes "B") 0 (braces 4 (with (codes "x") (one (codes "a") 8) no_field)) ∷ definition (codes "P") 0 (literal 24 (puts 25 (refers (codes "B")) (has (codes "x") (one (codes "b") 32) no_declaration))) ∷ [])) (only (definition (codes "B") 0 (braces 4 (with (codes "x") (one (codes "a") 8) no_field)) ∷ definition (codes "P") 0 (braces 24 (with (codes "x") (braces 25 (with (codes "a") (int 25) no_field)) (with (codes "x") (one (codes "b") 32) no_field))) ∷ []))
+-- `#B: {x: {a: int}}` and `#P: {#B, x: {b: int}}` for `{x: {a: int, b: int}}`: all of it is where #B is embedded
+literals_of_one_label : IsJoined (only (definition (codes "B") 0 (braces 4 (with (codes "x") (one (codes "a") 8) no_field)) ∷ definition (codes "P") 0 (literal 24 (puts 25 (refers (codes "B")) (has (codes "x") (one (codes "b") 32) no_declaration))) ∷ [])) (only (definition (codes "B") 0 (braces 4 (with (codes "x") (one (codes "a") 8) no_field)) ∷ definition (codes "P") 0 (braces 24 (with (codes "x") (braces 25 (with (codes "a") (int 25) (with (codes "b") (int 25) no_field))) no_field)) ∷ []))
 unfolding can_be_embedded alternatives clashes_value joined_value
 literals_of_one_label = record { flawless = refl; apart = refl; joined = refl }
+
+-- `#P: {x?: {a: int}, c: int, "x"?: {b: int}}` for `{x?: {a: int, b: int}, c: int}`
+fields_of_one_label : IsJoined (only (definition (codes "P") 0 (braces 4 (field (label (codes "x")) Optional (one (codes "a") 8) (with (codes "c") (int 20) (field (record { text = codes "x"; quotes = true }) Optional (one (codes "b") 30) no_field)))) ∷ [])) (only (definition (codes "P") 0 (braces 4 (field (label (codes "x")) Optional (braces 8 (with (codes "a") (int 9) (with (codes "b") (int 9) no_field))) (with (codes "c") (int 20) no_field))) ∷ []))
+unfolding can_be_embedded alternatives clashes_value joined_value
+fields_of_one_label = record { flawless = refl; apart = refl; joined = refl }
+
+-- `#P: {x: {a: int}, x: #B}` for itself: a reference is shut
+values_with_a_reference : IsJoined (only (definition (codes "B") 0 (one (codes "b") 4) ∷ definition (codes "P") 0 (braces 4 (with (codes "x") (one (codes "a") 8) (with (codes "x") (refers (codes "B") 20) no_field))) ∷ [])) (only (definition (codes "B") 0 (one (codes "b") 4) ∷ definition (codes "P") 0 (braces 4 (with (codes "x") (one (codes "a") 8) (with (codes "x") (refers (codes "B") 20) no_field))) ∷ []))
+unfolding can_be_embedded alternatives clashes_value joined_value
+values_with_a_reference = record { flawless = refl; apart = refl; joined = refl }
 
 -- ---- why files are refused
 

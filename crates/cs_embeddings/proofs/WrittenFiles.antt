@@ -1,6 +1,6 @@
 -- What can be written down with embeddings can be written down without them.
-use Rattle.std.proofs.Common.{◌≡◌, ℕ, zero, suc, Bool, true, false, cond, List, [], ◌∷◌, map, filter, Option, Some, None, refl, sym, subst}
-use Rattle.std.proofs.lemmas.Bool.{cond_both}
+use Rattle.std.proofs.Common.{◌≡◌, ℕ, zero, suc, Bool, true, false, cond, List, [], ◌∷◌, map, filter, Option, Some, None, refl, sym, subst, inl, inr}
+use Rattle.std.proofs.lemmas.Bool.{both_ways, cond_both}
 use Rattle.std.specs.List.{flat_map, AllByRecursion}
 use Rattle.std.specs.Str.{bytes_eq}
 use Rattle.cs_grammar.specs.declared.ast.FieldMark.{FieldMark}
@@ -9,17 +9,16 @@ use Rattle.cs_grammar.specs.Limits.{most_height}
 use Rattle.cs_grammar.specs.Tree.{Label, Tree, atom, named, reference, conjunction, disjunction, paren, struct, list, wide, marked, merged, shut, Declarations, no_declaration, declared, embedded, Trees, none, more, Fields, no_field, field, End, closed, any, each, DefinitionTree, definition, defined_name, body, FileTree, file}
 use Rattle.cs_grammar.specs.Bodies.{bodies}
 use Rattle.cs_grammar.specs.Written.{Place, by_itself, of_bar, of_amp, IsWritten, AreWritten, AreWrittenFields, AreWrittenDeclarations, IsWrittenEnd, IsWrittenLabel, AreTwo, IsWrittenDefinition, IsWrittenFile}
+use Rattle.cs_embeddings.proofs.GatheredParts.{IsWrittenBrought, IsStanding, CanStand, gathered_standing, IsDefined, CanBeDefined, gathered_defined}
 use Rattle.cs_embeddings.proofs.WellAlternatives.{all-append, all-map, all-flat_map}
 use Rattle.cs_embeddings.specs.Alternatives.{Brought, Alternative, nothing, with_declaration, with_fields, opened_if, meets, meet, at, join_declarations, join_bodies, join_operands, join_all, join_definition, alternatives, alternatives_of, most_steps}
+use Rattle.cs_embeddings.specs.Gathered.{gathered}
 use Rattle.cs_embeddings.specs.Held.{first_place}
-use Rattle.cs_embeddings.specs.Joined.{placed, fields_of_brought, literals_of, one_of, joined_with, joined_each, joined_fields, joined_end, joined_value, joined_definition, joined_file}
+use Rattle.cs_embeddings.specs.Joined.{placed, own, fields_of_brought, literals_of, one_of, joined_with, joined_each, joined_end, joined_value, joined_definition, as_declared, as_definition, gathered_definitions, joined_file}
 use Rattle.cs_embeddings.specs.United.{unites, united}
 use Rattle.cs_embeddings.specs.Without.{all_definitions, IsJoined}
 
 -- ---- what alternatives declare
-
-abbrev IsWrittenBrought : Brought → Type 0
-IsWrittenBrought d = IsWrittenLabel d.label d.mark × IsWritten by_itself d.value
 
 abbrev HasWritten : Alternative → Type 0
 HasWritten a = AllByRecursion IsWrittenBrought a.declarations
@@ -110,25 +109,29 @@ module _ (ds : List DefinitionTree) (all : AllByRecursion IsWrittenDefinition ds
   literal_written : (p : Option ℕ) (cs : Declarations) (b : Bool) → AreWrittenDeclarations cs → HaveWritten (alternatives_of ds p cs b)
   literal_written p cs b h = declarations_written (alternatives ds most_steps) (alternatives_written most_steps) p cs h (opened_if b nothing ∷ []) (tt, tt)
 
-  united_written : (p : Option ℕ) (q : Place) (es : Trees) → IsWritten q (conjunction es) → HaveWritten (united ds p es)
-  united_written p q es h = alternatives_written most_steps p q (conjunction es) h nothing tt
+  united_written : (p : Option ℕ) (r : Place) (es : Trees) → AreWritten r es → HaveWritten (united ds p es)
+  unfolding alternatives
+  united_written p r es h = all_written (alternatives ds 127) (alternatives_written 127) p r es h (nothing ∷ []) (tt, tt)
 
-  -- where values are written by themselves
-  module _ (value : Option ℕ → Tree → Tree) (written_value : (p : Option ℕ) (e : Tree) → IsWritten by_itself e → IsWritten by_itself (value p e)) where
-    brought_written : (bs : List Brought) → AllByRecursion IsWrittenBrought bs → AreWrittenFields (fields_of_brought value bs)
+  -- where values, and values that are put together, are written by themselves
+  module _ (value : Option ℕ → Tree → Tree) (written_value : (p : Option ℕ) (e : Tree) → CanStand ds e → IsWritten by_itself (value p e)) where
+    brought_written : (bs : List Brought) → AllByRecursion (IsStanding ds) bs → AreWrittenFields (fields_of_brought ds value bs)
     brought_written [] h = tt
     brought_written (d ∷ bs) h = (label_placed d.place d.label d.mark h.0.0, written_value d.place d.value h.0.1, brought_written bs h.1)
 
-    literals_written : (o : ℕ) (xs : List Alternative) → HaveWritten xs → AreWritten of_bar (literals_of value o xs)
+    own_written : (a : Alternative) → HasWritten a → AreWrittenFields (fields_of_brought ds value (gathered ds a.declarations))
+    own_written a h = brought_written (gathered ds a.declarations) (gathered_standing ds a.declarations h)
+
+    literals_written : (o : ℕ) (xs : List Alternative) → HaveWritten xs → AreWritten of_bar (literals_of ds value o xs)
     literals_written o [] h = tt
-    literals_written o (a ∷ xs) h = (brought_written a.declarations h.0, literals_written o xs h.1)
+    literals_written o (a ∷ xs) h = (own_written a h.0, literals_written o xs h.1)
 
     one_written : (q : Place) (whole : Bool) → (whole ≡ true → q ≡ by_itself) → (o : ℕ) (xs : List Alternative) → HaveWritten xs
-        → IsWritten q (one_of value whole o xs)
+        → IsWritten q (one_of ds value whole o xs)
     one_written q whole fit o [] h = tt
-    one_written q whole fit o (a ∷ []) h = brought_written a.declarations h.0
+    one_written q whole fit o (a ∷ []) h = own_written a h.0
     one_written q true fit o (a ∷ b ∷ xs) h =
-        subst (λ r. IsWritten r (disjunction (literals_of value o (a ∷ b ∷ xs)))) (sym (fit refl)) (tt, tt, literals_written o (a ∷ b ∷ xs) h)
+        subst (λ r. IsWritten r (disjunction (literals_of ds value o (a ∷ b ∷ xs)))) (sym (fit refl)) (tt, tt, literals_written o (a ∷ b ∷ xs) h)
     one_written q false fit o (a ∷ b ∷ xs) h = (tt, tt, literals_written o (a ∷ b ∷ xs) h)
 
     two : (whole : Bool) (p : Option ℕ) (es : Trees) → AreTwo es → AreTwo (joined_each ds value whole p es)
@@ -147,12 +150,12 @@ module _ (ds : List DefinitionTree) (all : AllByRecursion IsWrittenDefinition ds
       written q whole fit p (reference s o) h = h
       written q whole fit p (conjunction es) h =
           let o = at p (first_place es) in
-          cond_both (unites ds es) (one_of value whole o (united ds p es)) (conjunction (joined_each ds value false p es)) (IsWritten q)
-          (λ t. one_written q whole fit o (united ds p es) (united_written p q es h))
+          cond_both (unites ds es) (one_of ds value whole o (united ds p es)) (conjunction (joined_each ds value false p es)) (IsWritten q)
+          (λ t. one_written q whole fit o (united ds p es) (united_written p of_amp es h.2))
           (λ f. (h.0, two false p es h.1, written_each of_amp false (no_whole of_amp) p es h.2))
       written q whole fit p (disjunction es) h = (h.0, two false p es h.1, written_each of_bar false (no_whole of_bar) p es h.2)
       written q whole fit p (paren e) h = written by_itself true (λ t. refl) p e h
-      written q whole fit p (struct o fs b) h = written_fields p fs h
+      written q whole fit p (struct o fs b) h = own_written (own p fs b) (fields_written p fs h nothing tt)
       written q whole fit p (list es end) h = (written_each by_itself true (λ t. refl) p es h.0, written_end p end h.1)
       written q whole fit p (wide (marked o e)) h = written q false (no_whole q) p e h
       written q whole fit p (wide (shut o e)) h = written by_itself true (λ t. refl) p e h
@@ -163,23 +166,41 @@ module _ (ds : List DefinitionTree) (all : AllByRecursion IsWrittenDefinition ds
       written_each q whole fit p none h = tt
       written_each q whole fit p (more e es) h = (written q whole fit p e h.0, written_each q whole fit p es h.1)
 
-      written_fields : (p : Option ℕ) (fs : Fields) → AreWrittenFields fs → AreWrittenFields (joined_fields ds value p fs)
-      written_fields p no_field h = tt
-      written_fields p (field l m e fs) h = (label_placed p l m h.0, written by_itself true (λ t. refl) p e h.1, written_fields p fs h.2)
-
       written_end : (p : Option ℕ) (end : End) → IsWrittenEnd end → IsWrittenEnd (joined_end ds value p end)
       written_end p closed h = tt
       written_end p any h = tt
       written_end p (each e) h = written by_itself true (λ t. refl) p e h
 
-  values_written : (n : ℕ) (p : Option ℕ) (e : Tree) → IsWritten by_itself e → IsWritten by_itself (joined_value ds n p e)
+  values_written : (n : ℕ) (p : Option ℕ) (e : Tree) → CanStand ds e → IsWritten by_itself (joined_value ds n p e)
   unfolding joined_value
   values_written zero p e h = tt
-  values_written (suc n) p e h = written (joined_value ds n) (values_written n) by_itself true (λ t. refl) p e h
+  values_written (suc n) p e (inl h) = written (joined_value ds n) (values_written n) by_itself true (λ t. refl) p e h
+  values_written (suc n) p (conjunction es) (inr h) =
+      let V = joined_value ds n in let o = at p (first_place es) in
+      cond_both (unites ds es) (one_of ds V true o (united ds p es)) (conjunction (joined_each ds V false p es)) (IsWritten by_itself)
+      (λ t. one_written V (values_written n) by_itself true (λ w. refl) o (united ds p es) (united_written p by_itself es h.1))
+      (λ f. absurd (both_ways (unites ds es) f h.0))
+  values_written (suc n) p (atom a) (inr h) = absurd h
+  values_written (suc n) p (named s o) (inr h) = absurd h
+  values_written (suc n) p (reference s o) (inr h) = absurd h
+  values_written (suc n) p (disjunction es) (inr h) = absurd h
+  values_written (suc n) p (paren e) (inr h) = absurd h
+  values_written (suc n) p (struct o fs b) (inr h) = absurd h
+  values_written (suc n) p (list es end) (inr h) = absurd h
+  values_written (suc n) p (wide w) (inr h) = absurd h
 
-  definitions_written : (es : List DefinitionTree) → AllByRecursion IsWrittenDefinition es → AllByRecursion IsWrittenDefinition (map (joined_definition ds) es)
-  definitions_written [] h = tt
-  definitions_written (definition s o e ∷ es) h = ((h.0.0, values_written (suc most_height) None e h.0.1), definitions_written es h.1)
+  bodies_defined : (es : List DefinitionTree) → AllByRecursion IsWrittenDefinition es → AllByRecursion (IsDefined ds) (map as_declared es)
+  bodies_defined [] h = tt
+  bodies_defined (definition s o e ∷ es) h = (h.0, bodies_defined es h.1)
+
+  standing_written : (bs : List Brought) → AllByRecursion (CanBeDefined ds) bs
+      → AllByRecursion IsWrittenDefinition (map (joined_definition ds) (map as_definition bs))
+  standing_written [] h = tt
+  standing_written (d ∷ bs) h = ((h.0.0, values_written (suc most_height) None d.value h.0.1), standing_written bs h.1)
+
+  definitions_written : (es : List DefinitionTree) → AllByRecursion IsWrittenDefinition es
+      → AllByRecursion IsWrittenDefinition (map (joined_definition ds) (gathered_definitions ds es))
+  definitions_written es h = standing_written (gathered ds (map as_declared es)) (gathered_defined ds (map as_declared es) (bodies_defined es h))
 
   files_written : (fs : List FileTree) → AllByRecursion IsWrittenFile fs → AllByRecursion IsWrittenFile (map (joined_file ds) fs)
   files_written [] h = tt

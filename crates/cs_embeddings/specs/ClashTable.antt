@@ -10,7 +10,8 @@ use Rattle.cs_grammar.specs.declared.ast.Expr.{Expr}
 use Rattle.cs_grammar.specs.Tree.{Tree}
 use Rattle.cs_grammar.specs.View.{expr_view}
 use Rattle.cs_embeddings.specs.Alternatives.{Brought}
-use Rattle.cs_embeddings.specs.Clashes.{is_every, are_apart}
+use Rattle.cs_embeddings.specs.Clashes.{are_apart}
+use Rattle.cs_embeddings.specs.Gathered.{is_every}
 use Rattle.cs_embeddings.specs.declared.clashes.Seen.{Seen}
 
 abbrev pub is_nothing : List Brought → Bool

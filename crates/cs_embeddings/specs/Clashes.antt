@@ -3,12 +3,12 @@
 use Rattle.std.specs.Prelude.{ℕ, zero, suc, Bool, true, false, ◌&&◌, ◌||◌, not, List, [], ◌∷◌, ◌++◌, if◌then◌else◌, Option, Some, None}
 use Rattle.std.specs.List.{list_any, flat_map}
 use Rattle.std.specs.Str.{bytes_eq}
-use Rattle.cs_grammar.specs.declared.ast.FieldMark.{FieldMark}
-use Rattle.cs_grammar.specs.declared.ast.FieldMark.TheVariants.{Regular, Optional, Required, Every}
 use Rattle.cs_grammar.specs.Limits.{most_height}
-use Rattle.cs_grammar.specs.Tree.{Tree, atom, named, reference, conjunction, disjunction, paren, struct, list, wide, marked, merged, shut, Trees, none, more, Fields, no_field, field, End, closed, any, each, DefinitionTree}
+use Rattle.cs_grammar.specs.Tree.{Tree, atom, named, reference, conjunction, disjunction, paren, struct, list, wide, marked, merged, shut, Trees, none, more, End, closed, any, each, DefinitionTree}
 use Rattle.cs_embeddings.specs.Alternatives.{Brought, Alternative, at, alternatives_of}
+use Rattle.cs_embeddings.specs.Gathered.{is_every, gathered}
 use Rattle.cs_embeddings.specs.Held.{holds}
+use Rattle.cs_embeddings.specs.Joined.{own}
 use Rattle.cs_embeddings.specs.Shut.{is_shut}
 use Rattle.cs_embeddings.specs.United.{unites, united}
 
@@ -18,12 +18,6 @@ is_some_place (Some o) = true
 
 abbrev pub is_plain : Brought → Bool
 is_plain d = not (is_some_place (holds d.value))
-
-abbrev pub is_every : FieldMark → Bool
-is_every Regular = false
-is_every Optional = false
-is_every Required = false
-is_every (Every o) = true
 
 -- both refer to one definition
 abbrev pub refers_to : List ℕ → Tree → Bool
@@ -79,40 +73,35 @@ clashes_if true a = clashes_in a
 clashes_if false a = []
 
 -- `value p e`: those in the value e of a declaration that a reference at p brought
-module _ (value : Option ℕ → Tree → List ℕ) where
+module _ (ds : List DefinitionTree) (value : Option ℕ → Tree → List ℕ) where
   -- `embeds` says whether it is one of a literal with embeddings
   abbrev pub clashes_of : Bool → Alternative → List ℕ
-  clashes_of embeds a = clashes_if embeds a ++ flat_map (λ d. value d.place d.value) a.declarations
+  clashes_of embeds a = clashes_if embeds a ++ flat_map (λ d. value d.place d.value) (gathered ds a.declarations)
 
-module _ (ds : List DefinitionTree) (value : Option ℕ → Tree → List ℕ) where
   abbrev mutual
     pub clashes_with : Option ℕ → Tree → List ℕ
     clashes_with p (atom a) = []
     clashes_with p (named s o) = []
     clashes_with p (reference s o) = []
-    clashes_with p (conjunction es) = if unites ds es then flat_map (clashes_of value false) (united ds p es) else clashes_each p es
+    clashes_with p (conjunction es) = if unites ds es then flat_map (clashes_of false) (united ds p es) else clashes_each p es
     clashes_with p (disjunction es) = clashes_each p es
     clashes_with p (paren e) = clashes_with p e
-    clashes_with p (struct o fs b) = clashes_fields p fs
+    clashes_with p (struct o fs b) = clashes_of false (own p fs b)
     clashes_with p (list es end) = clashes_each p es ++ clashes_end p end
     clashes_with p (wide (marked o e)) = clashes_with p e
-    clashes_with p (wide (merged o cs b)) = flat_map (clashes_of value true) (alternatives_of ds p cs b)
+    clashes_with p (wide (merged o cs b)) = flat_map (clashes_of true) (alternatives_of ds p cs b)
     clashes_with p (wide (shut o e)) = clashes_with p e
 
     pub clashes_each : Option ℕ → Trees → List ℕ
     clashes_each p none = []
     clashes_each p (more e es) = clashes_with p e ++ clashes_each p es
 
-    pub clashes_fields : Option ℕ → Fields → List ℕ
-    clashes_fields p no_field = []
-    clashes_fields p (field l m e fs) = clashes_with p e ++ clashes_fields p fs
-
     pub clashes_end : Option ℕ → End → List ℕ
     clashes_end p closed = []
     clashes_end p any = []
     clashes_end p (each e) = clashes_with p e
 
--- with so many literals with embeddings one inside of the other at most
+-- with so many literals one inside of the other at most
 unfoldable pub clashes_value : List DefinitionTree → ℕ → Option ℕ → Tree → List ℕ
 clashes_value ds zero p e = []
 clashes_value ds (suc n) p e = clashes_with ds (clashes_value ds n) p e

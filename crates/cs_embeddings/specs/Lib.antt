@@ -4,6 +4,7 @@ pub mod Alternatives
 pub mod Embedded
 pub mod Held
 pub mod United
+pub mod Gathered
 pub mod Joined
 pub mod Clashes
 pub mod Flaws
@@ -14,3 +15,4 @@ pub mod Views
 pub mod Checks
 pub mod Made
 pub mod ClashTable
+pub mod GatheredTable

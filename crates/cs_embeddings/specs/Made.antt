@@ -14,7 +14,7 @@ use Rattle.cs_embeddings.specs.Alternatives.{Brought, Alternative, at, most_step
 use Rattle.cs_embeddings.specs.Clashes.{clashes}
 use Rattle.cs_embeddings.specs.Embedded.{can_be_embedded, embeds_well}
 use Rattle.cs_embeddings.specs.Flaws.{Flaw, unknown, no_struct}
-use Rattle.cs_embeddings.specs.Joined.{placed, joined_definition, joined_file}
+use Rattle.cs_embeddings.specs.Joined.{placed, joined_definition, gathered_file, joined_file}
 use Rattle.cs_embeddings.specs.Size.{size, size_of_definitions, size_of_files}
 use Rattle.cs_embeddings.specs.Without.{found_from, IsWithin}
 use Rattle.cs_embeddings.specs.declared.fault.EmbeddingFault.{EmbeddingFault}
@@ -74,6 +74,10 @@ GoesInside (Err e) file room nodes rest = (high large : ℕ) (clashes : List ℕ
 abbrev pub with_value : Option ℕ → (Tree → Tree) → Seen → Seen
 with_value p value f = record { label = f.label; mark = placed p f.mark; value = value f.value }
 
+-- a declaration as a field
+abbrev pub seen : Brought → Seen
+seen d = record { label = d.label; mark = d.mark; value = d.value }
+
 -- each declared value embeds well
 abbrev pub IsWell : List DefinitionTree → Alternative → Type 0
 IsWell ds a = AllByRecursion (λ (d : Brought). embeds_well (can_be_embedded ds most_steps) d.value ≡ true) a.declarations
@@ -122,7 +126,7 @@ MakesDefinitions result file nodes rest ds es =
 -- why files aren't made
 abbrev pub IsNoRoomForFiles : EmbeddingFault → List DefinitionTree → List FileTree → Type 0
 IsNoRoomForFiles OutOfMemory ds fs = Unit {0}
-IsNoRoomForFiles (Reopened i o) ds fs = slice_get (found_from (clashes ds) 0 fs) 0 ≡ Some (i, o)
+IsNoRoomForFiles (Reopened i o) ds fs = slice_get (found_from (clashes ds) 0 (map (gathered_file ds) fs)) 0 ≡ Some (i, o)
 IsNoRoomForFiles (TooHigh i) ds fs = (f : FileTree) × (slice_get (map (joined_file ds) fs) i ≡ Some f) × (most_height < file_height f)
 IsNoRoomForFiles TooLarge ds fs = most_nodes < size_of_files (map (joined_file ds) fs)
 IsNoRoomForFiles (UnknownName i o) ds fs = ⊥
@@ -132,7 +136,7 @@ IsNoRoomForFiles (NoStruct i o) ds fs = ⊥
 pub record AreFilesMade (ds : List DefinitionTree) (fs gs : List FileTree) : Type 0 where
   pub made : gs ≡ map (joined_file ds) fs
   pub within : IsWithin gs
-  pub apart : found_from (clashes ds) 0 fs ≡ []
+  pub apart : found_from (clashes ds) 0 (map (gathered_file ds) fs) ≡ []
 
 abbrev pub MakesFiles : Result (Vec File Global) EmbeddingFault → List DefinitionTree → List FileTree → Type 0
 MakesFiles (Ok v) ds fs = AreFilesMade ds fs (map file_view v.items)

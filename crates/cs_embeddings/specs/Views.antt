@@ -1,7 +1,8 @@
 -- How the code has alternatives, and how much they are; for private contracts alone.
-use Rattle.std.specs.Prelude.{◌≡◌, ℕ, suc, ◌+◌, ◌<◌, List, [], ◌∷◌, map, length, Option, Result, Ok, Err}
+use Rattle.std.specs.Prelude.{◌≡◌, ℕ, suc, ◌+◌, ◌/◌, ◌<◌, List, [], ◌∷◌, map, length, Option, Result, Ok, Err}
 use Rattle.cs_grammar.specs.View.{Seen, expr_view, field_view}
 use Rattle.cs_embeddings.specs.Alternatives.{Brought, Alternative, with_declaration}
+use Rattle.cs_embeddings.specs.Gathered.{most_gathered}
 use Rattle.cs_embeddings.specs.declared.alternatives.Alternative as rust
 use Rattle.cs_embeddings.specs.declared.alternatives.Brought as brought
 use Rattle.cs_embeddings.specs.declared.fault.EmbeddingFault.{EmbeddingFault}
@@ -20,10 +21,10 @@ alternatives_view xs = map alternative_view xs
 abbrev pub with_field : Option ℕ → Seen → Alternative → Alternative
 with_field p f a = with_declaration p f.label f.mark f.value a
 
--- how much alternatives are: each is one, with its declarations
+-- how much alternatives are: each is one, and one more for each 64 declarations. So many of a label are put together at most
 abbrev pub weight_of : List Alternative → ℕ
 weight_of [] = 0
-weight_of (a ∷ xs) = suc (length a.declarations) + weight_of xs
+weight_of (a ∷ xs) = suc (length a.declarations / most_gathered) + weight_of xs
 
 -- memory ran out, or these are more than there is room for
 abbrev pub IsTooMuch : EmbeddingFault → ℕ → List Alternative → Type 0

@@ -6,7 +6,7 @@ use Rattle.cs_grammar.specs.Limits.{most_height, most_nodes}
 use Rattle.cs_grammar.specs.Tree.{Tree, body, DefinitionTree, FileTree, definitions}
 use Rattle.cs_embeddings.specs.Clashes.{clashes}
 use Rattle.cs_embeddings.specs.Flaws.{Flaw, unknown, no_struct, flaws}
-use Rattle.cs_embeddings.specs.Joined.{joined_file}
+use Rattle.cs_embeddings.specs.Joined.{gathered_file, joined_file}
 use Rattle.cs_embeddings.specs.Size.{size_of_files}
 use Rattle.cs_embeddings.specs.declared.fault.EmbeddingFault.{EmbeddingFault}
 use Rattle.cs_embeddings.specs.declared.fault.EmbeddingFault.TheVariants.{OutOfMemory, UnknownName, NoStruct, Reopened, TooHigh, TooLarge}
@@ -23,7 +23,7 @@ abbrev pub flaws_of_files : List FileTree → List (ℕ × Flaw)
 flaws_of_files fs = found_from (flaws (all_definitions fs)) 0 fs
 
 abbrev pub clashes_of_files : List FileTree → List (ℕ × ℕ)
-clashes_of_files fs = found_from (clashes (all_definitions fs)) 0 fs
+clashes_of_files fs = found_from (clashes (all_definitions fs)) 0 (map (gathered_file (all_definitions fs)) fs)
 
 abbrev pub joined_files : List FileTree → List FileTree
 joined_files fs = map (joined_file (all_definitions fs)) fs

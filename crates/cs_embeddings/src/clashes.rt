@@ -6,6 +6,7 @@ ghost use Rattle.cs_embeddings.specs.Alternatives as Alternatives;
 ghost use Rattle.cs_embeddings.specs.ClashTable.{TellsSeen};
 ghost use Rattle.cs_embeddings.specs.Views.{brought_view};
 ghost use Rattle.cs_embeddings.specs.Clashes as Spec;
+ghost use Rattle.cs_embeddings.specs.Gathered.{is_every};
 
 use crate::alternatives::Brought;
 use crate::held::holds;
@@ -32,8 +33,8 @@ fn are_apart(first: &Expr, second: &Expr) -> bool
 }
 
 /// Whether a declaration is of every label.
-fn is_every(mark: FieldMark) -> bool
-    ensures { result ≡ Spec.is_every mark }
+pub(crate) fn is_every(mark: FieldMark) -> bool
+    ensures { result ≡ is_every mark }
 {
     matches!(mark, FieldMark::Every { .. })
 }

@@ -2,10 +2,9 @@
 ghost use Rattle.std.specs.Prelude.{◌≡◌, ℕ, suc, ◌<◌, ◌≤◌, Bool, false, List, [], ◌∷◌, ◌++◌, map, IfOk, OnOk};
 ghost use Rattle.std.specs.Borrow.{Bor};
 ghost use Rattle.std.specs.List.{list_all};
-ghost use Rattle.cs_grammar.specs.Tree as Tree;
-ghost use Rattle.cs_grammar.specs.Tree.{DefinitionTree, reference};
+ghost use Rattle.cs_grammar.specs.Tree.{DefinitionTree, reference, conjunction};
 ghost use Rattle.cs_grammar.specs.Bodies.{bodies};
-ghost use Rattle.cs_grammar.specs.View.{expr_view, exprs_view, fields_view, declarations_view, end_view};
+ghost use Rattle.cs_grammar.specs.View.{expr_view, exprs_view, fields_view, declarations_view, end_view, trees_of};
 ghost use Rattle.cs_embeddings.specs.Alternatives.{most_steps};
 ghost use Rattle.cs_embeddings.specs.Checks.{TellsBodies, TellsSteps, TellsRounds, bodies_view};
 ghost use Rattle.cs_embeddings.specs.Flaws.{is_none};
@@ -14,7 +13,7 @@ ghost use Rattle.cs_embeddings.specs.Embedded as Spec;
 ghost use Rattle.cs_embeddings.specs.Embedded.{can_be_embedded, all_embedded, embeds_well, embed_well, fields_embed_well, declarations_embed_well, end_embeds_well};
 
 use crate::definitions::Bodies;
-use crate::shut::{are_open, some_shut};
+use crate::shut::{all_open, any_shut, some_shut};
 use cs_grammar::{Declaration, Expr, Field, ListEnd, Wide};
 use std::alloc::{AllocError, Global};
 use std::collections::BTreeMap;
@@ -122,12 +121,20 @@ impl<'b, 'a> Embeddable<'b, 'a> {
         }
     }
 
-    /// Whether the operands of a conjunction are put together.
-    pub(crate) fn unites(&self, conjunction: &Expr, operands: &[Expr]) -> bool
+    /// Whether operands that are joined are put together.
+    pub(crate) fn unites(&self, operands: &[&Expr]) -> bool
         ensures { (ds : List DefinitionTree) → TellsBodies self.now.bodies.now ds → TellsSteps self.now ds most_steps
-            → expr_view conjunction.now ≡ Tree.conjunction (exprs_view operands.now) → result ≡ United.unites ds (exprs_view operands.now) }
+            → result ≡ United.unites ds (trees_of (bodies_view operands.now)) }
     {
-        operands.len() > 1 && !are_open(operands) && self.can_embed(conjunction, MOST_STEPS)
+        operands.len() > 1 && !all_open(operands) && self.can_embed_together(operands)
+    }
+
+    /// Whether the conjunction of operands can be embedded.
+    fn can_embed_together(&self, operands: &[&Expr]) -> bool
+        ensures { (ds : List DefinitionTree) → TellsBodies self.now.bodies.now ds → TellsSteps self.now ds most_steps
+            → result ≡ can_be_embedded ds most_steps (conjunction (trees_of (bodies_view operands.now))) }
+    {
+        !any_shut(operands) && self.can_embed_bodies(operands, MOST_STEPS - 1)
     }
 
     /// Whether a definition can be embedded in so many steps, as the table tells it. One that isn't declared is at fault by its name alone.

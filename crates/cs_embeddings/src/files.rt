@@ -4,12 +4,13 @@ ghost use Rattle.std.specs.List.{AllByRecursion, flat_map};
 ghost use Rattle.cs_grammar.specs.Height.{height, file_height};
 ghost use Rattle.cs_grammar.specs.Limits.{most_height};
 ghost use Rattle.cs_grammar.specs.Tree.{DefinitionTree, body, definitions};
-ghost use Rattle.cs_grammar.specs.View.{expr_view, definition_view, file_view};
+ghost use Rattle.cs_grammar.specs.View.{definition_view, file_view};
 ghost use Rattle.cs_embeddings.specs.Alternatives.{most_steps};
 ghost use Rattle.cs_embeddings.specs.Checks.{TellsTables, TellsEmbeddable, AreWell, Finds, flaw_view};
 ghost use Rattle.cs_embeddings.specs.Clashes.{clashes};
 ghost use Rattle.cs_embeddings.specs.Embedded.{can_be_embedded, embeds_well};
 ghost use Rattle.cs_embeddings.specs.Flaws as Spec;
+ghost use Rattle.cs_embeddings.specs.GatheredTable.{IsSound, gathered_view};
 ghost use Rattle.cs_embeddings.specs.Joined as Joined;
 ghost use Rattle.cs_embeddings.specs.Made.{AreBodiesWell, FindsFlaw, MakesPart, MakesDefinitions, MakesFiles};
 ghost use Rattle.cs_embeddings.specs.Size.{size, size_of_definitions};
@@ -19,6 +20,7 @@ use crate::EmbeddingFault;
 use crate::definitions::Bodies;
 use crate::embedded::Embeddable;
 use crate::flaws::{Flaw, Flaws};
+use crate::gathered::{Gathered, declared_definitions, gather};
 use crate::joined::{Joiner, Room};
 use cs_grammar::{Definition, File};
 use std::alloc::Global;
@@ -30,7 +32,8 @@ const MOST_HEIGHT: usize = 28;
 const MOST_NODES: usize = 50_000;
 
 /// The files that files of the wide profile stand for, each at its place: each struct literal with embeddings is the disjunction of what it
-/// can be, or the only one (CUE, structs: embedding). Marks of defaults stay.
+/// can be, or the only one (CUE, structs: embedding), and so are the bodies of a definition in one file that are put together. Marks of
+/// defaults stay.
 ///
 /// # Errors
 /// `UnknownName` or `NoStruct` with the first embedding at fault, by file and then by text. Where there is none: `Reopened` with the first
@@ -114,7 +117,7 @@ fn joined_file<'a>(
     ensures { (ds : List DefinitionTree) → TellsTables joiner.entry.embeddable.now ds → AreWell ds → AreBodiesWell ds (definitions (file_view file.now))
         → let meant = Joined.joined_file ds (file_view file.now) in
         MakesPart file_view result joiner.entry.file most_height nodes.old nodes.new (file_height meant) (size_of_definitions (definitions meant)) meant
-        (flat_map (λ d. clashes ds (body d)) (definitions (file_view file.now))) }
+        (flat_map (λ d. clashes ds (body d)) (definitions (Joined.gathered_file ds (file_view file.now)))) }
 {
     let definitions = joined_definitions(joiner, &file.definitions, nodes)?;
     let package = match &file.package {
@@ -127,7 +130,7 @@ fn joined_file<'a>(
     })
 }
 
-/// The definitions that are meant.
+/// The definitions that are meant: one for those of a name whose bodies are put together.
 fn joined_definitions<'a>(
     joiner: Joiner<'_, 'a>,
     definitions: &'a [Definition],
@@ -135,10 +138,12 @@ fn joined_definitions<'a>(
 ) -> Result<Vec<Definition>, EmbeddingFault>
     ensures { (ds : List DefinitionTree) → TellsTables joiner.entry.embeddable.now ds → AreWell ds
         → AreBodiesWell ds (map definition_view definitions.now)
-        → MakesDefinitions result joiner.entry.file nodes.old nodes.new ds (map definition_view definitions.now) }
+        → MakesDefinitions result joiner.entry.file nodes.old nodes.new ds (Joined.gathered_definitions ds (map definition_view definitions.now)) }
 {
-    let mut joined = Vec::with_capacity(joiner.alloc, definitions.len())?;
-    for definition in definitions {
+    let declared = declared_definitions(joiner.alloc, definitions)?;
+    let standing = gather(joiner.alloc, joiner.embeddable, &declared)?;
+    let mut joined = Vec::with_capacity(joiner.alloc, standing.len())?;
+    for definition in &standing {
         joined.push(joined_definition(joiner, definition, nodes)?)?;
     }
     Ok(joined)
@@ -147,22 +152,22 @@ fn joined_definitions<'a>(
 /// The definition that is meant.
 fn joined_definition<'a>(
     joiner: Joiner<'_, 'a>,
-    definition: &'a Definition,
+    definition: &Gathered<'a>,
     nodes: &mut usize,
 ) -> Result<Definition, EmbeddingFault>
-    ensures { (ds : List DefinitionTree) → TellsTables joiner.entry.embeddable.now ds → AreWell ds
-        → embeds_well (can_be_embedded ds most_steps) (expr_view definition.now.body) ≡ true
-        → let meant = Joined.joined ds (expr_view definition.now.body) in
+    ensures { (ds : List DefinitionTree) → TellsTables joiner.entry.embeddable.now ds → AreWell ds → IsSound ds definition.now
+        → let d = gathered_view definition.now in embeds_well (can_be_embedded ds most_steps) d.value ≡ true
+        → let meant = Joined.joined ds d.value in
         MakesPart definition_view result joiner.entry.file most_height nodes.old nodes.new (height meant) (size meant)
-        (Joined.joined_definition ds (definition_view definition.now)) (clashes ds (expr_view definition.now.body)) }
+        (Joined.joined_definition ds (Joined.as_definition d)) (clashes ds d.value) }
 {
     let room = Room {
         place: None,
         is_whole: true,
         levels: MOST_HEIGHT,
     };
-    let body = joiner.joined(&definition.body, room, nodes)?;
-    let name = definition.name.clone()?;
-    let at = definition.at;
+    let body = joiner.joined_standing(definition, room, nodes)?;
+    let name = String::from_str(joiner.alloc, definition.label())?;
+    let at = definition.place().unwrap_or(0);
     Ok(Definition { name, at, body })
 }

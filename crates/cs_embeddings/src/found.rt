@@ -4,9 +4,10 @@ ghost use Rattle.cs_embeddings.specs.Views.{alternative_view, alternatives_view,
 
 use crate::EmbeddingFault;
 use crate::alternatives::Alternative;
+use crate::gathered::MOST_GATHERED;
 use std::alloc::Global;
 
-/// Alternatives that were found, and how much they are: each is one, with its declarations.
+/// Alternatives that were found, and how much they are: each is one, and one more for each 64 declarations.
 #[derive(Drop)]
 pub(crate) struct Found<'a> {
     pub(crate) alternatives: Vec<Alternative<'a>>,
@@ -33,7 +34,7 @@ impl<'a> Found<'a> {
         ensures { Reaches result room (alternatives_view self.old.alternatives.items ++ alternative_view alternative.entry ∷ [])
             (alternatives_view self.new.alternatives.items) }
     {
-        let weight = alternative.declarations.len() + 1;
+        let weight = alternative.declarations.len() / MOST_GATHERED + 1;
         if weight > room.saturating_sub(self.weight) {
             return Err(EmbeddingFault::TooLarge);
         }

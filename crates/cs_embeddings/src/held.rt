@@ -1,6 +1,7 @@
 // Where the first struct literal or reference of an expression is.
 ghost use Rattle.std.specs.Prelude.{◌≡◌};
-ghost use Rattle.cs_grammar.specs.View.{expr_view, exprs_view, end_view};
+ghost use Rattle.cs_grammar.specs.View.{expr_view, exprs_view, end_view, trees_of};
+ghost use Rattle.cs_embeddings.specs.Checks.{bodies_view};
 ghost use Rattle.cs_embeddings.specs.Held as Spec;
 
 use cs_grammar::{Expr, ListEnd, Wide};
@@ -58,8 +59,13 @@ fn end_holds(end: &ListEnd) -> Option<usize>
 }
 
 /// Where the literal stands that operands are put together to.
-pub(crate) fn first_place(operands: &[Expr]) -> usize
-    ensures { result ≡ Spec.first_place (exprs_view operands.now) }
+pub(crate) fn first_place(operands: &[&Expr]) -> usize
+    ensures { result ≡ Spec.first_place (trees_of (bodies_view operands.now)) }
 {
-    hold(operands).unwrap_or(0)
+    for operand in operands {
+        if let Some(at) = holds(operand) {
+            return at;
+        }
+    }
+    0
 }

@@ -1,18 +1,20 @@
 // Expressions without embeddings.
 ghost use Rattle.std.specs.Prelude.{◌≡◌, ℕ, ◌≤◌, true, false, List, [], IfOk};
 ghost use Rattle.std.specs.List.{AllByRecursion, flat_map};
-ghost use Rattle.cs_grammar.specs.Height.{height, height_all, height_fields, height_end};
+ghost use Rattle.cs_grammar.specs.Height.{height, height_all, height_end};
 ghost use Rattle.cs_grammar.specs.Tree as Tree;
 ghost use Rattle.cs_grammar.specs.Tree.{DefinitionTree, disjunction, list, wide};
-ghost use Rattle.cs_grammar.specs.View.{expr_view, exprs_view, field_view, fields_view, end_view, wide_view, declarations_view};
-ghost use Rattle.cs_embeddings.specs.Checks.{TellsTables, AreWell};
+ghost use Rattle.cs_grammar.specs.View.{expr_view, exprs_view, field_view, end_view, wide_view, declarations_view, label_of, trees_of};
+ghost use Rattle.cs_embeddings.specs.Checks.{TellsTables, AreWell, bodies_view};
 ghost use Rattle.cs_embeddings.specs.Alternatives.{most_steps, alternatives_of};
-ghost use Rattle.cs_embeddings.specs.Clashes.{clashes_with, clashes_each, clashes_fields, clashes_end, clashes_of, clashes_if, clashes_value};
-ghost use Rattle.cs_embeddings.specs.Embedded.{can_be_embedded, embeds_well, embed_well, fields_embed_well, declarations_embed_well, end_embeds_well};
+ghost use Rattle.cs_embeddings.specs.Clashes.{clashes_with, clashes_each, clashes_end, clashes_of, clashes_if, clashes_value};
+ghost use Rattle.cs_embeddings.specs.Embedded.{can_be_embedded, embeds_well, embed_well, declarations_embed_well, end_embeds_well};
 ghost use Rattle.cs_embeddings.specs.Joined as Spec;
 ghost use Rattle.cs_embeddings.specs.Made as Made;
 ghost use Rattle.cs_embeddings.specs.Made.{FindsClash, GoesBelow, GoesInside, IsWell, Makes, MakesPart};
-ghost use Rattle.cs_embeddings.specs.Size.{size, sizes, size_fields, size_end};
+ghost use Rattle.cs_embeddings.specs.GatheredTable.{IsSound, gathered_view};
+ghost use Rattle.cs_embeddings.specs.Size.{size, sizes, size_end};
+ghost use Rattle.cs_embeddings.specs.United.{unites};
 ghost use Rattle.cs_embeddings.specs.Views.{alternative_view, alternatives_view};
 
 use crate::EmbeddingFault;
@@ -20,6 +22,7 @@ use crate::alternatives::Alternative;
 use crate::clashes::first_clash;
 use crate::embedded::Embeddable;
 use crate::found::Found;
+use crate::gathered::{Gathered, declared_of, gather};
 use crate::held::first_place;
 use crate::joining::Joining;
 use cs_grammar::{Declaration, Expr, Field, FieldMark, ListEnd, Wide};
@@ -120,7 +123,7 @@ impl<'b, 'a> Joiner<'b, 'a> {
             (clashes_with ds (clashes_value ds n) room.place (expr_view expr.now)) }
     {
         match expr {
-            Expr::And(operands) => self.joined_conjunction(expr, operands, room, nodes),
+            Expr::And(operands) => self.joined_conjunction(operands, room, nodes),
             Expr::Or(operands) => {
                 let inside = self.inside(room, nodes)?.is_whole(false);
                 Ok(Expr::Or(self.joined_each(operands, inside, nodes)?))
@@ -130,10 +133,11 @@ impl<'b, 'a> Joiner<'b, 'a> {
                 Ok(Expr::Paren(Box::new(self.alloc, kept)?))
             }
             Expr::Struct { at, fields, opened } => {
-                let (at, opened) = (room.place.unwrap_or(*at), *opened);
-                let inside = self.inside(room, nodes)?;
-                let fields = self.joined_fields(fields, inside, nodes)?;
-                Ok(Expr::Struct { at, fields, opened })
+                let at = room.place.unwrap_or(*at);
+                let mut own = Alternative::nothing(self.alloc);
+                own.add(room.place, fields)?;
+                own.opened = *opened;
+                self.joined_alternative(at, &own, false, room, nodes)
             }
             Expr::List { front, end } => self.joined_list(front, end, room, nodes),
             Expr::Wide(form) => self.joined_form(form, room, nodes),
@@ -179,51 +183,6 @@ impl<'b, 'a> Joiner<'b, 'a> {
             joined.push(self.joined(expr, room, nodes)?)?;
         }
         Ok(joined)
-    }
-
-    #[cycle(joined)]
-    fn joined_fields(
-        self,
-        fields: &'a [Field],
-        room: Room,
-        nodes: &mut usize,
-    ) -> Result<Vec<Field>, EmbeddingFault>
-        ensures { (ds : List DefinitionTree) (n : ℕ) → TellsTables self.entry.embeddable.now ds → AreWell ds
-            → fields_embed_well (can_be_embedded ds most_steps) (fields_view fields.now) ≡ true → room.levels ≤ n
-            → let meant = Spec.joined_fields ds (Spec.joined_value ds n) room.place (fields_view fields.now) in
-            MakesPart (λ v. fields_view v.items) result self.entry.file room.levels nodes.old nodes.new (height_fields meant) (size_fields meant) meant
-            (clashes_fields ds (clashes_value ds n) room.place (fields_view fields.now)) }
-    {
-        let mut joined = Vec::with_capacity(self.alloc, fields.len())?;
-        for field in fields {
-            joined.push(self.joined_field(field, room, nodes)?)?;
-        }
-        Ok(joined)
-    }
-
-    #[cycle(joined)]
-    fn joined_field(
-        self,
-        field: &'a Field,
-        room: Room,
-        nodes: &mut usize,
-    ) -> Result<Field, EmbeddingFault>
-        ensures { (ds : List DefinitionTree) (n : ℕ) → TellsTables self.entry.embeddable.now ds → AreWell ds
-            → embeds_well (can_be_embedded ds most_steps) (field_view field.now).value ≡ true → room.levels ≤ n
-            → let value = Spec.joined_with ds (Spec.joined_value ds n) true room.place in
-            let meant = value (field_view field.now).value in
-            MakesPart field_view result self.entry.file room.levels nodes.old nodes.new (height meant) (size meant)
-            (Made.with_value room.place value (field_view field.now))
-            (clashes_with ds (clashes_value ds n) room.place (field_view field.now).value) }
-    {
-        let value = self.joined(&field.value, room.is_whole(true), nodes)?;
-        let label = field.label.clone()?;
-        Ok(Field {
-            label,
-            quoted: field.quoted,
-            mark: placed(room.place, field.mark),
-            value,
-        })
     }
 
     #[cycle(joined)]
@@ -333,8 +292,8 @@ impl<'b, 'a> Joiner<'b, 'a> {
             → declarations_embed_well (can_be_embedded ds most_steps) (declarations_view declarations.now) ≡ true → room.levels ≤ n
             → let alternatives = alternatives_of ds room.place (declarations_view declarations.now) is_opened in
             Makes result self.entry.file room.levels nodes.old nodes.new
-            (Spec.one_of (Spec.joined_value ds n) room.is_whole at alternatives)
-            (flat_map (clashes_of (clashes_value ds n) true) alternatives) }
+            (Spec.one_of ds (Spec.joined_value ds n) room.is_whole at alternatives)
+            (flat_map (clashes_of ds (clashes_value ds n) true) alternatives) }
     {
         let found = self
             .joining(*nodes)
@@ -353,29 +312,56 @@ impl<'b, 'a> Joiner<'b, 'a> {
         }
     }
 
-    /// Operands of a conjunction: where they are put together, the disjunction of what they can be, or the only one.
+    /// A conjunction of operands, or what they are where they are put together.
     #[cycle(joined)]
     fn joined_conjunction(
         self,
-        conjunction: &'a Expr,
         operands: &'a [Expr],
         room: Room,
         nodes: &mut usize,
     ) -> Result<Expr, EmbeddingFault>
         ensures { (ds : List DefinitionTree) (n : ℕ) → TellsTables self.entry.embeddable.now ds → AreWell ds
             → embed_well (can_be_embedded ds most_steps) (exprs_view operands.now) ≡ true → room.levels ≤ n
-            → expr_view conjunction.now ≡ Tree.conjunction (exprs_view operands.now)
             → Makes result self.entry.file room.levels nodes.old nodes.new
             (Spec.joined_with ds (Spec.joined_value ds n) room.is_whole room.place (Tree.conjunction (exprs_view operands.now)))
             (clashes_with ds (clashes_value ds n) room.place (Tree.conjunction (exprs_view operands.now))) }
     {
-        if self.embeddable.unites(conjunction, operands) {
-            let at = room.place.unwrap_or(first_place(operands));
-            let found = self.joining(*nodes).united(room.place, conjunction)?;
-            return self.joined_found(at, &found, false, room, nodes);
+        let borrowed = self.borrowed(operands)?;
+        if self.embeddable.unites(&borrowed) {
+            return self.joined_together(&borrowed, room, nodes);
         }
         let inside = self.inside(room, nodes)?.is_whole(false);
         Ok(Expr::And(self.joined_each(operands, inside, nodes)?))
+    }
+
+    /// Each of them, borrowed.
+    fn borrowed(self, exprs: &'a [Expr]) -> Result<Vec<&'a Expr>, AllocError>
+        ensures { IfOk result (λ v. trees_of (bodies_view v.items) ≡ exprs_view exprs.now) }
+    {
+        let mut borrowed = Vec::with_capacity(self.alloc, exprs.len())?;
+        for expr in exprs {
+            borrowed.push(expr)?;
+        }
+        Ok(borrowed)
+    }
+
+    /// What operands that are put together can be: their disjunction, or the only one.
+    #[cycle(joined)]
+    fn joined_together(
+        self,
+        operands: &[&'a Expr],
+        room: Room,
+        nodes: &mut usize,
+    ) -> Result<Expr, EmbeddingFault>
+        ensures { (ds : List DefinitionTree) (n : ℕ) → TellsTables self.entry.embeddable.now ds → AreWell ds
+            → unites ds (trees_of (bodies_view operands.now)) ≡ true → room.levels ≤ n
+            → Makes result self.entry.file room.levels nodes.old nodes.new
+            (Spec.joined_with ds (Spec.joined_value ds n) room.is_whole room.place (Tree.conjunction (trees_of (bodies_view operands.now))))
+            (clashes_with ds (clashes_value ds n) room.place (Tree.conjunction (trees_of (bodies_view operands.now)))) }
+    {
+        let at = room.place.unwrap_or(first_place(operands));
+        let found = self.joining(*nodes).united(room.place, operands)?;
+        self.joined_found(at, &found, false, room, nodes)
     }
 
     /// The disjunction of alternatives, or the only one. `embeds` says whether they are those of a literal with embeddings.
@@ -391,8 +377,8 @@ impl<'b, 'a> Joiner<'b, 'a> {
         ensures { (ds : List DefinitionTree) (n : ℕ) → TellsTables self.entry.embeddable.now ds → AreWell ds
             → AllByRecursion (IsWell ds) (alternatives_view found.now.alternatives.items) → room.levels ≤ n
             → Makes result self.entry.file room.levels nodes.old nodes.new
-            (Spec.one_of (Spec.joined_value ds n) room.is_whole at (alternatives_view found.now.alternatives.items))
-            (flat_map (clashes_of (clashes_value ds n) embeds) (alternatives_view found.now.alternatives.items)) }
+            (Spec.one_of ds (Spec.joined_value ds n) room.is_whole at (alternatives_view found.now.alternatives.items))
+            (flat_map (clashes_of ds (clashes_value ds n) embeds) (alternatives_view found.now.alternatives.items)) }
     {
         match &*found.alternatives {
             [] => self.leaf(Expr::Bottom, room, nodes),
@@ -421,8 +407,8 @@ impl<'b, 'a> Joiner<'b, 'a> {
         ensures { (ds : List DefinitionTree) (n : ℕ) → TellsTables self.entry.embeddable.now ds → AreWell ds
             → AllByRecursion (IsWell ds) (alternatives_view alternatives.now) → room.levels ≤ n
             → Makes result self.entry.file room.levels nodes.old nodes.new
-            (disjunction (Spec.literals_of (Spec.joined_value ds n) at (alternatives_view alternatives.now)))
-            (flat_map (clashes_of (clashes_value ds n) embeds) (alternatives_view alternatives.now)) }
+            (disjunction (Spec.literals_of ds (Spec.joined_value ds n) at (alternatives_view alternatives.now)))
+            (flat_map (clashes_of ds (clashes_value ds n) embeds) (alternatives_view alternatives.now)) }
     {
         let inside = self.inside(room, nodes)?;
         let mut joined = Vec::with_capacity(self.alloc, alternatives.len())?;
@@ -456,18 +442,84 @@ impl<'b, 'a> Joiner<'b, 'a> {
         ensures { (ds : List DefinitionTree) (n : ℕ) → TellsTables self.entry.embeddable.now ds → AreWell ds
             → IsWell ds (alternative_view alternative.now) → room.levels ≤ n
             → Makes result self.entry.file room.levels nodes.old nodes.new
-            (Spec.literal_of (Spec.joined_value ds n) at (alternative_view alternative.now))
-            (clashes_of (clashes_value ds n) embeds (alternative_view alternative.now)) }
+            (Spec.literal_of ds (Spec.joined_value ds n) at (alternative_view alternative.now))
+            (clashes_of ds (clashes_value ds n) embeds (alternative_view alternative.now)) }
     {
         let inside = self.inside(room, nodes)?;
         self.check(alternative, embeds)?;
-        let mut fields = Vec::with_capacity(self.alloc, alternative.declarations.len())?;
-        for brought in &alternative.declarations {
-            let place = brought.place;
-            let room = Room { place, ..inside };
-            fields.push(self.joined_field(brought.field, room, nodes)?)?;
+        let declared = declared_of(self.alloc, &alternative.declarations)?;
+        let standing = gather(self.alloc, self.embeddable, &declared)?;
+        let mut fields = Vec::with_capacity(self.alloc, standing.len())?;
+        for declaration in &standing {
+            fields.push(self.joined_declaration(declaration, inside, nodes)?)?;
         }
         let opened = alternative.opened;
         Ok(Expr::Struct { at, fields, opened })
+    }
+
+    /// The field that a declaration is, or that those of one label are together.
+    #[cycle(joined)]
+    fn joined_declaration(
+        self,
+        declaration: &Gathered<'a>,
+        room: Room,
+        nodes: &mut usize,
+    ) -> Result<Field, EmbeddingFault>
+        ensures { (ds : List DefinitionTree) (n : ℕ) → TellsTables self.entry.embeddable.now ds → AreWell ds
+            → IsSound ds declaration.now → embeds_well (can_be_embedded ds most_steps) (gathered_view declaration.now).value ≡ true → room.levels ≤ n
+            → let d = gathered_view declaration.now in
+            let value = Spec.joined_with ds (Spec.joined_value ds n) true d.place in
+            let meant = value d.value in
+            MakesPart field_view result self.entry.file room.levels nodes.old nodes.new (height meant) (size meant)
+            (Made.with_value d.place value (Made.seen d)) (clashes_with ds (clashes_value ds n) d.place d.value) }
+    {
+        let place = declaration.place();
+        let room = Room {
+            place,
+            is_whole: true,
+            ..room
+        };
+        let value = self.joined_standing(declaration, room, nodes)?;
+        let mark = placed(place, declaration.mark());
+        Ok(self.field(declaration.label(), declaration.is_quoted(), mark, value)?)
+    }
+
+    /// What the value of a declaration stands for, or those of one label together.
+    #[cycle(joined)]
+    pub(crate) fn joined_standing(
+        self,
+        standing: &Gathered<'a>,
+        room: Room,
+        nodes: &mut usize,
+    ) -> Result<Expr, EmbeddingFault>
+        ensures { (ds : List DefinitionTree) (n : ℕ) → TellsTables self.entry.embeddable.now ds → AreWell ds
+            → IsSound ds standing.now → embeds_well (can_be_embedded ds most_steps) (gathered_view standing.now).value ≡ true → room.levels ≤ n
+            → let e = (gathered_view standing.now).value in
+            Makes result self.entry.file room.levels nodes.old nodes.new
+            (Spec.joined_with ds (Spec.joined_value ds n) room.is_whole room.place e) (clashes_with ds (clashes_value ds n) room.place e) }
+    {
+        match standing {
+            Gathered::One(declared) => self.joined(declared.value, room, nodes),
+            Gathered::Several(together) => self.joined_together(&together.values, room, nodes),
+        }
+    }
+
+    /// A field, if there is memory for its label.
+    fn field(
+        self,
+        label: &str,
+        quoted: bool,
+        mark: FieldMark,
+        value: Expr,
+    ) -> Result<Field, AllocError>
+        ensures { IfOk result (λ f. field_view f ≡ record { label = label_of label.now quoted; mark = mark; value = expr_view value }) }
+    {
+        let label = String::from_str(self.alloc, label)?;
+        Ok(Field {
+            label,
+            quoted,
+            mark,
+            value,
+        })
     }
 }

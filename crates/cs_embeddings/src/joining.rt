@@ -1,12 +1,13 @@
 // What a literal with embeddings can be.
 ghost use Rattle.std.specs.Prelude.{◌≡◌, ℕ, List, [], ◌∷◌, ◌++◌, map, true, Some};
 ghost use Rattle.std.specs.List.{flat_map, list_all};
-ghost use Rattle.cs_grammar.specs.Tree.{DefinitionTree};
+ghost use Rattle.cs_grammar.specs.Tree.{DefinitionTree, conjunction};
 ghost use Rattle.cs_grammar.specs.Bodies.{bodies};
-ghost use Rattle.cs_grammar.specs.View.{expr_view, exprs_view, field_view, declarations_view};
+ghost use Rattle.cs_grammar.specs.View.{expr_view, exprs_view, field_view, declarations_view, trees_of};
 ghost use Rattle.cs_embeddings.specs.Alternatives as Spec;
-ghost use Rattle.cs_embeddings.specs.Checks.{TellsBodies, ReachesAll};
+ghost use Rattle.cs_embeddings.specs.Checks.{TellsBodies, ReachesAll, bodies_view};
 ghost use Rattle.cs_embeddings.specs.Embedded.{can_be_embedded, all_embedded, declarations_embed_well};
+ghost use Rattle.cs_embeddings.specs.United as United;
 ghost use Rattle.cs_embeddings.specs.Views.{alternative_view, alternatives_view, with_field, Reaches};
 
 use crate::EmbeddingFault;
@@ -43,25 +44,22 @@ impl<'a> Joining<'_, 'a> {
         self.join_declarations(MOST_STEPS, place, declarations, nothing)
     }
 
-    /// What operands of a conjunction that are put together can be. `TooLarge` where that is more than there is room for.
+    /// What operands that are put together can be. `TooLarge` where that is more than there is room for.
     pub(crate) fn united(
         self,
         place: Option<usize>,
-        conjunction: &'a Expr,
+        operands: &[&'a Expr],
     ) -> Result<Found<'a>, EmbeddingFault>
         ensures { (ds : List DefinitionTree) → TellsBodies self.entry.bodies.now ds
-            → can_be_embedded ds Spec.most_steps (expr_view conjunction.now) ≡ true
-            → ReachesAll result self.entry.room (Spec.alternatives ds Spec.most_steps place (expr_view conjunction.now) Spec.nothing) }
+            → can_be_embedded ds Spec.most_steps (conjunction (trees_of (bodies_view operands.now))) ≡ true
+            → ReachesAll result self.entry.room (United.united ds place (trees_of (bodies_view operands.now))) }
     {
-        let mut found = Found::nothing(self.alloc);
-        self.join(
-            MOST_STEPS,
+        self.join_values(
+            MOST_STEPS - 1,
             place,
-            conjunction,
+            operands,
             Alternative::nothing(self.alloc),
-            &mut found,
-        )?;
-        Ok(found)
+        )
     }
 
     /// Adds the alternatives of an expression, each joined to what is before it, to those that were found.
@@ -221,12 +219,30 @@ impl<'a> Joining<'_, 'a> {
             → ReachesAll result self.entry.room (map (Spec.meet name.now) (Spec.join_bodies (Spec.alternatives ds steps) (Some at) (bodies name.now ds)
             (alternative_view before.entry ∷ []))) }
     {
+        let found = self.join_values(steps, Some(at), self.bodies.of_name(name), before)?;
+        self.meet(name, found)
+    }
+
+    /// Values one behind the other, behind what is before them.
+    #[cycle(join)]
+    fn join_values(
+        self,
+        steps: usize,
+        place: Option<usize>,
+        values: &[&'a Expr],
+        before: Alternative<'a>,
+    ) -> Result<Found<'a>, EmbeddingFault>
+        ensures { (ds : List DefinitionTree) → TellsBodies self.entry.bodies.now ds
+            → list_all (can_be_embedded ds steps) (bodies_view values.now) ≡ true
+            → ReachesAll result self.entry.room (Spec.join_bodies (Spec.alternatives ds steps) place (bodies_view values.now)
+            (alternative_view before.entry ∷ [])) }
+    {
         let mut found = Found::nothing(self.alloc);
         found.push(self.room, before)?;
-        for body in self.bodies.of_name(name) {
-            found = self.join_each(steps, Some(at), *body, found)?;
+        for value in values {
+            found = self.join_each(steps, place, *value, found)?;
         }
-        self.meet(name, found)
+        Ok(found)
     }
 
     /// Those before it, which embed the definition of that name.

@@ -9,6 +9,7 @@ mod fault;
 mod files;
 mod flaws;
 mod found;
+mod gathered;
 mod held;
 mod joined;
 mod joining;

@@ -1,6 +1,7 @@
 // What is closed before anything is joined to it, and which literals need no joining.
-ghost use Rattle.std.specs.Prelude.{◌≡◌};
-ghost use Rattle.cs_grammar.specs.View.{expr_view, exprs_view, fields_view, declarations_view, end_view};
+ghost use Rattle.std.specs.Prelude.{◌≡◌, false};
+ghost use Rattle.cs_grammar.specs.View.{expr_view, exprs_view, fields_view, declarations_view, end_view, trees_of};
+ghost use Rattle.cs_embeddings.specs.Checks.{bodies_view};
 ghost use Rattle.cs_embeddings.specs.Shut as Spec;
 
 use cs_grammar::{Declaration, Expr, Field, ListEnd, Wide};
@@ -84,7 +85,7 @@ fn end_shut(deep: bool, end: &ListEnd) -> bool
 
 /// Whether each struct literal in an expression ends with `...`, and none embeds anything.
 #[cycle(open)]
-pub(crate) fn is_open(expr: &Expr) -> bool
+fn is_open(expr: &Expr) -> bool
     ensures { result ≡ Spec.is_open (expr_view expr.now) }
 {
     match expr {
@@ -111,7 +112,7 @@ pub(crate) fn is_open(expr: &Expr) -> bool
 }
 
 #[cycle(open)]
-pub(crate) fn are_open(exprs: &[Expr]) -> bool
+fn are_open(exprs: &[Expr]) -> bool
     ensures { result ≡ Spec.are_open (exprs_view exprs.now) }
 {
     for expr in exprs {
@@ -142,4 +143,28 @@ fn end_open(end: &ListEnd) -> bool
         ListEnd::Closed | ListEnd::Any => true,
         ListEnd::Each(each) => is_open(each),
     }
+}
+
+/// Whether something in one of the operands is shut.
+pub(crate) fn any_shut(operands: &[&Expr]) -> bool
+    ensures { result ≡ Spec.some_shut false (trees_of (bodies_view operands.now)) }
+{
+    for operand in operands {
+        if is_shut(false, operand) {
+            return true;
+        }
+    }
+    false
+}
+
+/// Whether each struct literal in the operands ends with `...`, and none embeds anything.
+pub(crate) fn all_open(operands: &[&Expr]) -> bool
+    ensures { result ≡ Spec.are_open (trees_of (bodies_view operands.now)) }
+{
+    for operand in operands {
+        if !is_open(operand) {
+            return false;
+        }
+    }
+    true
 }

@@ -1,4 +1,5 @@
--- References that are moved to components and back are what they were, in schemas of the profile: there each is one to a definition.
+-- References that are moved to components and back are what they were, in schemas that are of the profile once their defaults are left out:
+-- there each is one to a definition.
 use Rattle.std.proofs.Common.{◌≡◌, ℕ, suc, Bool, true, false, List, [], ◌∷◌, ◌++◌, ◌==◌, Option, Some, None, bytes_eq, codes, refl, sym, ap, ap₂, ◌∙◌, subst, if◌then◌else◌}
 use Rattle.std.proofs.lemmas.Bool.{eqb-true}
 use Rattle.std.proofs.lemmas.Slice.Eq.{bytes_eq-Decides}
@@ -13,6 +14,8 @@ use Rattle.cs_profile.specs.Profile.{Visit, keyword_at, first, within, fault_of,
 use Rattle.cs_profile.specs.Values.{keyword_visits, value_visits}
 use Rattle.cs_profile.proofs.Faultless.{parted, or_else_none}
 use Rattle.cs_schema.proofs.Named.{after_start}
+use Rattle.cs_describe.specs.Plain.{as_schema, plain_by, schema_without, members_without, list_without, elements_without, map_without, named_without, values_without, is_default, without_defaults}
+use Rattle.cs_describe.proofs.StillBare.{still_bare}
 use Rattle.cs_export.specs.Components.{component_start, to_component, to_definition, moved_reference, moved, moved_members, moved_value, moved_list, moved_elements, moved_map, moved_named, map_in, definitions_in}
 
 -- ---- a reference
@@ -50,36 +53,71 @@ has_shape : (place k : List ℕ) (b : Bool) → shape_fault place k b ≡ None �
 has_shape place k true h = refl
 has_shape place k false h = cc
 
-value_back : (o : Option Form) (place k : List ℕ) (v : Document) → form_fault place k v o ≡ None
-    → (Free (visits false (at_key place k) v) → moved to_definition (moved to_component v) ≡ v)
-    → (Free (list_visits (at_key place k) v) → moved_list to_definition (moved_list to_component v) ≡ v)
-    → (Free (map_visits (at_key place k) v) → moved_map to_definition (moved_map to_component v) ≡ v)
-    → Free (within o (value_visits (at_key place k) v)) → moved_value to_definition o (moved_value to_component o v) ≡ v
+-- without defaults: a schema, what holds schemas, and the value of a keyword by its form
+abbrev bare : Document → Document
+bare = schema_without is_default
+
+abbrev bare_members : Bool → Members → Members
+bare_members = members_without is_default
+
+abbrev bare_list : Document → Document
+bare_list = list_without is_default
+
+abbrev bare_map : Document → Document
+bare_map = map_without is_default
+
+abbrev bare_value : Option Form → Document → Document
+bare_value o v = plain_by o (values_without is_default v)
+
+-- what stands under a key that is left out holds no schema
+default_kept : (f : List ℕ → List ℕ) (k : List ℕ) (v : Document) → is_default k ≡ true → moved_value f (form_at false k) v ≡ v
+default_kept f k v e = subst (λ n. moved_value f (form_at false n) v ≡ v) ((bytes_eq-Decides (codes "default") k).0 e) refl
+
+value_back : (o : Option Form) (place k : List ℕ) (v : Document) → form_fault place k (bare_value o v) o ≡ None
+    → (Free (visits false (at_key place k) (bare v)) → moved to_definition (moved to_component v) ≡ v)
+    → (Free (list_visits (at_key place k) (bare_list v)) → moved_list to_definition (moved_list to_component v) ≡ v)
+    → (Free (map_visits (at_key place k) (bare_map v)) → moved_map to_definition (moved_map to_component v) ≡ v)
+    → Free (within o (value_visits (at_key place k) (bare_value o v))) → moved_value to_definition o (moved_value to_component o v) ≡ v
 value_back (Some form.Reference) place k v shaped itself elements members h = reference_back v (has_shape place k (has_form form.Reference v) shaped)
 value_back (Some form.Schema) place k v shaped itself elements members h = itself h
 value_back (Some form.Schemas) place k v shaped itself elements members h = elements h
 value_back (Some form.NamedSchemas) place k v shaped itself elements members h = members h
 value_back _ place k v shaped itself elements members h = refl
 
+as_members : (place : List ℕ) (ms : Members) → Free (visits false place (as_schema ms)) → Free (member_visits false place ms)
+as_members place no_members h = refl
+as_members place (member k v ms) h = h
+
+one_back : (place k : List ℕ) (v : Document) (ms : Members) (t : Bool) → is_default k ≡ t
+    → Free (member_visits false place (if t then bare_members false ms else member k (bare_value (form_at false k) v) (bare_members false ms)))
+    → (Free (visits false (at_key place k) (bare v)) → moved to_definition (moved to_component v) ≡ v)
+    → (Free (list_visits (at_key place k) (bare_list v)) → moved_list to_definition (moved_list to_component v) ≡ v)
+    → (Free (map_visits (at_key place k) (bare_map v)) → moved_map to_definition (moved_map to_component v) ≡ v)
+    → (Free (member_visits false place (bare_members false ms)) → moved_members to_definition (moved_members to_component ms) ≡ ms)
+    → moved_members to_definition (moved_members to_component (member k v ms)) ≡ member k v ms
+one_back place k v ms true e h itself elements members rest =
+    ap₂ (member k) (ap (moved_value to_definition (form_at false k)) (default_kept to_component k v e) ∙ default_kept to_definition k v e) (rest h)
+one_back place k v ms false e h itself elements members rest =
+    let x = bare_value (form_at false k) v in
+    let parts = parted fault_of (keyword_visits false place k x) (member_visits false place (bare_members false ms)) h in
+    let here = or_else_none (fault_of (keyword_at false place k x)) (first fault_of (within (form_at false k) (value_visits (at_key place k) x))) parts.0 in
+    ap₂ (member k) (value_back (form_at false k) place k v here.0 itself elements members here.1) (rest parts.1)
+
 mutual
-  schema_back : (place : List ℕ) (d : Document) → Free (visits false place d) → moved to_definition (moved to_component d) ≡ d
-  schema_back place (object ms) h = ap object (members_back place ms h)
+  schema_back : (place : List ℕ) (d : Document) → Free (visits false place (bare d)) → moved to_definition (moved to_component d) ≡ d
+  schema_back place (object ms) h = ap object (members_back place ms (as_members place (bare_members false ms) h))
   schema_back place null h = refl
   schema_back place (boolean b) h = refl
   schema_back place (integer z) h = refl
   schema_back place (text s) h = refl
   schema_back place (list ds) h = refl
 
-  members_back : (place : List ℕ) (ms : Members) → Free (member_visits false place ms) → moved_members to_definition (moved_members to_component ms) ≡ ms
+  members_back : (place : List ℕ) (ms : Members) → Free (member_visits false place (bare_members false ms)) → moved_members to_definition (moved_members to_component ms) ≡ ms
   members_back place no_members h = refl
   members_back place (member k v ms) h =
-      let parts = parted fault_of (keyword_visits false place k v) (member_visits false place ms) h in
-      let here = or_else_none (fault_of (keyword_at false place k v)) (first fault_of (within (form_at false k) (value_visits (at_key place k) v))) parts.0 in
-      ap₂ (member k)
-      (value_back (form_at false k) place k v here.0 (λ g. schema_back (at_key place k) v g) (λ g. list_back (at_key place k) v g) (λ g. map_back (at_key place k) v g) here.1)
-      (members_back place ms parts.1)
+      one_back place k v ms (is_default k) refl h (λ g. schema_back (at_key place k) v g) (λ g. list_back (at_key place k) v g) (λ g. map_back (at_key place k) v g) (λ g. members_back place ms g)
 
-  list_back : (place : List ℕ) (d : Document) → Free (list_visits place d) → moved_list to_definition (moved_list to_component d) ≡ d
+  list_back : (place : List ℕ) (d : Document) → Free (list_visits place (bare_list d)) → moved_list to_definition (moved_list to_component d) ≡ d
   list_back place (list ds) h = ap list (elements_back place 0 ds h)
   list_back place null h = refl
   list_back place (boolean b) h = refl
@@ -87,13 +125,13 @@ mutual
   list_back place (text s) h = refl
   list_back place (object ms) h = refl
 
-  elements_back : (place : List ℕ) (i : ℕ) (ds : Documents) → Free (element_visits place i ds) → moved_elements to_definition (moved_elements to_component ds) ≡ ds
+  elements_back : (place : List ℕ) (i : ℕ) (ds : Documents) → Free (element_visits place i (elements_without is_default ds)) → moved_elements to_definition (moved_elements to_component ds) ≡ ds
   elements_back place i no_documents h = refl
   elements_back place i (document d ds) h =
-      let parts = parted fault_of (visits false (at_index place i) d) (element_visits place (suc i) ds) h in
+      let parts = parted fault_of (visits false (at_index place i) (bare d)) (element_visits place (suc i) (elements_without is_default ds)) h in
       ap₂ document (schema_back (at_index place i) d parts.0) (elements_back place (suc i) ds parts.1)
 
-  map_back : (place : List ℕ) (d : Document) → Free (map_visits place d) → moved_map to_definition (moved_map to_component d) ≡ d
+  map_back : (place : List ℕ) (d : Document) → Free (map_visits place (bare_map d)) → moved_map to_definition (moved_map to_component d) ≡ d
   map_back place (object ms) h = ap object (named_back place ms h)
   map_back place null h = refl
   map_back place (boolean b) h = refl
@@ -101,10 +139,10 @@ mutual
   map_back place (text s) h = refl
   map_back place (list ds) h = refl
 
-  named_back : (place : List ℕ) (ms : Members) → Free (named_visits place ms) → moved_named to_definition (moved_named to_component ms) ≡ ms
+  named_back : (place : List ℕ) (ms : Members) → Free (named_visits place (named_without is_default ms)) → moved_named to_definition (moved_named to_component ms) ≡ ms
   named_back place no_members h = refl
   named_back place (member k v ms) h =
-      let parts = parted fault_of (visits false (at_key place k) v) (named_visits place ms) h in
+      let parts = parted fault_of (visits false (at_key place k) (bare v)) (named_visits place (named_without is_default ms)) h in
       ap₂ (member k) (schema_back (at_key place k) v parts.0) (named_back place ms parts.1)
 
 -- ---- the definitions
@@ -112,7 +150,7 @@ mutual
 abbrev IsPutBack : Members → Type 0
 IsPutBack ms = moved_named to_definition (moved_named to_component ms) ≡ ms
 
-map_put_back : (place : List ℕ) (v : Document) → Free (map_visits place v) → IsPutBack (map_in (Some v))
+map_put_back : (place : List ℕ) (v : Document) → Free (map_visits place (bare_map v)) → IsPutBack (map_in (Some v))
 map_put_back place (object ms) h = named_back place ms h
 map_put_back place null h = refl
 map_put_back place (boolean b) h = refl
@@ -120,22 +158,43 @@ map_put_back place (integer z) h = refl
 map_put_back place (text s) h = refl
 map_put_back place (list ds) h = refl
 
-found_back : (ms : Members) → Free (member_visits true [] ms) → IsPutBack (map_in (under (codes "$defs") (entries ms)))
-found_back no_members h = refl
-found_back (member k v ms) h =
-    let parts = parted fault_of (keyword_visits true [] k v) (member_visits true [] ms) h in by (bytes_eq (codes "$defs") k) refl parts.0 (found_back ms parts.1)
-  where
-    by : (t : Bool) → bytes_eq (codes "$defs") k ≡ t → Free (keyword_visits true [] k v) → IsPutBack (map_in (under (codes "$defs") (entries ms)))
-        → IsPutBack (map_in (if t then Some v else under (codes "$defs") (entries ms)))
-    by true e here rest =
-        let there : Free (keyword_visits true [] (codes "$defs") v) = subst (λ n. Free (keyword_visits true [] n v)) (sym ((bytes_eq-Decides (codes "$defs") k).0 e)) here in
-        map_put_back (at_key [] (codes "$defs")) v (or_else_none (fault_of (keyword_at true [] (codes "$defs") v)) (first fault_of (map_visits (at_key [] (codes "$defs")) v)) there).1
-    by false e here rest = rest
+-- the definitions stand under `$defs`, which isn't left out
+other_back : (k : List ℕ) (v : Document) (ms : Members) → IsPutBack (map_in (under (codes "$defs") (entries ms))) → is_default k ≡ true
+    → IsPutBack (map_in (under (codes "$defs") (entries (member k v ms))))
+other_back k v ms rest e =
+    subst (λ n. IsPutBack (map_in (under (codes "$defs") (entries (member n v ms))))) ((bytes_eq-Decides (codes "default") k).0 e) rest
 
-pub definitions_back : (d : Document) → IsSchema d → moved_named to_definition (moved_named to_component (definitions_in d)) ≡ definitions_in d
+kept_back : (k : List ℕ) (v : Document) (ms : Members) (t : Bool) → bytes_eq (codes "$defs") k ≡ t
+    → Free (keyword_visits true [] k (bare_value (form_at true k) v)) → IsPutBack (map_in (under (codes "$defs") (entries ms)))
+    → IsPutBack (map_in (if t then Some v else under (codes "$defs") (entries ms)))
+kept_back k v ms true e here rest =
+    let there : Free (keyword_visits true [] (codes "$defs") (bare_map v)) =
+    subst (λ n. Free (keyword_visits true [] n (bare_value (form_at true n) v))) (sym ((bytes_eq-Decides (codes "$defs") k).0 e)) here in
+    map_put_back (at_key [] (codes "$defs")) v (or_else_none (fault_of (keyword_at true [] (codes "$defs") (bare_map v))) (first fault_of (map_visits (at_key [] (codes "$defs")) (bare_map v))) there).1
+kept_back k v ms false e here rest = rest
+
+part_back : (k : List ℕ) (v : Document) (ms : Members) (t : Bool) → is_default k ≡ t
+    → Free (member_visits true [] (if t then bare_members true ms else member k (bare_value (form_at true k) v) (bare_members true ms)))
+    → (Free (member_visits true [] (bare_members true ms)) → IsPutBack (map_in (under (codes "$defs") (entries ms))))
+    → IsPutBack (map_in (under (codes "$defs") (entries (member k v ms))))
+part_back k v ms true e h rest = other_back k v ms (rest h) e
+part_back k v ms false e h rest =
+    let parts = parted fault_of (keyword_visits true [] k (bare_value (form_at true k) v)) (member_visits true [] (bare_members true ms)) h in
+    kept_back k v ms (bytes_eq (codes "$defs") k) refl parts.0 (rest parts.1)
+
+found_back : (ms : Members) → Free (member_visits true [] (bare_members true ms)) → IsPutBack (map_in (under (codes "$defs") (entries ms)))
+found_back no_members h = refl
+found_back (member k v ms) h = part_back k v ms (is_default k) refl h (λ g. found_back ms g)
+
+pub definitions_back : (d : Document) → IsSchema (without_defaults d) → moved_named to_definition (moved_named to_component (definitions_in d)) ≡ definitions_in d
 definitions_back (object ms) is = found_back ms is.shaped
 definitions_back null is = refl
 definitions_back (boolean b) is = refl
 definitions_back (integer z) is = refl
 definitions_back (text s) is = refl
 definitions_back (list ds) is = refl
+
+-- so are those of a schema of the profile, which has no defaults
+pub asked_back : (t : Bool) (d : Document) → IsSchema (if t then without_defaults d else d) → moved_named to_definition (moved_named to_component (definitions_in d)) ≡ definitions_in d
+asked_back true d is = definitions_back d is
+asked_back false d is = definitions_back d (still_bare d is)

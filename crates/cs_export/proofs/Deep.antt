@@ -6,6 +6,7 @@ use Rattle.cs_profile.specs.Shapes.{form_at}
 use Rattle.cs_profile.specs.declared.keyword.Form.{Form}
 use Rattle.cs_profile.specs.declared.keyword.Form.TheVariants as form
 use Rattle.cs_export.specs.Components.{to_component, moved_reference, moved, moved_members, moved_value, moved_list, moved_elements, moved_map, moved_named, map_in, definitions_in, components_of}
+use Rattle.cs_export.specs.Shaped.{deeper}
 
 -- ---- what is moved
 
@@ -96,3 +97,8 @@ components_deep d =
 pub asked_deep : (is_openapi : Bool) (d : Document) → depth (if is_openapi then components_of d else d) ≤ suc (suc (suc (depth d)))
 asked_deep true d = components_deep d
 asked_deep false d = omega arith
+
+-- a schema that nests 114 deep at most is described within 124
+pub deeper_within : (t : Bool) (n d : ℕ) → n ≤ 114 → d ≤ deeper t n → d ≤ 124
+deeper_within true n d h g = omega arith
+deeper_within false n d h g = omega arith

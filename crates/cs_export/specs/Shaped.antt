@@ -1,5 +1,5 @@
 -- Schemas as they are asked for: what a text is read as, beside the schema of the translation.
-use Rattle.std.specs.Prelude.{◌≡◌, ℕ, suc, ◌≤◌, List, Bool, false, IsSome, if◌then◌else◌}
+use Rattle.std.specs.Prelude.{◌≡◌, ℕ, suc, ◌+◌, ◌≤◌, List, Bool, false, IsSome, if◌then◌else◌}
 use Rattle.serde_json.specs.Read.{max_depth}
 use Rattle.cs_document.specs.Document.{Document, IsDocument, depth}
 use Rattle.cs_json.specs.Texts.{Reads, text_of}
@@ -13,7 +13,8 @@ use Rattle.cs_schema.specs.Validity.{IsValidity}
 use Rattle.cs_schema.specs.Validity as validity
 use Rattle.cs_compile.specs.Whole.{Compiles, CompilesAll}
 use Rattle.cs_compile.specs.Translation.{IsTranslation}
-use Rattle.cs_describe.specs.Plain.{plain}
+use Rattle.cs_describe.specs.Described.{most_nested}
+use Rattle.cs_describe.specs.Plain.{plain, without_defaults}
 use Rattle.cs_describe.specs.Meaning.{SameValidity, SameDefinitions}
 use Rattle.cs_export.specs.declared.layout.Layout.{Layout}
 use Rattle.cs_export.specs.Components.{to_component, to_definition, moved_named, definitions_in, components_of}
@@ -24,11 +25,11 @@ use Rattle.cs_tool.specs.Headline.{IsExport}
 abbrev pub IsTextOf : Document → List ℕ → Type 0
 IsTextOf d text = depth d ≤ max_depth → Reads text d
 
--- the document is the schema: without descriptions they are the same, both validate the same documents, and so does each schema by
--- their definitions
-pub record IsSameSchema (schema document : Document) : Type 0 where
+-- the document is the schema: without notes they are the same, it is a schema of the profile once its defaults are left out, both validate the
+-- same documents, and so does each schema by their definitions
+pub record IsSameSchema (has_defaults : Bool) (schema document : Document) : Type 0 where
   pub plain : plain document ≡ plain schema
-  pub profile : IsSchema document
+  pub profile : IsSchema (if has_defaults then without_defaults document else document)
   pub validity : SameValidity schema document
   pub definitions : SameDefinitions schema document
 
@@ -38,17 +39,21 @@ pub record IsBare (layout : Layout) : Type 0 where
   pub whole : layout.is_openapi ≡ false
   pub compact : layout.is_pretty ≡ false
 
+-- how deep a schema nests at most where it is described, with defaults too or without
+abbrev pub deeper : Bool → ℕ → ℕ
+deeper has_defaults n = if has_defaults then suc most_nested + suc n else suc n
+
 -- what the text of a schema document is read as: the document, or its components
 abbrev pub asked_for : Layout → Document → Document
 asked_for layout d = if layout.is_openapi then components_of d else d
 
 -- the text is the schema as it is asked for. Where descriptions aren't asked for, it is the very schema; with them it nests a level
--- deeper at most. Its components are its definitions but for where references point: with these put back, they are the definitions
--- again. And where nothing is asked for, the text is the compact one
+-- deeper at most, and with defaults ten. Its components are its definitions but for where references point: with these put back, they are the
+-- definitions again. And where nothing is asked for, the text is the compact one
 pub record IsShaped (layout : Layout) (schema : Document) (text : List ℕ) : Type 0 where
   pub document : Document
-  pub same_schema : IsSameSchema schema document
-  pub nested : depth document ≤ suc (depth schema)
+  pub same_schema : IsSameSchema layout.has_defaults schema document
+  pub nested : depth document ≤ deeper layout.has_defaults (depth schema)
   pub same : layout.is_described ≡ false → document ≡ schema
   pub put_back : moved_named to_definition (moved_named to_component (definitions_in document)) ≡ definitions_in document
   pub written : IsTextOf (asked_for layout document) text

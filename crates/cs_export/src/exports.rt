@@ -50,7 +50,7 @@ pub fn export_all(alloc: Global, sources: &[&[u8]], layout: Layout) -> Result<Ve
     exported_all(alloc, sources, &notes, layout)
 }
 
-/// What [`export_root`] answers for the sources that are meant in a profile, with the comments of those that are given.
+/// What [`export_root`] answers for the sources that are meant in a profile, with the notes of those that are given.
 ///
 /// # Errors
 /// Those of `cs_widen::stands_for_in`, and then those of [`export_root`].
@@ -74,7 +74,7 @@ pub fn export_root_in(
     }
 }
 
-/// What [`export_all`] answers for the sources that are meant in a profile, with the comments of those that are given.
+/// What [`export_all`] answers for the sources that are meant in a profile, with the notes of those that are given.
 ///
 /// # Errors
 /// Those of `cs_widen::stands_for_in`, and then those of [`export_all`].
@@ -97,7 +97,7 @@ pub fn export_all_in(
     }
 }
 
-/// The same as [`export_root`], with these comments.
+/// The same as [`export_root`], with these notes.
 fn exported_root(
     alloc: Global,
     sources: &[&[u8]],
@@ -117,7 +117,7 @@ fn exported_root(
     shaped_text(alloc, &schema, notes, layout)
 }
 
-/// The same as [`export_all`], with these comments.
+/// The same as [`export_all`], with these notes.
 fn exported_all(
     alloc: Global,
     sources: &[&[u8]],

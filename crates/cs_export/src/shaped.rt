@@ -8,12 +8,12 @@ ghost use Rattle.cs_schema.specs.SchemaDocument.{document_of};
 ghost use Rattle.cs_schema.specs.Trim.{trim};
 ghost use Rattle.cs_schema.specs.Validity.{OneMeaning};
 ghost use Rattle.cs_export.specs.Components.{components_of};
-ghost use Rattle.cs_export.specs.Shaped.{IsShaped, IsSameSchema, IsTextOf};
+ghost use Rattle.cs_export.specs.Shaped.{IsShaped, IsSameSchema, IsTextOf, deeper};
 
 use crate::components::components;
 use crate::layout::Layout;
 use cs_comments::notes_of;
-use cs_describe::{Notes, described};
+use cs_describe::{Notes, described, with_defaults};
 use cs_document::Doc;
 use cs_json::{write_doc, write_pretty};
 use cs_schema::{SchemaDoc, to_doc};
@@ -21,10 +21,10 @@ use cs_tool::Fault;
 use std::alloc::Global;
 use std::collections::BTreeMap;
 
-/// The comments of definitions by their names, where they are asked for.
+/// The notes of definitions by their names, where they are asked for.
 pub(crate) type Comments = Option<BTreeMap<String, Notes>>;
 
-/// The comments of sources, if they are asked for.
+/// The notes of sources, if they are asked for.
 pub(crate) fn notes_if(alloc: Global, sources: &[&[u8]], layout: Layout) -> Result<Comments, Fault>
     ensures none { layout.is_described ≡ false → IfOk result (λ notes. notes ≡ None) }
     ensures memory { IsOkUnless result Fault.OutOfMemory }
@@ -50,22 +50,43 @@ pub(crate) fn shaped_text(
 {
     cs_schema::one_meaning(schema); // for the proof: there is one validity
     let plain = to_doc(alloc, schema)?;
-    let described = described_if(alloc, plain, notes)?;
+    let described = described_if(alloc, plain, notes, layout.has_defaults)?;
     let shaped = components_if(alloc, described, layout.is_openapi)?;
     text_of(alloc, &shaped, layout.is_pretty)
 }
 
-/// A schema with these comments.
-fn described_if(alloc: Global, doc: Doc, notes: &Comments) -> Result<Doc, Fault>
+/// A schema with these notes.
+fn described_if(alloc: Global, doc: Doc, notes: &Comments, has_defaults: bool) -> Result<Doc, Fault>
     ensures schema { IfOk result (λ d. IsSchema (doc_view doc) → OneMeaning (doc_view doc)
-        → IsSameSchema (doc_view doc) (doc_view d)) }
+        → IsSameSchema has_defaults (doc_view doc) (doc_view d)) }
     ensures same { notes.now ≡ None → IfOk result (λ d. d ≡ doc) }
-    ensures nested { IfOk result (λ d. depth (doc_view d) ≤ suc (depth (doc_view doc))) }
+    ensures nested { IfOk result (λ d. depth (doc_view d) ≤ deeper has_defaults (depth (doc_view doc))) }
     ensures memory { IsOkUnless result Fault.OutOfMemory }
 {
     match notes {
-        Some(notes) => Ok(described(alloc, doc, notes)?),
+        Some(notes) => noted(alloc, doc, notes, has_defaults),
         None => Ok(doc),
+    }
+}
+
+/// A schema with descriptions, and with defaults if they are asked for.
+fn noted(
+    alloc: Global,
+    doc: Doc,
+    notes: &BTreeMap<String, Notes>,
+    has_defaults: bool,
+) -> Result<Doc, Fault>
+    ensures schema { IfOk result (λ d. IsSchema (doc_view doc)
+        → IsSameSchema has_defaults (doc_view doc) (doc_view d)) }
+    ensures nested { IfOk result (λ d. depth (doc_view d) ≤ deeper has_defaults (depth (doc_view doc))) }
+    ensures memory { IsOkUnless result Fault.OutOfMemory }
+{
+    let plainly = described(alloc, doc, notes)?;
+    if has_defaults {
+        let noted = with_defaults(alloc, plainly, notes)?;
+        Ok(noted)
+    } else {
+        Ok(plainly)
     }
 }
 

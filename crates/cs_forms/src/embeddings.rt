@@ -1,13 +1,14 @@
 // Forms of embeddings that the wide profile refuses, by what is embedded (11).
 use crate::forms::{Form, Found};
 use crate::together::{closed_around, is_put_together};
+use crate::values::Value;
 use cs_grammar::Profile;
-use cs_sources::{Declared, Near, Part, Separator, Source, declared_in};
+use cs_sources::{Brought, Declared, Near, Part, Separator, Source, declared_in};
 use std::alloc::{AllocError, Global};
 
 /// How many literals around a value are left for the one that embeds the others. No more than 28 may be open.
 const MOST_AROUND: usize = 32;
-/// How many fields are compared with those before them.
+/// How many fields are compared.
 const MOST_COMPARED: usize = 1_000;
 /// How many of the definitions that are met first are asked whether they embed themselves: each is followed as far as it goes.
 const MOST_ASKED: usize = 2;
@@ -56,9 +57,9 @@ pub fn form_not_opened(
         Profile::Default if is_put_together(alloc, near, sources)? => Form::Joined,
         Profile::Default => Form::NotOpened,
         Profile::Wide => match flaw_of_embedding(alloc, near, sources)? {
-            Some(flaw) => flaw.form,
-            None if closed_around(near).is_some() => Form::ClosedOperand,
-            None => Form::NotOpened,
+            Some(flaw) if !matches!(flaw.form, Form::NotOpened) => flaw.form,
+            _ if closed_around(near).is_some() => Form::ClosedOperand,
+            _ => Form::NotOpened,
         },
     };
     Ok(Found::at(near, form))
@@ -91,7 +92,8 @@ fn flaw_at<'t>(
     }
 }
 
-/// That a field is declared twice where something is embedded, or where `&` joins literals: this one, or any where none is given.
+/// That a field is declared twice where something is embedded, or where `&` joins literals: this one, or any where none is given. The form says
+/// whether one value would open the other.
 fn flaw_beside<'t>(
     alloc: Global,
     declared: &'t Declared<'t, 't>,
@@ -101,15 +103,17 @@ fn flaw_beside<'t>(
     let Some((literal, is_joined)) = literal_around(near) else {
         return Ok(None);
     };
-    let joined = declared.embedded(alloc, literal)?;
+    let joined = declared.embedded(alloc, Brought::itself(literal))?;
     let has_others = is_joined || !joined.definitions.is_empty();
     let is_alone = !has_others && !near.stands_beside_embeddings();
-    match declared_twice(&joined.fields, field) {
-        Some(declaration) if !is_alone => {
-            Ok(Some(Flaw::of_label(Form::EmbeddedTwice, declaration)))
-        }
-        _ => Ok(None),
+    if is_alone {
+        return Ok(None);
     }
+    if let Some(declaration) = opened_twice(alloc, &joined.fields, field)? {
+        return Ok(Some(Flaw::of_label(Form::EmbeddedTwice, declaration)));
+    }
+    let twice = declared_twice(&joined.fields, field);
+    Ok(twice.map(|declaration| Flaw::of_label(Form::NotOpened, declaration)))
 }
 
 /// What can't be embedded in an expression: a part of it that is no struct, or a definition that embeds itself.
@@ -118,7 +122,7 @@ fn flaw_inside<'t>(
     declared: &'t Declared<'t, 't>,
     embedded: Part<'t, 't>,
 ) -> Result<Option<Flaw>, AllocError> {
-    let found = declared.embedded(alloc, embedded)?;
+    let found = declared.embedded(alloc, Brought::itself(embedded))?;
     for name in found.definitions.iter().take(MOST_ASKED) {
         if declared.embeds_itself(alloc, *name)?
             && let Some(label) = declared.of(*name)
@@ -164,12 +168,12 @@ fn literal_around<'t>(near: Near<'t, 't>) -> Option<(Part<'t, 't>, bool)> {
 
 /// The declaration of a field that may be declared twice: this one, or the first of any where none is given.
 fn declared_twice<'t>(
-    fields: &[Part<'t, 't>],
+    fields: &[Brought<'t, 't>],
     field: Option<Part<'t, 't>>,
 ) -> Option<Part<'t, 't>> {
     for (place, other) in fields.iter().enumerate().take(MOST_COMPARED) {
         let is_meant = match field {
-            Some(field) => field.may_share_key(*other),
+            Some(field) => field.may_share_key(other.part),
             None => true,
         };
         let behind = place.saturating_add(1);
@@ -178,10 +182,37 @@ fn declared_twice<'t>(
             && others
                 .iter()
                 .take(MOST_COMPARED)
-                .any(|next| next.may_share_key(*other))
+                .any(|next| next.part.may_share_key(other.part))
         {
-            return Some(field.unwrap_or(*other));
+            return Some(field.unwrap_or(other.part));
         }
     }
     None
+}
+
+/// The same where one value would open the other.
+fn opened_twice<'t>(
+    alloc: Global,
+    fields: &[Brought<'t, 't>],
+    field: Option<Part<'t, 't>>,
+) -> Result<Option<Part<'t, 't>>, AllocError> {
+    let mut values = Vec::new(alloc);
+    for declaration in fields.iter().take(MOST_COMPARED) {
+        let value = Value::of(declaration.part);
+        if value.holds {
+            values.push(value)?;
+        }
+    }
+    for (place, value) in values.iter().enumerate() {
+        let is_meant = match field {
+            Some(field) => field.may_share_key(value.declaration),
+            None => true,
+        };
+        let behind = place.saturating_add(1);
+        let others = values.get(behind..).unwrap_or(&[]);
+        if is_meant && others.iter().any(|other| other.opens(*value)) {
+            return Ok(Some(field.unwrap_or(value.declaration)));
+        }
+    }
+    Ok(None)
 }

@@ -8,6 +8,7 @@ mod names;
 mod stuck;
 mod syntax;
 mod together;
+mod values;
 mod words;
 
 pub use defaults::form_left_out_in;

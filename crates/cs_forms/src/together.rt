@@ -1,6 +1,6 @@
 // Struct literals that `&` joins: those that the wide profile puts together, and those beside what a definition closed (11).
 use cs_grammar::Sort;
-use cs_sources::{Declared, Inside, Near, Part, Separator, Source, declared_in, is_mark};
+use cs_sources::{Brought, Declared, Inside, Near, Part, Separator, Source, declared_in, is_mark};
 use std::alloc::{AllocError, Global};
 
 /// How many brackets around a literal are left. No more than 28 may be open.
@@ -80,12 +80,14 @@ fn are_put_together<'t>(
     if operands.to.saturating_sub(operands.from) > MOST_TOKENS {
         return Ok(false);
     }
-    let found = declared.embedded(alloc, operands)?;
+    let found = declared.embedded(alloc, Brought::itself(operands))?;
     let mut holding = found.fields;
-    holding.retain(|field| holds(*field));
+    holding.retain(|field| holds(field.part));
     let is_apart = holding.iter().enumerate().take(MOST_COMPARED).all(|(place, field)| {
         let others = holding.get(place.saturating_add(1)..).unwrap_or(&[]);
-        !others.iter().any(|other| other.may_share_key(*field))
+        !others
+            .iter()
+            .any(|other| other.part.may_share_key(field.part))
     });
     Ok(found.other.is_none() && holding.len() <= MOST_COMPARED && is_apart)
 }

@@ -1,5 +1,6 @@
 // The words of definitions: where causes lead, and what is wrong with a value by a cause that leads nowhere.
-use crate::walk::{Node, name_of, place_of, put_label};
+use crate::places::Places;
+use crate::walk::{Node, embedding_of, name_of, place_of, put_label};
 use crate::wants::{KINDS, mismatch_words, put_alternatives, put_shape};
 use cs_flat::{Flat, Item};
 use cs_instance::RootRules;
@@ -18,7 +19,7 @@ pub(crate) struct Definitions<'t> {
     flat: &'t Flat<'t>,
     package: &'t Package,
     root: usize,
-    sources: &'t Declared<'t, 't>,
+    places: Places<'t>,
     /// How many more labels are compared with keys that aren't allowed.
     comparisons: usize,
 }
@@ -66,7 +67,7 @@ impl<'t> Definitions<'t> {
             flat,
             package: guarded.package(),
             root,
-            sources,
+            places: Places::new(alloc, sources),
             comparisons: MOST_COMPARISONS,
         }
     }
@@ -145,7 +146,7 @@ impl<'t> Words<'t> for Definitions<'t> {
     }
 
     fn inside(
-        &self,
+        &mut self,
         node: Node<'t>,
         _item: usize,
         cause: &InstanceCause,
@@ -153,13 +154,13 @@ impl<'t> Words<'t> for Definitions<'t> {
     ) -> Result<Node<'t>, AllocError> {
         match cause {
             InstanceCause::Part { place, .. } => {
-                node.part(self.package, self.sources, *place, path)
+                node.part(self.package, &mut self.places, *place, path)
             }
             InstanceCause::Alternative { place, .. } => {
-                Ok(node.operand(self.sources, Separator::Bar, *place))
+                Ok(node.operand(&self.places, Separator::Bar, *place))
             }
             InstanceCause::Member { declaration, .. } => {
-                node.member(self.sources, *declaration, path)
+                node.member(&mut self.places, *declaration, path)
             }
             InstanceCause::Element { place, .. } => node.element(*place, path),
             InstanceCause::Unmet
@@ -181,10 +182,11 @@ impl<'t> Words<'t> for Definitions<'t> {
     ) -> Result<Option<Finding<'t>>, AllocError> {
         let value = item_at(self.flat, item);
         let fixed = node.fixed_count();
-        let mut source = node.source;
+        let mut source = self.places.first(node.source);
         let mut finding = match cause {
             InstanceCause::Missing { declaration, .. } => {
-                source = node.declaration(self.alloc, self.sources, *declaration)?;
+                let field = node.field(&mut self.places, *declaration)?;
+                source = field.map(|field| field.declaration);
                 self.missing(node.parts().get(*declaration), path)?
             }
             InstanceCause::Extra { member, .. } => self.extra(node.parts(), item, *member)?,
@@ -200,7 +202,8 @@ impl<'t> Words<'t> for Definitions<'t> {
             | InstanceCause::Element { .. } => unmet(self.alloc, value, node.shape)?,
         };
         finding.definition = name_of(self.package, node.definition);
-        finding.source = place_of(source);
+        finding.source = source.and_then(place_of);
+        finding.embedded = source.and_then(embedding_of);
         Ok(Some(finding))
     }
 }

@@ -2,6 +2,7 @@
 #![tactic(auto)]
 
 mod definitions;
+mod places;
 mod reports;
 mod walk;
 mod wants;

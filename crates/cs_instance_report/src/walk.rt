@@ -1,9 +1,10 @@
 // Steps from a rule to what it is made of: in the package and in the sources, with the path.
+use crate::places::{Field, Origin, Places};
 use cs_package::{FieldMark, Package, Part, Shape, ShapeEnd};
 use cs_place::{Position, put_quoted};
 use cs_reason_words::{SourcePlace, put_number};
-use cs_sources::{Alternative, Declared, ONLY, Part as SourcePart, Separator};
-use std::alloc::{AllocError, Global};
+use cs_sources::{Alternative, Brought, ONLY, Part as SourcePart, Separator, Source};
+use std::alloc::AllocError;
 
 /// What a rule is.
 #[derive(Clone, Copy, Drop)]
@@ -12,8 +13,8 @@ pub(crate) struct Node<'t> {
     pub(crate) definition: usize,
     /// The expression in it; none for the definition itself.
     pub(crate) shape: Option<&'t Shape>,
-    /// The expression in the sources, where that was found.
-    pub(crate) source: Option<SourcePart<'t, 't>>,
+    /// What it stands for in the sources.
+    pub(crate) source: Origin<'t>,
     /// Which of the alternatives of that, where it is put together.
     alternative: Alternative,
 }
@@ -32,16 +33,26 @@ pub(crate) fn name_of(package: &Package, definition: usize) -> &str {
     declared(package, definition).0
 }
 
-/// Where a part of the sources begins. The line and the column aren't looked for yet.
-pub(crate) fn place_of<'t>(part: Option<SourcePart<'_, 't>>) -> Option<SourcePlace<'t>> {
-    let part = part?;
-    let source = part.source;
-    Some(SourcePlace {
+/// The place of an offset in a source. The line and the column aren't looked for yet.
+fn place_at<'t>(source: &Source<'t>, offset: usize) -> SourcePlace<'t> {
+    SourcePlace {
         file: source.named.name,
         number: source.file,
-        offset: part.offset()?,
+        offset,
         position: Position { line: 1, column: 1 },
-    })
+    }
+}
+
+/// Where a part of the sources begins.
+pub(crate) fn place_of<'t>(found: Brought<'_, 't>) -> Option<SourcePlace<'t>> {
+    let offset = found.part.offset()?;
+    Some(place_at(found.part.source, offset))
+}
+
+/// Where the reference is that brought a part of the sources, if one did.
+pub(crate) fn embedding_of<'t>(found: Brought<'_, 't>) -> Option<SourcePlace<'t>> {
+    let reference = found.by?;
+    Some(place_at(reference.source, reference.here().start))
 }
 
 /// Whether a label needs no quotes.
@@ -49,14 +60,6 @@ fn is_plain(label: &str) -> bool {
     let begins_plain = matches!(label.as_bytes(), [b'a'..=b'z' | b'A'..=b'Z' | b'_' | b'$', ..]);
     begins_plain
         && label.bytes().all(|x| matches!(x, b'a'..=b'z' | b'A'..=b'Z' | b'0'..=b'9' | b'_' | b'$'))
-}
-
-/// The label of a declaration; none where that is `[string]`.
-fn label_of(part: &Part) -> Option<&str> {
-    match part.mark {
-        FieldMark::Every { .. } => None,
-        _ => Some(part.label.as_str()),
-    }
 }
 
 /// Puts the step of a path to what a declaration declares.
@@ -84,13 +87,13 @@ impl<'t> Node<'t> {
         Ok(Node {
             definition,
             shape: None,
-            source: None,
+            source: Origin::Unknown,
             alternative: ONLY,
         })
     }
 
     /// What is inside it.
-    fn to(self, shape: Option<&'t Shape>, source: Option<SourcePart<'t, 't>>) -> Node<'t> {
+    fn to(self, shape: Option<&'t Shape>, source: Origin<'t>) -> Node<'t> {
         Node {
             definition: self.definition,
             shape,
@@ -99,23 +102,35 @@ impl<'t> Node<'t> {
         }
     }
 
+    /// Its expression in the sources, where that is one.
+    fn value(self) -> Option<Brought<'t, 't>> {
+        match self.source {
+            Origin::Value(found) => Some(found),
+            Origin::Unknown | Origin::Together { .. } => None,
+        }
+    }
+
+    /// A part of its expression in the sources, which the same reference brought.
+    fn inner(self, part: Option<SourcePart<'t, 't>>) -> Option<Brought<'t, 't>> {
+        Some(self.value()?.inner(part?))
+    }
+
     /// A body of a definition, an operand of `&`, or the definition that a reference names.
     pub(crate) fn part(
         self,
         package: &'t Package,
-        sources: &'t Declared<'t, 't>,
+        places: &mut Places<'t>,
         place: usize,
         path: &mut String,
     ) -> Result<Node<'t>, AllocError> {
         match self.shape {
             None => {
                 let (name, bodies) = declared(package, self.definition);
-                let declaration = sources.nth(name, place);
-                let source = declaration.and_then(|found| found.part().declared());
-                Ok(self.to(bodies.get(place), source))
+                let body = places.body(self.definition, name, place, bodies.len())?;
+                Ok(self.to(bodies.get(place), body))
             }
             Some(Shape::Definition(definition)) => Node::of(package, *definition, path),
-            Some(_) => Ok(self.operand(sources, Separator::Amp, place)),
+            Some(_) => Ok(self.operand(places, Separator::Amp, place)),
         }
     }
 
@@ -127,27 +142,28 @@ impl<'t> Node<'t> {
         }
     }
 
-    /// The expression in the sources that it is put together from: a literal with embeddings, or operands of `&`. Those that aren't put
+    /// Whether it is put together: from a literal with embeddings, from operands of `&`, or from several values. Operands that aren't put
     /// together are a conjunction here too.
-    fn united(self, sources: &Declared<'_, '_>) -> Option<SourcePart<'t, 't>> {
-        let found = self.source?;
-        let is_conjunction = matches!(self.shape, Some(Shape::And(_)));
-        let is_united = !is_conjunction && found.is_conjunction() || sources.embeds(found);
-        is_united.then_some(found)
+    fn is_united(self, places: &Places<'t>) -> bool {
+        match self.source {
+            Origin::Unknown => false,
+            Origin::Together { .. } => true,
+            Origin::Value(found) => {
+                let is_conjunction = matches!(self.shape, Some(Shape::And(_)));
+                !is_conjunction && found.part.is_conjunction() || places.embeds(found)
+            }
+        }
     }
 
     /// The operand at a place. All alternatives of what is put together are that whole expression.
     pub(crate) fn operand(
         self,
-        sources: &Declared<'_, '_>,
+        places: &Places<'t>,
         separator: Separator,
         place: usize,
     ) -> Node<'t> {
         let shape = self.operands().get(place);
-        let Some(found) = self.source else {
-            return self.to(shape, None);
-        };
-        if self.united(sources).is_some() {
+        if self.is_united(places) {
             let alternative = Alternative {
                 number: place,
                 count: self.operands().len(),
@@ -158,7 +174,10 @@ impl<'t> Node<'t> {
                 ..self
             };
         }
-        self.to(shape, found.operand(separator, place))
+        let operand = self
+            .value()
+            .and_then(|found| found.part.operand(separator, place));
+        self.to(shape, Origin::of(self.inner(operand)))
     }
 
     /// The declarations of a struct literal.
@@ -169,37 +188,34 @@ impl<'t> Node<'t> {
         }
     }
 
-    /// Where the declaration at a place is written.
-    pub(crate) fn declaration(
+    /// Its field at a place: where that is declared, and by which reference in the definition: the first one on the way. That of a literal as it is
+    /// written stands at the same place there.
+    pub(crate) fn field(
         self,
-        alloc: Global,
-        sources: &'t Declared<'t, 't>,
+        places: &mut Places<'t>,
         place: usize,
-    ) -> Result<Option<SourcePart<'t, 't>>, AllocError> {
-        let Some(found) = self.united(sources) else {
-            return Ok(self.source.and_then(|found| found.declaration(place)));
-        };
-        let Some(part) = self.parts().get(place) else {
-            return Ok(None);
-        };
-        let label = label_of(part);
-        match sources.joined(alloc, found, self.alternative, place)? {
-            Some(declaration) if declaration.begins_with_label(label) => Ok(Some(declaration)),
-            Some(_) => Ok(None),
-            None => sources.joined_once(alloc, found, label),
+    ) -> Result<Option<Field<'t>>, AllocError> {
+        let parts = self.parts();
+        if let Origin::Value(found) = self.source
+            && found.part.declarations() == parts.len()
+            && !self.is_united(places)
+        {
+            let declaration = self.inner(found.part.declaration(place));
+            return Ok(declaration.map(Field::once));
         }
+        places.field(self.source, self.alternative, parts, place)
     }
 
     /// What the declaration at a place declares.
     pub(crate) fn member(
         self,
-        sources: &'t Declared<'t, 't>,
+        places: &mut Places<'t>,
         place: usize,
         path: &mut String,
     ) -> Result<Node<'t>, AllocError> {
-        let source = match self.declaration(*path.allocator(), sources, place)? {
-            Some(declaration) => declaration.declared(),
-            None => None,
+        let source = match self.field(places, place)? {
+            Some(field) => field.value,
+            None => Origin::Unknown,
         };
         let Some(part) = self.parts().get(place) else {
             return Ok(self.to(None, source));
@@ -219,7 +235,7 @@ impl<'t> Node<'t> {
     /// What is asked of the element at a place.
     pub(crate) fn element(self, place: usize, path: &mut String) -> Result<Node<'t>, AllocError> {
         let Some(Shape::List { front, end }) = self.shape else {
-            return Ok(self.to(None, None));
+            return Ok(self.to(None, Origin::Unknown));
         };
         let fixed = front.len();
         let shape = match end {
@@ -227,9 +243,9 @@ impl<'t> Node<'t> {
             ShapeEnd::Each(shape) => Some(&**shape),
             ShapeEnd::Closed | ShapeEnd::Any => None,
         };
-        let source = match self.source {
-            Some(found) if place < fixed => found.element(place),
-            Some(found) => found.list_end(fixed),
+        let element = match self.value() {
+            Some(found) if place < fixed => found.part.element(place),
+            Some(found) => found.part.list_end(fixed),
             None => None,
         };
         path.push('[')?;
@@ -237,6 +253,6 @@ impl<'t> Node<'t> {
             put_number(path, place)?;
         }
         path.push(']')?;
-        Ok(self.to(shape, source))
+        Ok(self.to(shape, Origin::of(self.inner(element))))
     }
 }

@@ -38,13 +38,37 @@ pub struct SourcePlace<'t> {
     pub position: Position,
 }
 
+/// A place for the order of entries: by file, then by offset; first where there is none.
+type Order = (usize, usize);
+
+fn order_of(place: &Option<SourcePlace<'_>>) -> Order {
+    match place {
+        None => (0, 0),
+        Some(place) => (place.number, place.offset),
+    }
+}
+
 impl Entry<'_> {
-    /// The place of the rule for the order of entries: by file, then by offset; first where it wasn't found.
-    fn rule_order(&self) -> (usize, usize) {
-        match &self.finding.source {
-            None => (0, 0),
-            Some(place) => (place.number, place.offset),
-        }
+    /// The places for the order of entries: of the value, of the rule, and of the embedding that brought it.
+    fn order(&self) -> (usize, Order, Order) {
+        let finding = &self.finding;
+        (
+            self.offset,
+            order_of(&finding.source),
+            order_of(&finding.embedded),
+        )
+    }
+
+    /// Whether it is told as another one is: several alternatives may have one declaration, which an embedding brought into each.
+    pub(crate) fn repeats(&self, other: &Entry<'_>) -> bool {
+        let (way, others) = (&self.way, &other.way);
+        self.finding.source.is_some()
+            && self.order() == other.order()
+            && way.depth == others.depth
+            && way.pointer.as_str() == others.pointer.as_str()
+            && way.rule.as_str() == others.rule.as_str()
+            && way.alternative.as_str() == others.alternative.as_str()
+            && self.finding.text.as_str() == other.finding.text.as_str()
     }
 
     /// How many bytes its texts have.
@@ -62,9 +86,9 @@ impl Entry<'_> {
     }
 }
 
-/// Sorts entries by the place in the document, then by that of the rule.
+/// Sorts entries by the place in the document, then by that of the rule, and then by that of the embedding.
 pub(crate) fn sort_entries(entries: &mut Vec<Entry<'_>>) -> Result<(), AllocError> {
-    entries.sort_by_key(|entry| (entry.offset, entry.rule_order()))
+    entries.sort_by_key(|entry| entry.order())
 }
 
 /// The line and the column of an offset in a document, whose first line has a number.
@@ -77,8 +101,17 @@ pub fn position_in(document: Named<'_>, positions: &mut Positions<'_>, offset: u
     }
 }
 
-/// Gives entries the lines and columns of their rules, where these were found in sources: each is read once, up to the last of them.
-/// The entries are sorted by their rules then.
+/// Gives a place in a source its line and its column.
+fn find_position(files: &mut Vec<Positions<'_>>, place: &mut Option<SourcePlace<'_>>) {
+    if let Some(place) = place
+        && let Some(positions) = files.get_mut(place.number)
+    {
+        place.position = positions.at(place.offset);
+    }
+}
+
+/// Gives entries the lines and columns of their rules, where these were found in sources: each is read once, up to the last of them, and
+/// once more for embeddings. The entries are in another order then.
 pub(crate) fn place_rules(
     alloc: Global,
     sources: &[Named<'_>],
@@ -88,13 +121,24 @@ pub(crate) fn place_rules(
     for source in sources {
         files.push(Positions::new(source.text))?;
     }
-    entries.sort_by_key(|entry| entry.rule_order())?;
+    entries.sort_by_key(|entry| order_of(&entry.finding.source))?;
     for entry in entries.iter_mut() {
-        if let Some(rule) = &mut entry.finding.source
-            && let Some(positions) = files.get_mut(rule.number)
-        {
-            rule.position = positions.at(rule.offset);
-        }
+        find_position(&mut files, &mut entry.finding.source);
+    }
+    place_embeddings(&mut files, entries)
+}
+
+/// Gives entries the lines and columns of the embeddings that brought their rules.
+fn place_embeddings(
+    files: &mut Vec<Positions<'_>>,
+    entries: &mut Vec<Entry<'_>>,
+) -> Result<(), AllocError> {
+    if entries.iter().all(|entry| entry.finding.embedded.is_none()) {
+        return Ok(());
+    }
+    entries.sort_by_key(|entry| order_of(&entry.finding.embedded))?;
+    for entry in entries.iter_mut() {
+        find_position(files, &mut entry.finding.embedded);
     }
     Ok(())
 }

@@ -25,6 +25,8 @@ pub struct Finding<'t> {
     pub definition: &'t str,
     /// Where the rule is in its text, if it was found.
     pub source: Option<SourcePlace<'t>>,
+    /// Where the definition that it stands in is embedded, if its rule came from there into the one that is told.
+    pub embedded: Option<SourcePlace<'t>>,
 }
 
 impl<'t> Finding<'t> {
@@ -39,6 +41,7 @@ impl<'t> Finding<'t> {
             kind: "",
             definition: "",
             source: None,
+            embedded: None,
         }
     }
 

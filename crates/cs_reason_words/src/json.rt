@@ -1,8 +1,18 @@
 // Reasons as JSON for programs.
-use crate::entry::Entry;
+use crate::entry::{Entry, SourcePlace};
 use crate::wording::put_between;
+use cs_place::put_quoted;
 use cs_text::{put_count, put_string};
 use std::alloc::AllocError;
+
+/// Puts the member with the place of an embedding.
+fn put_embedded(text: &mut String, place: SourcePlace<'_>) -> Result<(), AllocError> {
+    text.push_str(",\"embedded\":{\"file\":")?;
+    put_quoted(text, place.file)?;
+    put_count(text, "line", place.position.line)?;
+    put_count(text, "column", place.position.column)?;
+    text.push('}')
+}
 
 /// Puts the object of an entry.
 fn put_entry(text: &mut String, entry: &Entry<'_>) -> Result<(), AllocError> {
@@ -27,6 +37,9 @@ fn put_entry(text: &mut String, entry: &Entry<'_>) -> Result<(), AllocError> {
         put_string(text, "file", place.file)?;
         put_count(text, "sourceLine", place.position.line)?;
         put_count(text, "sourceColumn", place.position.column)?;
+    }
+    if let Some(place) = finding.embedded {
+        put_embedded(text, place)?;
     }
     text.push('}')
 }

@@ -2,18 +2,27 @@
 ghost use Rattle.std.specs.Prelude.{OnOk, string_bytes};
 ghost use Rattle.cs_reason_words.specs.Valid.{EndsInLine};
 
-use crate::entry::Entry;
+use crate::entry::{Entry, SourcePlace};
 use cs_place::{Named, put_place, put_shown};
 use cs_text::{put_all, put_number};
 use std::alloc::AllocError;
 
-/// Puts what says no: its place in the source, its path, and the alternative.
+/// Puts a place in a source.
+fn put_source(text: &mut String, place: SourcePlace<'_>) -> Result<(), AllocError> {
+    put_place(text, place.file, place.position.line, place.position.column)
+}
+
+/// Puts what says no: its place in the source, its path, where it is embedded, and the alternative.
 fn put_rule(text: &mut String, entry: &Entry<'_>) -> Result<(), AllocError> {
-    if let Some(place) = &entry.finding.source {
-        put_place(text, place.file, place.position.line, place.position.column)?;
+    if let Some(place) = entry.finding.source {
+        put_source(text, place)?;
         text.push(' ')?;
     }
     put_shown(text, entry.way.rule.as_str())?;
+    if let Some(place) = entry.finding.embedded {
+        text.push_str(", embedded at ")?;
+        put_source(text, place)?;
+    }
     if entry.way.alternative.is_empty() {
         return Ok(());
     }

@@ -64,7 +64,7 @@ fn are_new(alloc: Global, entries: &[Entry<'_>]) -> Result<Vec<bool>, AllocError
 impl Told<'_> {
     /// Leaves the first entries, at most so many, in the order of the document, where they are given in the order in which their reasons were
     /// found. What several say of one value by one alternative is told once, by the first of them; and that a key is missing isn't told where
-    /// another one is told to be its misspelling.
+    /// another one is told to be its misspelling. A line that several alternatives have alike is told once.
     pub(crate) fn keep_new(&mut self, alloc: Global, most: usize) -> Result<(), AllocError> {
         let mut kept = are_new(alloc, &self.entries)?.into_iter();
         self.entries.retain(|_| kept.next() == Some(true));
@@ -72,6 +72,7 @@ impl Told<'_> {
             entry.offset = self.targets.offset(entry.value, entry.finding.key);
         }
         sort_entries(&mut self.entries)?;
+        self.entries.dedup_by(|entry, before| entry.repeats(before));
         let cut = self.entries.len().saturating_sub(most);
         self.more = self.more.saturating_add(cut);
         self.entries.truncate(most);

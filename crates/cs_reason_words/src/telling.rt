@@ -59,7 +59,7 @@ fn tell<'t, W: Words<'t>>(
         return Ok(0);
     };
     let alloc = *told.entries.allocator();
-    let (node, mut way) = walk_to(alloc, &*words, links, reason.link)?;
+    let (node, mut way) = walk_to(alloc, words, links, reason.link)?;
     let steps = way.steps.saturating_mul(STEP);
     let found = words.finding(node, link.item, link.rule, &reason.cause, &mut way.rule)?;
     let Some(finding) = found else {

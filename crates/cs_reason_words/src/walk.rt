@@ -70,7 +70,7 @@ pub fn chain_to<C: Drop>(
 /// The rule of the link at a place, and the way to it.
 pub fn walk_to<'t, W: Words<'t>>(
     alloc: Global,
-    words: &W,
+    words: &mut W,
     links: &[Link<W::Cause>],
     place: usize,
 ) -> Result<(W::Node, Way), AllocError> {

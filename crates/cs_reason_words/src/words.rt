@@ -25,7 +25,7 @@ pub trait Words<'t>: Drop {
 
     /// The rule that a cause of an item leads to from another one, to which the path is led on.
     fn inside(
-        &self,
+        &mut self,
         node: Self::Node,
         item: usize,
         cause: &Self::Cause,

@@ -7,7 +7,7 @@ mod replaced;
 use crate::failure::Failure;
 use crate::replaced::replace_file;
 use clap::ArgMatches;
-use cs_export::{Layout, export_all_in, export_root_in, write_all_in, write_root_in};
+use cs_export::{Layout, Profile, export_all_in, export_root_in, write_all_in, write_root_in};
 use cs_reason_words::Form;
 use cs_run_input::{Unread, files_of, named, profile_of, root_of, sources_of, told_form, word_of};
 use cs_run_refusals::{about_input, about_sources, or_told, or_unread};
@@ -38,6 +38,7 @@ fn is_shaped(words: &ArgMatches<'_>) -> bool {
 fn layout_of(words: &ArgMatches<'_>) -> Layout {
     Layout {
         is_described: words.get_flag("describe"),
+        has_defaults: profile_of(words) == Profile::Wide,
         is_openapi: words.get_flag("openapi"),
         is_pretty: words.get_flag("pretty"),
     }

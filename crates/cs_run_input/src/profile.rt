@@ -1,7 +1,7 @@
-// The profile that the words ask for, and what sources stand for in it.
+// The profile that the words ask for, and what sources and schemas stand for in it.
 use clap::ArgMatches;
 use cs_tool::{Fault, Rules, slices_of};
-use cs_widen::{Profile, stands_for_in};
+use cs_widen::{Profile, schema_stands_for_in, stands_for_in};
 use std::alloc::Global;
 
 /// The profile that the words ask for: the default one where they name none.
@@ -22,14 +22,14 @@ pub fn meant_source(
     Ok(stands_for_in(alloc, profile_of(words), &texts)?.map(String::into_bytes))
 }
 
-/// The rules that the sources of rules stand for; `None` where they stand for themselves, and for a schema.
+/// The rules that the sources or the schema of rules stand for; `None` where they stand for themselves.
 pub fn meant_rules(
     alloc: Global,
     words: &ArgMatches<'_>,
     rules: &Rules,
 ) -> Result<Option<Rules>, Fault> {
     let (given, root) = match rules {
-        Rules::Schema { .. } => return Ok(None),
+        Rules::Schema { schema } => return meant_schema(alloc, words, schema),
         Rules::Root { sources, root } | Rules::Both { sources, root } => (sources, root),
     };
     let Some(meant) = meant_source(alloc, words, given)? else {
@@ -40,4 +40,14 @@ pub fn meant_rules(
         Rules::Both { .. } => Rules::Both { sources, root },
         Rules::Root { .. } | Rules::Schema { .. } => Rules::Root { sources, root },
     }))
+}
+
+/// The schema that a schema stands for in the profile that the words ask for.
+fn meant_schema(
+    alloc: Global,
+    words: &ArgMatches<'_>,
+    schema: &[u8],
+) -> Result<Option<Rules>, Fault> {
+    let meant = schema_stands_for_in(alloc, profile_of(words), schema)?;
+    Ok(meant.map(|schema| Rules::Schema { schema }))
 }

@@ -8,7 +8,9 @@ mod widened;
 
 use clap::ArgMatches;
 pub use compared::compare;
-use cs_check::{Checked, Findings, schema_findings, source_findings, wide_findings};
+use cs_check::{
+    Checked, Findings, schema_findings, source_findings, wide_findings, wide_schema_findings,
+};
 use cs_fault_words::explained;
 use cs_place::Named;
 use cs_reason_words::Form;
@@ -32,7 +34,7 @@ const FAULTY: u8 = 2;
 /// The status of `check`. Which file can't be read is told.
 pub fn check(rt: &HostRuntime, words: &ArgMatches<'_>) -> Result<u8, Fault> {
     let answer = match words.get_str("schema") {
-        Some(path) => check_schema(rt, path),
+        Some(path) => check_schema(rt, words, path),
         None => check_sources(rt, words),
     };
     let form = match answer {
@@ -56,14 +58,18 @@ fn check_sources(rt: &HostRuntime, words: &ArgMatches<'_>) -> Result<u8, Fault> 
 }
 
 /// The status after all faults of a schema.
-fn check_schema(rt: &HostRuntime, path: &str) -> Result<u8, Fault> {
+fn check_schema(rt: &HostRuntime, words: &ArgMatches<'_>, path: &str) -> Result<u8, Fault> {
     let text = read_input(rt, path)?;
     let schema = Named {
         name: path,
         text: text.as_slice(),
         line: 1,
     };
-    write_findings(rt, &schema_findings(rt.alloc(), schema)?, false)
+    let findings = match profile_of(words) {
+        Profile::Default => schema_findings(rt.alloc(), schema)?,
+        Profile::Wide => wide_schema_findings(rt.alloc(), schema)?,
+    };
+    write_findings(rt, &findings, false)
 }
 
 /// Writes what was found. The status of it, where warnings count and where they don't.

@@ -160,19 +160,32 @@ impl<'s, 'a> Part<'s, 'a> {
         }
     }
 
-    /// Whether it may begin with a label: with `[` where there is none. Texts with escapes aren't read.
-    pub fn begins_with_label(self, label: Option<&str>) -> bool {
-        let Some(first) = self.first() else {
-            return false;
-        };
-        let token = first.here();
-        match label {
-            None => is_mark(token, "["),
-            Some(label) if token.sort == Sort::Text => {
-                token.text.contains('\\') || token.text.trim_matches('"') == label
-            }
-            Some(label) => token.text == label,
+    /// The label that it begins with, without quotes, behind whether that is `[string]`, which has none; nothing where it has escapes, which
+    /// aren't read.
+    pub fn label(self) -> Option<(bool, &'a str)> {
+        let token = self.first()?.here();
+        if is_mark(token, "[") {
+            return Some((true, ""));
         }
+        let is_read = token.sort != Sort::Text || !token.text.contains('\\');
+        is_read.then_some((false, token.text.trim_matches('"')))
+    }
+
+    /// How many declarations it has, but for `...` at the end: those of a struct literal, or the one field of a short form.
+    pub fn declarations(self) -> usize {
+        let Some(inner) = self.bare().inside("{") else {
+            return 1;
+        };
+        if inner.first().is_none() {
+            return 0;
+        }
+        let last = self.source.token(inner.to.saturating_sub(1));
+        let is_comma = last.sort == Sort::Inserted || is_mark(last, ",");
+        let end = inner.to.saturating_sub(usize::from(is_comma));
+        let is_open = is_mark(self.source.token(end.saturating_sub(1)), "...");
+        let behind = usize::from(is_comma).saturating_add(usize::from(is_open));
+        let count = inner.count(Separator::Comma).saturating_add(1);
+        count.saturating_sub(behind)
     }
 
     /// Whether two declarations may declare one key. Escapes aren't read.

@@ -117,7 +117,7 @@ fn has_led(links: &[Link<ValidCause<'_>>], places: &BTreeSet<usize>, place: usiz
 /// their paths: a schema comes before those inside it. One that is `false` has that of its reason. One whose path is too long to be told
 /// has none, nor have those that it leads to; and they end where they take too much together.
 fn schema_units<'t>(
-    words: &Schemas<'t>,
+    words: &mut Schemas<'t>,
     reasons: &Reasons<ValidCause<'t>>,
     told: &Told<'t>,
 ) -> Result<Vec<Unit>, AllocError> {
@@ -146,7 +146,7 @@ fn schema_units<'t>(
 
 /// The unit of the schema of the link at a place, whose value has an offset, if it is asked for and has one.
 fn schema_unit<'t>(
-    words: &Schemas<'t>,
+    words: &mut Schemas<'t>,
     links: &[Link<ValidCause<'t>>],
     is_asked: bool,
     place: usize,
@@ -251,7 +251,7 @@ fn put_reason(
 /// Puts the member with the units of schemas, and then those of the reasons that are told.
 pub(crate) fn put_basic<'t>(
     text: &mut String,
-    words: &Schemas<'t>,
+    words: &mut Schemas<'t>,
     document: Named<'_>,
     reasons: &Reasons<ValidCause<'t>>,
     told: &Told<'t>,

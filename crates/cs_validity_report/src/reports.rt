@@ -64,7 +64,7 @@ fn put_explanation<'t>(
     };
     let told = told_by(alloc, &mut words, telling, document, &[], reasons)?;
     match form {
-        Form::Object(Format::Basic) => put_basic(text, &words, document, reasons, &told),
+        Form::Object(Format::Basic) => put_basic(text, &mut words, document, reasons, &told),
         Form::Lines | Form::Object(Format::Json | Format::Flag) => {
             put_told(text, form, document, &told)
         }

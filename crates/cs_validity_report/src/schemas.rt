@@ -217,7 +217,7 @@ impl<'t> Words<'t> for Schemas<'t> {
     }
 
     fn inside(
-        &self,
+        &mut self,
         node: Node<'t>,
         item: usize,
         cause: &ValidCause<'t>,

@@ -39,7 +39,8 @@ pub themselves : HaveDefaultForms → WritesSpelled → Stay → StandForThemsel
 themselves law writes stay ss fs E spelled one_package =
     let forms = spelled_default law ss fs spelled in
     let written = all_spelled writes profiles.Default ss fs spelled in
-    record { joined = fs; are_joined = package_stands fs E forms written one_package; low = spelled_low profiles.Default ss fs spelled; unmarked = stay fs forms }
+    let low = spelled_low profiles.Default ss fs spelled in
+    record { joined = fs; are_joined = package_stands fs E forms written low one_package; low = low; unmarked = stay fs forms }
 
 module _ (ss : List (List ℕ)) where
   pub accepted_in_default : (E : Environment) → IsAccepted ss E → IsAcceptedIn profiles.Default ss E

@@ -25,7 +25,7 @@ low_append (d ∷ ds) es h a b =
     let others = low_append ds es h (omega arith) b in
     omega arith
 
-low_parts : (ds es : List DefinitionTree) (h : ℕ) → height_definitions (ds ++ es) ≤ h → (height_definitions ds ≤ h) × (height_definitions es ≤ h)
+pub low_parts : (ds es : List DefinitionTree) (h : ℕ) → height_definitions (ds ++ es) ≤ h → (height_definitions ds ≤ h) × (height_definitions es ≤ h)
 low_parts [] es h a = (omega arith, a)
 low_parts (d ∷ ds) es h a =
     let others = low_parts ds es h (omega arith) in

@@ -1,4 +1,4 @@
--- What sources stand for in a profile, and the source that it is.
+-- What sources stand for in a profile, and the source that it is; and schemas.
 pub mod Stands
 pub mod Accepted
 pub mod Meant
@@ -6,3 +6,4 @@ pub mod Refused
 pub mod Calls
 pub mod Direct
 pub mod Embedding
+pub mod Schemas

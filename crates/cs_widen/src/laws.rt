@@ -9,7 +9,7 @@ ghost use Rattle.cs_resolve.specs.Resolved.{IsPackage};
 ghost use Rattle.cs_tool.specs.Accepted.{AreFiles, IsAccepted};
 ghost use Rattle.cs_widen.specs.Accepted.{IsAcceptedIn};
 ghost use Rattle.cs_widen.specs.Direct.{AreReadDirectly};
-ghost use Rattle.cs_widen.specs.Embedding.{AreEmbeddingsReadDirectly, AreUnionsReadDirectly};
+ghost use Rattle.cs_widen.specs.Embedding.{AreEmbeddingsReadDirectly, AreLiteralsReadDirectly, AreUnionsReadDirectly};
 ghost use Rattle.cs_widen.specs.Stands.{AreMeant};
 
 /// A law: a map is an instance of what a struct literal with defaults stands for exactly where each key that is missing is that of a field
@@ -20,15 +20,22 @@ pub fn defaults_are_read_directly()
 
 /// A law: a map is an instance of what a struct literal with embeddings stands for exactly where for some choice of an alternative of each
 /// expression that it embeds, one for a definition however often that is embedded, each declaration is met, as it is written, and each key
-/// is one of theirs or one of them is opened.
+/// is one of theirs or one of them is opened. Declarations of one label that are put together are one declaration.
 pub fn embeddings_are_read_directly()
     ensures { (E : Environment) (I : Rule → Document → Bool) → IsInstance E I → AreEmbeddingsReadDirectly I }
 {}
 
 /// A law: a map is an instance of what operands of `&` that are put together stand for exactly where for some choice of an alternative of each
-/// of them each declaration is met, as it is written, and each key is one of theirs or one of them is opened.
+/// of them each declaration is met, as it is written, and each key is one of theirs or one of them is opened. Declarations of one label that
+/// are put together are one declaration, whose value is such operands.
 pub fn unions_are_read_directly()
     ensures { (E : Environment) (I : Rule → Document → Bool) → IsInstance E I → AreUnionsReadDirectly I }
+{}
+
+/// A law: a map is an instance of what a struct literal without embeddings stands for exactly where each declaration is met, as it is written,
+/// and each key is one of theirs or the literal is opened. Declarations of one label that are put together are one declaration.
+pub fn literals_are_read_directly()
+    ensures { (E : Environment) (I : Rule → Document → Bool) → IsInstance E I → AreLiteralsReadDirectly I }
 {}
 
 /// A law: files that sources of the default profile spell, and that are a package, stand for themselves in the wide profile.
@@ -37,7 +44,7 @@ pub(crate) fn default_packages_are_meant()
         → AreFiles sources fs → IsPackage fs E → AreMeant fs fs }
 {
     cs_syntax::default_files_have_default_forms(); // for the proof: nothing is embedded in them
-    cs_print::spelled_files_are_written(); // for the proof: `&` has two operands, which no rule lets be put together
+    cs_print::spelled_files_are_written(); // for the proof: `&` has two operands; by the opening rule nothing is put together
     cs_defaults::default_files_stay(); // for the proof: and nothing is marked
 }
 

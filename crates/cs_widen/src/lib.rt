@@ -1,15 +1,18 @@
-// What sources stand for in a profile, as a source of the default one, and the calls over bytes in a profile.
+// What sources stand for in a profile, as a source of the default one, and the calls over bytes in a profile; and schemas.
 #![tactic(auto)]
 
 mod calls;
 mod laws;
+mod schema;
 mod source;
 mod standing;
 
 pub use calls::{agree_in, export_in, vet_in};
 pub use cs_syntax::Profile;
 pub use laws::{
-    defaults_are_read_directly, embeddings_are_read_directly, unions_are_read_directly, wide_law,
+    defaults_are_read_directly, embeddings_are_read_directly, literals_are_read_directly,
+    unions_are_read_directly, wide_law,
 };
+pub use schema::{schema_stands_for_in, validate_in};
 pub use source::{widen, widen_in};
 pub use standing::{stands_for, stands_for_in};

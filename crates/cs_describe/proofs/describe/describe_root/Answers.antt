@@ -7,6 +7,7 @@ use Rattle.cs_describe.proofs.describe.describe_root.Goals as goal
 
 pub loop-key-preserved : goal.loop-key-preserved
 loop-key-preserved c =
+    let w = c.args.note in
     let l = c.loop-key in
     let all = c.args.members.entries in
     let left = c.next.new.self in
@@ -16,7 +17,7 @@ loop-key-preserved c =
     let notes = c.args.notes.now.entries in
     let e : Entry = (key, v) in
     let steps : l.key-iterator ≡ e ∷ left = c.in-Some.ensures.steps in
-    let m = subst (λ es. IsMade (described_root notes) all es l.found.entries) steps l.invariant in
-    let is = c.in_ok-value.ensures ∙ ap (λ n. if bytes_eq n (codes "$defs") then described_map notes (doc_view v) else doc_view v) c.as_str.ensures.value in
-    subst (IsMade (described_root notes) all left) (sym c.in_ok-insert.ensures.entries)
-    (made_more (described_root notes) (λ k v. if bytes_eq k (codes "$defs") then described_map notes v else v) refl (λ k v ms. refl) all left l.found.entries key d v c.into_iter-key-iterator.ensures.into_iter_gives.5 m is)
+    let m = subst (λ es. IsMade (described_root w notes) all es l.found.entries) steps l.invariant in
+    let is = c.in_ok-value.ensures ∙ ap (λ n. if bytes_eq n (codes "$defs") then described_map w notes (doc_view v) else doc_view v) c.as_str.ensures.value in
+    subst (IsMade (described_root w notes) all left) (sym c.in_ok-insert.ensures.entries)
+    (made_more (described_root w notes) (λ k v. if bytes_eq k (codes "$defs") then described_map w notes v else v) refl (λ k v ms. refl) all left l.found.entries key d v c.into_iter-key-iterator.ensures.into_iter_gives.5 m is)

@@ -3,4 +3,4 @@ use Rattle.cs_describe.proofs.Joined.{IsMade}
 use Rattle.cs_describe.proofs.describe.describe_root.Given as goal
 
 abbrev pub invariant-loop-key : goal.invariant-loop-key
-invariant-loop-key l = IsMade (described_root l.notes.entries) l.fn.members.entries l.key-iterator l.found.entries
+invariant-loop-key l = IsMade (described_root l.fn.note l.notes.entries) l.fn.members.entries l.key-iterator l.found.entries

@@ -1,42 +1,50 @@
-use Rattle.std.proofs.Common.{suc, ◌≤◌, refl, sym, ap, ◌∙◌, subst}
-use Rattle.cs_document.specs.Document.{Document, object, depth}
+use Rattle.std.proofs.Common.{◌≡◌, suc, ◌≤◌, refl, sym, ap, ◌∙◌, subst}
+use Rattle.std.proofs.lemmas.Result.{IfOk-weaker}
+use Rattle.cs_document.specs.Document.{Document, depth}
 use Rattle.cs_document.specs.View.{doc_view}
-use Rattle.cs_document.specs.declared.doc.Doc.{Object}
-use Rattle.cs_document.proofs.Views.{view-Object}
 use Rattle.cs_profile.specs.Profile.{IsSchema}
 use Rattle.cs_describe.specs.Described.{described_document}
-use Rattle.cs_describe.specs.Plain.{plain}
-use Rattle.cs_describe.proofs.Nested.{document_nested}
-use Rattle.cs_describe.proofs.Unchanged.{document_same}
+use Rattle.cs_describe.specs.declared.note.Note.TheVariants as note
+use Rattle.cs_describe.specs.Meaning.{SameValidity, SameDefinitions}
+use Rattle.cs_describe.specs.Plain.{plain, is_note}
+use Rattle.cs_describe.proofs.Leaving.{notes_are_notes}
+use Rattle.cs_describe.proofs.Nested.{described_nested}
 use Rattle.cs_describe.proofs.PlainLaw.{same_validity, same_definitions}
 use Rattle.cs_describe.proofs.StillSchema.{still_schema}
+use Rattle.cs_describe.proofs.Unchanged.{document_same}
 use Rattle.cs_describe.proofs.describe.described.Goals as goal
-
-pub returns-in_default-clause-definitions : goal.returns-in_default-clause-definitions
-returns-in_default-clause-definitions c h = same_definitions (doc_view c.args.doc) (doc_view c.args.doc) h.no_loop refl
-
-pub returns-clause-found : goal.returns-clause-found
-returns-clause-found c =
-    let notes = c.args.notes.now.entries in
-    view-Object c.in_ok-describe_root.field-0 ∙ ap object c.in_ok-describe_root.ensures
-    ∙ sym (ap (λ d. described_document notes (doc_view d)) c.in-Object.is ∙ ap (described_document notes) (view-Object c.in-Object.members))
 
 pub returns-clause-same : goal.returns-clause-same
 returns-clause-same c =
-    ap plain (returns-clause-found c) ∙ document_same c.args.notes.now.entries (doc_view c.args.doc)
+    let ns = c.args.notes.now.entries in
+    let doc = doc_view c.args.doc in
+    IfOk-weaker c.described_by.result (λ d. doc_view d ≡ described_document note.Description ns doc) (λ d. plain (doc_view d) ≡ plain doc)
+    (λ d is. ap plain is ∙ document_same is_note note.Description refl ns doc) c.described_by.ensures
 
 pub returns-clause-profile : goal.returns-clause-profile
-returns-clause-profile c h =
-    subst IsSchema (sym (returns-clause-found c)) (still_schema c.args.notes.now.entries (doc_view c.args.doc) h)
+returns-clause-profile c =
+    let ns = c.args.notes.now.entries in
+    let doc = doc_view c.args.doc in
+    IfOk-weaker c.described_by.result (λ d. doc_view d ≡ described_document note.Description ns doc) (λ d. IsSchema doc → IsSchema (doc_view d))
+    (λ d is h. subst IsSchema (sym is) (still_schema ns doc h)) c.described_by.ensures
 
 pub returns-clause-meaning : goal.returns-clause-meaning
-returns-clause-meaning c h =
-    same_validity (doc_view c.args.doc) (doc_view (Object c.in_ok-describe_root.field-0)) h.no_loop (returns-clause-same c)
+returns-clause-meaning c =
+    let ns = c.args.notes.now.entries in
+    let doc = doc_view c.args.doc in
+    IfOk-weaker c.described_by.result (λ d. doc_view d ≡ described_document note.Description ns doc) (λ d. IsSchema doc → SameValidity doc (doc_view d))
+    (λ d is h. same_validity is_note notes_are_notes doc (doc_view d) h.no_loop (ap plain is ∙ document_same is_note note.Description refl ns doc)) c.described_by.ensures
 
 pub returns-clause-definitions : goal.returns-clause-definitions
-returns-clause-definitions c h =
-    same_definitions (doc_view c.args.doc) (doc_view (Object c.in_ok-describe_root.field-0)) h.no_loop (returns-clause-same c)
+returns-clause-definitions c =
+    let ns = c.args.notes.now.entries in
+    let doc = doc_view c.args.doc in
+    IfOk-weaker c.described_by.result (λ d. doc_view d ≡ described_document note.Description ns doc) (λ d. IsSchema doc → SameDefinitions doc (doc_view d))
+    (λ d is h. same_definitions is_note notes_are_notes doc (doc_view d) h.no_loop (ap plain is ∙ document_same is_note note.Description refl ns doc)) c.described_by.ensures
 
 pub returns-clause-nested : goal.returns-clause-nested
 returns-clause-nested c =
-    subst (λ (d : Document). depth d ≤ suc (depth (doc_view c.args.doc))) (sym (returns-clause-found c)) (document_nested c.args.notes.now.entries (doc_view c.args.doc))
+    let ns = c.args.notes.now.entries in
+    let doc = doc_view c.args.doc in
+    IfOk-weaker c.described_by.result (λ d. doc_view d ≡ described_document note.Description ns doc) (λ d. depth (doc_view d) ≤ suc (depth doc))
+    (λ d is. subst (λ (e : Document). depth e ≤ suc (depth doc)) (sym is) (described_nested ns doc)) c.described_by.ensures

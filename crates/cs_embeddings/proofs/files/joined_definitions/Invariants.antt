@@ -9,4 +9,4 @@ use Rattle.cs_embeddings.proofs.files.joined_definitions.Given as goal
 abbrev pub invariant-loop-definition : goal.invariant-loop-definition
 invariant-loop-definition l = (ds : List DefinitionTree) → TellsTables l.joiner.embeddable.now ds → AreWell ds
     → AreBodiesWell ds (map definition_view l.definitions)
-    → AreDefinitions ds l.initial.nodes l.nodes (take l.definition-index l.definitions) l.joined.items
+    → AreDefinitions ds l.initial.nodes l.nodes (take l.definition-index l.definition-items) l.joined.items

@@ -6,7 +6,7 @@ use Rattle.cs_schema.specs.Root.{reference_to}
 use Rattle.cs_schema.specs.SchemaDocument.{document_of}
 use Rattle.cs_tool.proofs.Low.{low_accepted}
 use Rattle.cs_export.specs.Shaped.{asked_for, IsShaped, ArePackageSchemas}
-use Rattle.cs_export.proofs.Deep.{asked_deep}
+use Rattle.cs_export.proofs.Deep.{asked_deep, deeper_within}
 use Rattle.cs_export.proofs.exports.exported_all.Goals as goal
 
 pub returns-clause-found : goal.returns-clause-found
@@ -24,7 +24,7 @@ returns-clause-found c =
       one_instance = c.one_meaning.ensures;
       one_validity = one;
       shaped = shaped;
-      read = let deeper = shaped.nested in let asked = asked_deep c.args.layout.is_openapi shaped.document in let bound : depth (asked_for c.args.layout shaped.document) ≤ 127 = omega arith in shaped.written bound;
+      read = let within = deeper_within c.args.layout.has_defaults _ _ nested shaped.nested in let asked = asked_deep c.args.layout.is_openapi shaped.document in let bound : depth (asked_for c.args.layout shaped.document) ≤ 127 = omega arith in shaped.written bound;
       admits = λ V I g h n is x document.
           sym (shaped.same_schema.definitions one.some.0 V one.some.1 g (reference_to n) x) ∙ made.meaning one.some.0 I one.some.1 h n is x document;
     }) c.shaped_text.ensures.shaped

@@ -9,7 +9,7 @@ use Rattle.cs_schema.specs.Trim.{with_dialect}
 use Rattle.cs_tool.proofs.Low.{low_accepted}
 use Rattle.cs_export.specs.Components.{components_of}
 use Rattle.cs_export.specs.Shaped.{asked_for, IsShaped, IsRootSchema}
-use Rattle.cs_export.proofs.Deep.{asked_deep}
+use Rattle.cs_export.proofs.Deep.{asked_deep, deeper_within}
 use Rattle.cs_export.proofs.exports.exported_root.Goals as goal
 
 pub returns-clause-found : goal.returns-clause-found
@@ -24,7 +24,7 @@ returns-clause-found c =
     (λ (v : Vec ℕ Global). IsRootSchema _ c.args.root.now c.args.layout v.items)
     (λ v shaped.
     let document = shaped.document in
-    let deeper = shaped.nested in
+    let within = deeper_within c.args.layout.has_defaults _ _ nested shaped.nested in
     let asked = asked_deep c.args.layout.is_openapi document in
     let bound : depth (asked_for c.args.layout document) ≤ 127 = omega arith in
     let read : Reads v.items (asked_for c.args.layout document) = shaped.written bound in

@@ -1,13 +1,24 @@
-use Rattle.std.proofs.Common.{refl}
+use Rattle.std.proofs.Common.{◌≡◌, Bool, true, false, refl, if◌then◌else◌}
+use Rattle.std.proofs.lemmas.Result.{IfOk-weaker}
+use Rattle.cs_document.specs.Document.{Document}
+use Rattle.cs_document.specs.View.{doc_view}
+use Rattle.cs_document.specs.declared.doc.Doc.{Doc}
+use Rattle.cs_profile.specs.Profile.{IsSchema}
+use Rattle.cs_profile.specs.Validity.{OneMeaning}
+use Rattle.cs_describe.specs.Plain.{without_defaults}
+use Rattle.cs_describe.proofs.StillBare.{still_bare}
+use Rattle.cs_export.specs.Shaped.{IsSameSchema}
 use Rattle.cs_export.proofs.shaped.described_if.Goals as goal
 
-pub returns-in-None-clause-schema : goal.returns-in-None-clause-schema
-returns-in-None-clause-schema c = λ is one. record { plain = refl; profile = is; validity = λ V W g h x. one.only V W g h _ x; definitions = one.only }
+bare_if : (t : Bool) (d : Document) → IsSchema d → IsSchema (if t then without_defaults d else d)
+bare_if true d is = still_bare d is
+bare_if false d is = is
 
-pub returns-in_ok-described-in-Some-clause-schema : goal.returns-in_ok-described-in-Some-clause-schema
-returns-in_ok-described-in-Some-clause-schema c = λ is one. record {
-  plain = c.in_ok-described-in-Some.ensures.same;
-  profile = c.in_ok-described-in-Some.ensures.profile is;
-  validity = c.in_ok-described-in-Some.ensures.meaning is;
-  definitions = c.in_ok-described-in-Some.ensures.definitions is;
-}
+pub returns-in-None-clause-schema : goal.returns-in-None-clause-schema
+returns-in-None-clause-schema c = λ is one. record { plain = refl; profile = bare_if c.args.has_defaults _ is; validity = λ V W g h x. one.only V W g h _ x; definitions = one.only }
+
+pub returns-in-Some-clause-schema : goal.returns-in-Some-clause-schema
+returns-in-Some-clause-schema c =
+    let doc = doc_view c.args.doc in
+    IfOk-weaker c.noted.result (λ (d : Doc). IsSchema doc → IsSameSchema c.args.has_defaults doc (doc_view d)) (λ (d : Doc). IsSchema doc → OneMeaning doc → IsSameSchema c.args.has_defaults doc (doc_view d))
+    (λ d h is one. h is) c.noted.ensures.schema

@@ -8,8 +8,8 @@ use Rattle.cs_schema.specs.Profile.{IsSchema}
 use Rattle.cs_schema.specs.SchemaDocument.{document_of}
 use Rattle.cs_schema.specs.Validity.{OneMeaning}
 use Rattle.cs_export.specs.Components.{components_of}
-use Rattle.cs_export.specs.Shaped.{IsShaped, IsSameSchema, IsTextOf}
-use Rattle.cs_export.proofs.Back.{definitions_back}
+use Rattle.cs_export.specs.Shaped.{IsShaped, IsSameSchema, IsTextOf, deeper}
+use Rattle.cs_export.proofs.Back.{asked_back}
 use Rattle.cs_export.proofs.shaped.shaped_text.Goals as goal
 
 pub returns-clause-shaped : goal.returns-clause-shaped
@@ -24,10 +24,10 @@ returns-clause-shaped c =
     (λ (v : Vec ℕ Global). IsShaped c.args.layout schema v.items)
     (λ v text. record {
       document = described;
-      same_schema = subst (λ d. IsSameSchema d described) written same_schema;
-      nested = subst (λ (d : Document). depth described ≤ suc (depth d)) written made.nested;
+      same_schema = subst (λ d. IsSameSchema c.args.layout.has_defaults d described) written same_schema;
+      nested = subst (λ (d : Document). depth described ≤ deeper c.args.layout.has_defaults (depth d)) written made.nested;
       same = λ bare. ap doc_view (made.same (c.requires bare)) ∙ written;
-      put_back = definitions_back described same_schema.profile;
+      put_back = asked_back c.args.layout.has_defaults described same_schema.profile;
       written = subst (λ d. IsTextOf d v.items) asked text.0;
       bare = λ b. text.1 b.compact ∙ ap text_of (asked ∙ ap (λ t. if t then components_of described else described) b.whole ∙ ap doc_view (made.same (c.requires b.undescribed)) ∙ written);
     }) c.text_of.ensures.written

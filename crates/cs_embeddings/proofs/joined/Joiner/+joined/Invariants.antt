@@ -1,12 +1,12 @@
 -- Each level has sixteen steps: what is inside of an expression goes a level below, and a mark is less than the expression with it.
 use Rattle.std.proofs.Common.{◌≡◌, ℕ, ◌+◌, ◌*◌, ◌≤◌, true, List, take}
 use Rattle.cs_grammar.specs.Tree.{DefinitionTree, wide}
-use Rattle.cs_grammar.specs.View.{expr_view, exprs_view, fields_view, wide_view}
-use Rattle.cs_embeddings.proofs.JoinedParts.{AreJoined, AreFields, AreBrought, AreLiterals}
+use Rattle.cs_grammar.specs.View.{expr_view, exprs_view, wide_view}
+use Rattle.cs_embeddings.proofs.JoinedParts.{AreJoined, AreBrought, AreLiterals}
 use Rattle.cs_embeddings.specs.Alternatives.{most_steps}
 use Rattle.cs_embeddings.specs.Checks.{TellsTables, AreWell}
 use Rattle.cs_embeddings.specs.Clashes.{clashes_value}
-use Rattle.cs_embeddings.specs.Embedded.{can_be_embedded, embed_well, fields_embed_well}
+use Rattle.cs_embeddings.specs.Embedded.{can_be_embedded, embed_well}
 use Rattle.cs_embeddings.specs.Joined.{joined_value}
 use Rattle.cs_embeddings.specs.Made.{count_mark, IsWell}
 use Rattle.cs_embeddings.specs.Views.{alternative_view, alternatives_view}
@@ -37,11 +37,14 @@ decreases-joined_alternatives l = 16 * l.room.levels + 1
 abbrev pub decreases-joined_alternative : goal.decreases-joined_alternative
 decreases-joined_alternative l = 16 * l.room.levels
 
-abbrev pub decreases-joined_fields : goal.decreases-joined_fields
-decreases-joined_fields l = 16 * l.room.levels + 15
+abbrev pub decreases-joined_together : goal.decreases-joined_together
+decreases-joined_together l = 16 * l.room.levels + 3
 
-abbrev pub decreases-joined_field : goal.decreases-joined_field
-decreases-joined_field l = 16 * l.room.levels + 14
+abbrev pub decreases-joined_declaration : goal.decreases-joined_declaration
+decreases-joined_declaration l = 16 * l.room.levels + 15
+
+abbrev pub decreases-joined_standing : goal.decreases-joined_standing
+decreases-joined_standing l = 16 * l.room.levels + 14
 
 abbrev pub decreases-joined_each : goal.decreases-joined_each
 decreases-joined_each l = 16 * l.room.levels + 14
@@ -54,17 +57,12 @@ invariant-joined_each-loop-expr l = (ds : List DefinitionTree) (n : ℕ) → Tel
     (can_be_embedded ds most_steps) (exprs_view l.exprs) ≡ true → l.room.levels ≤ n → AreJoined ds (joined_value ds n)
     (clashes_value ds n) l.room.place l.room.is_whole l.room.levels l.initial.nodes l.nodes (take l.expr-index l.exprs) l.joined.items
 
-abbrev pub invariant-joined_fields-loop-field : goal.invariant-joined_fields-loop-field
-invariant-joined_fields-loop-field l = (ds : List DefinitionTree) (n : ℕ) → TellsTables l.self.embeddable.now ds → AreWell ds → fields_embed_well
-    (can_be_embedded ds most_steps) (fields_view l.fields) ≡ true → l.room.levels ≤ n → AreFields ds (joined_value ds n)
-    (clashes_value ds n) l.room.place l.room.levels l.initial.nodes l.nodes (take l.field-index l.fields) l.joined.items
-
 abbrev pub invariant-joined_alternatives-loop-alternative : goal.invariant-joined_alternatives-loop-alternative
 invariant-joined_alternatives-loop-alternative l = (ds : List DefinitionTree) (n : ℕ) → TellsTables l.self.embeddable.now ds → AreWell ds → AllByRecursion
-    (IsWell ds) (alternatives_view l.alternatives) → l.fn.room.levels ≤ n → AreLiterals (joined_value ds n)
+    (IsWell ds) (alternatives_view l.alternatives) → l.fn.room.levels ≤ n → AreLiterals ds (joined_value ds n)
     (clashes_value ds n) l.at l.embeds l.inside.levels l.initial.nodes l.nodes (take l.alternative-index l.alternatives) l.joined.items
 
-abbrev pub invariant-joined_alternative-loop-brought : goal.invariant-joined_alternative-loop-brought
-invariant-joined_alternative-loop-brought l = (ds : List DefinitionTree) (n : ℕ) → TellsTables l.self.embeddable.now ds → AreWell ds → IsWell ds
-    (alternative_view l.alternative) → l.fn.room.levels ≤ n → AreBrought (joined_value ds n) (clashes_value ds n) l.inside.levels l.initial.nodes l.nodes
-    (take l.brought-index l.alternative.declarations.items) l.fields.items
+abbrev pub invariant-joined_alternative-loop-declaration : goal.invariant-joined_alternative-loop-declaration
+invariant-joined_alternative-loop-declaration l = (ds : List DefinitionTree) (n : ℕ) → TellsTables l.self.embeddable.now ds → AreWell ds → IsWell ds
+    (alternative_view l.alternative) → l.fn.room.levels ≤ n → AreBrought ds (joined_value ds n) (clashes_value ds n) l.inside.levels l.initial.nodes l.nodes
+    (take l.declaration-index l.declaration-items) l.fields.items

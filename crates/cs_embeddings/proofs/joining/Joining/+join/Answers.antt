@@ -1,5 +1,5 @@
-use Rattle.std.proofs.Common.{rules, ◌≡◌, suc, ◌+◌, ◌∷◌, [], ◌++◌, false, Some, map, drop, refl, sym, ap, ◌∙◌, subst, arith}
-use Rattle.std.specs.List.{flat_map}
+use Rattle.std.proofs.Common.{rules, ◌≡◌, suc, ◌+◌, ◌∷◌, [], ◌++◌, true, false, Some, map, drop, refl, sym, ap, ◌∙◌, subst, arith}
+use Rattle.std.specs.List.{flat_map, list_all}
 use Rattle.std.specs.Vec.Iter.{into_iter_items}
 use Rattle.std.proofs.lemmas.Result.{err_from_is_err_and}
 use Rattle.cs_grammar.specs.Tree.{reference, conjunction, disjunction, paren, wide, merged}
@@ -8,11 +8,11 @@ use Rattle.cs_grammar.specs.View.{expr_view, exprs_view, fields_view, field_view
 use Rattle.cs_grammar.specs.declared.ast.Expr as Exprs
 use Rattle.cs_grammar.proofs.Views.{view-Struct, view-Paren, view-And, view-Or, view-Reference}
 use Rattle.cs_embeddings.specs.Alternatives as Spec
-use Rattle.cs_embeddings.specs.Checks.{bodies_view}
+use Rattle.cs_embeddings.specs.Checks.{bodies_view, ReachesAll}
 use Rattle.cs_embeddings.specs.Embedded.{can_be_embedded}
 use Rattle.cs_embeddings.specs.Views.{alternative_view, alternatives_view, with_field, Reaches, IsTooMuch}
 use Rattle.cs_embeddings.specs.declared.found.Found.{Found}
-use Rattle.cs_embeddings.proofs.Joins.{is_put_together, no_steps, no_form, at_struct, at_merged, at_paren, at_disjunction, at_conjunction, at_reference, met_alone, unmet_bodies, field_step, embedded_step, body_step, conjunct_step, operand_step, too_much_of_right, declarations_too_much, all_too_much, bodies_too_much}
+use Rattle.cs_embeddings.proofs.Joins.{is_put_together, no_steps, no_form, at_struct, at_merged, at_paren, at_disjunction, at_conjunction, at_reference, met_alone, unmet_bodies, field_step, embedded_step, body_step, conjunct_step, operand_step, too_much_of_right, declarations_too_much, all_too_much, bodies_too_much, met_too_much}
 use Rattle.cs_embeddings.proofs.Left.{too_much_here}
 use Rattle.cs_embeddings.proofs.Weights.{alternatives_grow}
 use Rattle.cs_embeddings.proofs.joining.Joining.+join.Goals as goal
@@ -267,30 +267,51 @@ join_declarations-loop-declaration-preserved t c ds tells well =
 
 -- ---- the bodies of a definition
 
-pub join_bodies-returns-in_err-push : goal.join_bodies-returns-in_err-push
-join_bodies-returns-in_err-push t c ds tells well =
+pub join_bodies-returns-in_err-found : goal.join_bodies-returns-in_err-found
+join_bodies-returns-in_err-found t c ds tells well =
+    let p = err_from_is_err_and c.from_residual.result c.from_residual.ensures.1 in
+    let read = c.of_name.ensures ds tells in
+    let inner = Spec.alternatives ds c.args.steps in
+    let a = alternative_view c.args.before in
+    let can = subst (λ es. list_all (can_be_embedded ds c.args.steps) es ≡ true) (sym read) well in
+    let made = subst (λ es. IsTooMuch c.in_err-found.field-0.0 c.args.self.room (Spec.join_bodies inner (Some c.args.at) es (a ∷ []))) read
+    (c.in_err-found.ensures ds tells can) in
+    rw (p.1, p.2) (met_too_much c.in_err-found.field-0.0 c.args.self.room c.args.name.now _ made)
+
+pub join_bodies-returns : goal.join_bodies-returns
+join_bodies-returns t c ds tells well =
+    let read = c.of_name.ensures ds tells in
+    let inner = Spec.alternatives ds c.args.steps in
+    let a = alternative_view c.args.before in
+    let can = subst (λ es. list_all (can_be_embedded ds c.args.steps) es ≡ true) (sym read) well in
+    let made = c.in_ok-found.ensures ds tells can ∙ ap (λ es. Spec.join_bodies inner (Some c.args.at) es (a ∷ [])) read in
+    subst (λ xs. ReachesAll c.meet.result c.args.self.room (map (Spec.meet c.args.name.now) xs)) made c.meet.ensures
+
+-- ---- values one behind the other
+
+pub join_values-returns-in_err-push : goal.join_values-returns-in_err-push
+join_values-returns-in_err-push t c ds tells well =
     let p = err_from_is_err_and c.from_residual.result c.from_residual.ensures.1 in
     let e = c.in_err-push.field-0.0 in
     let a = alternative_view c.args.before in
     let here = subst (λ xs. IsTooMuch e c.args.self.room (xs ++ a ∷ [])) c.nothing-found.ensures c.in_err-push.ensures in
     rw (p.1, p.2) (bodies_too_much (can_be_embedded ds c.args.steps) (Spec.alternatives ds c.args.steps) (alternatives_grow ds c.args.steps)
-    (Some c.args.at) e c.args.self.room (a ∷ []) _ c.args.name.now (bodies c.args.name.now ds) well refl here)
+    c.args.place e c.args.self.room (a ∷ []) _ (bodies_view c.args.values.now) well refl here)
 
-pub join_bodies-returns-in_err-found : goal.join_bodies-returns-in_err-found
-join_bodies-returns-in_err-found t c ds tells well =
+pub join_values-returns-in_err-found : goal.join_values-returns-in_err-found
+join_values-returns-in_err-found t c ds tells well =
     let p = err_from_is_err_and c.from_residual-in_err-found.result c.from_residual-in_err-found.ensures.1 in
     let e = c.in_err-found.field-0.0 in
     let can = can_be_embedded ds c.args.steps in
     let inner = Spec.alternatives ds c.args.steps in
-    let at = Some c.args.at in
-    let bs = c.of_name-body-items.result.now in
-    let i = c.loop-body.body-index in
-    let b = c.body-item.result in
-    let found = alternatives_view c.loop-body.found.alternatives.items in
-    let before = c.loop-body.invariant ds tells well in
-    let s = body_step can inner at bs i b c.loop-body-test.true c.body-item.is found _ before.0 before.1 in
-    rw (p.1, p.2) (bodies_too_much can inner (alternatives_grow ds c.args.steps) at e c.args.self.room
-    (flat_map (inner at (expr_view b.now)) found) _ c.args.name.now (bodies_view (drop (i + 1) bs)) s.1 s.2 (c.in_err-found.ensures ds tells s.0))
+    let bs = c.args.values.now in
+    let i = c.loop-value.value-index in
+    let b = c.value-item.result in
+    let found = alternatives_view c.loop-value.found.alternatives.items in
+    let before = c.loop-value.invariant ds tells well in
+    let s = body_step can inner c.args.place bs i b c.loop-value-test.true c.value-item.is found _ before.0 before.1 in
+    rw (p.1, p.2) (bodies_too_much can inner (alternatives_grow ds c.args.steps) c.args.place e c.args.self.room
+    (flat_map (inner c.args.place (expr_view b.now)) found) _ (bodies_view (drop (i + 1) bs)) s.1 s.2 (c.in_err-found.ensures ds tells s.0))
 
 -- ---- operands one behind the other
 

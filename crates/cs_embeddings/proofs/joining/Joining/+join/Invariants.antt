@@ -1,8 +1,7 @@
-use Rattle.std.proofs.Common.{◌≡◌, ◌+◌, ◌*◌, true, List, [], ◌∷◌, ◌++◌, Some, drop}
+use Rattle.std.proofs.Common.{◌≡◌, ◌+◌, ◌*◌, true, List, [], ◌∷◌, ◌++◌, drop}
 use Rattle.std.specs.List.{flat_map, list_all}
 use Rattle.std.specs.Vec.Iter.{into_iter_items}
 use Rattle.cs_grammar.specs.Tree.{DefinitionTree}
-use Rattle.cs_grammar.specs.Bodies.{bodies}
 use Rattle.cs_grammar.specs.View.{expr_view, exprs_view, declarations_view}
 use Rattle.cs_embeddings.specs.Alternatives as Spec
 use Rattle.cs_embeddings.specs.Checks.{TellsBodies, bodies_view}
@@ -11,25 +10,28 @@ use Rattle.cs_embeddings.specs.Views.{alternative_view, alternatives_view}
 use Rattle.cs_embeddings.proofs.joining.Joining.+join.Given as goal
 
 abbrev pub decreases-join : goal.decreases-join
-decreases-join l = 4 * l.steps
+decreases-join l = 5 * l.steps
 
 abbrev pub decreases-join_declarations : goal.decreases-join_declarations
-decreases-join_declarations l = 4 * l.steps + 2
+decreases-join_declarations l = 5 * l.steps + 2
 
 abbrev pub decreases-join_definition : goal.decreases-join_definition
-decreases-join_definition l = 4 * l.steps + 3
+decreases-join_definition l = 5 * l.steps + 4
 
 abbrev pub decreases-join_bodies : goal.decreases-join_bodies
-decreases-join_bodies l = 4 * l.steps + 2
+decreases-join_bodies l = 5 * l.steps + 3
+
+abbrev pub decreases-join_values : goal.decreases-join_values
+decreases-join_values l = 5 * l.steps + 2
 
 abbrev pub decreases-join_all : goal.decreases-join_all
-decreases-join_all l = 4 * l.steps + 2
+decreases-join_all l = 5 * l.steps + 2
 
 abbrev pub decreases-join_each : goal.decreases-join_each
-decreases-join_each l = 4 * l.steps + 1
+decreases-join_each l = 5 * l.steps + 1
 
 abbrev pub decreases-join_operands : goal.decreases-join_operands
-decreases-join_operands l = 4 * l.steps + 1
+decreases-join_operands l = 5 * l.steps + 1
 
 abbrev pub invariant-join_declarations-loop-declaration : goal.invariant-join_declarations-loop-declaration
 invariant-join_declarations-loop-declaration l =
@@ -40,13 +42,13 @@ invariant-join_declarations-loop-declaration l =
     (alternatives_view l.found.alternatives.items)
     ≡ Spec.join_declarations (Spec.alternatives ds l.steps) l.place (declarations_view l.declarations) (alternative_view l.fn.before ∷ []))
 
-abbrev pub invariant-join_bodies-loop-body : goal.invariant-join_bodies-loop-body
-invariant-join_bodies-loop-body l =
+abbrev pub invariant-join_values-loop-value : goal.invariant-join_values-loop-value
+invariant-join_values-loop-value l =
     (ds : List DefinitionTree) → TellsBodies l.self.bodies.now ds
-    → list_all (can_be_embedded ds l.steps) (bodies l.name ds) ≡ true
-    → (list_all (can_be_embedded ds l.steps) (bodies_view (drop l.body-index l.body-items)) ≡ true)
-    × (Spec.join_bodies (Spec.alternatives ds l.steps) (Some l.at) (bodies_view (drop l.body-index l.body-items)) (alternatives_view l.found.alternatives.items)
-    ≡ Spec.join_bodies (Spec.alternatives ds l.steps) (Some l.at) (bodies l.name ds) (alternative_view l.fn.before ∷ []))
+    → list_all (can_be_embedded ds l.steps) (bodies_view l.values) ≡ true
+    → (list_all (can_be_embedded ds l.steps) (bodies_view (drop l.value-index l.values)) ≡ true)
+    × (Spec.join_bodies (Spec.alternatives ds l.steps) l.place (bodies_view (drop l.value-index l.values)) (alternatives_view l.found.alternatives.items)
+    ≡ Spec.join_bodies (Spec.alternatives ds l.steps) l.place (bodies_view l.values) (alternative_view l.fn.before ∷ []))
 
 abbrev pub invariant-join_each-loop-alternative : goal.invariant-join_each-loop-alternative
 invariant-join_each-loop-alternative l =

@@ -1,0 +1,67 @@
+// The schema that a schema's text stands for in a profile: in the wide one that without its defaults, which an export may have.
+ghost use Rattle.std.specs.Prelude.{◌≡◌, ◌⊎◌, IfOk, IfErr, IsOkUnless};
+ghost use Rattle.cs_tool.specs.CallRefusals.{ValidateRefusal};
+ghost use Rattle.cs_tool.specs.Headline.{IsValidated};
+ghost use Rattle.cs_widen.specs.Schemas.{bytes_of, SchemaStandsForIn, StandsWithoutDefaults, SchemaMeans};
+
+use cs_describe::without_defaults;
+use cs_json::{DocFault, read_doc, write_doc};
+use cs_syntax::Profile;
+use cs_tool::{Fault, validate};
+use std::alloc::Global;
+
+/// The text of the schema that a schema's text stands for in a profile: without the `default` of each schema in it (JSON Schema
+/// Validation 2020-12, section 9.2), which says nothing of validity. `None` where it stands for itself: in the default profile, and where
+/// it is no document.
+///
+/// # Errors
+/// `OutOfMemory`.
+pub fn schema_stands_for_in(
+    alloc: Global,
+    profile: Profile,
+    schema: &[u8],
+) -> Result<Option<Vec<u8>>, Fault>
+    ensures found { IfOk result (λ s. SchemaStandsForIn profile schema.now (bytes_of s)) }
+    ensures memory { IsOkUnless result Fault.OutOfMemory }
+{
+    match profile {
+        Profile::Default => Ok(None),
+        Profile::Wide => stands_for_bare(alloc, schema),
+    }
+}
+
+/// The same in the wide profile.
+fn stands_for_bare(alloc: Global, schema: &[u8]) -> Result<Option<Vec<u8>>, Fault>
+    ensures found { IfOk result (λ s. StandsWithoutDefaults schema.now (bytes_of s)) }
+    ensures memory { IsOkUnless result Fault.OutOfMemory }
+{
+    match read_doc(alloc, schema) {
+        Ok(doc) => {
+            let bare = without_defaults(alloc, doc)?;
+            let text = write_doc(alloc, &bare)?;
+            Ok(Some(text))
+        },
+        Err(DocFault::OutOfMemory) => Err(Fault::OutOfMemory),
+        Err(DocFault::NotJson { .. } | DocFault::NotInteger { .. }) => Ok(None),
+    }
+}
+
+/// Whether the document is valid against the schema: what `validate` answers for the schema that is meant in a profile.
+///
+/// # Errors
+/// Those of `validate`.
+pub fn validate_in(
+    alloc: Global,
+    profile: Profile,
+    schema: &[u8],
+    doc: &[u8],
+) -> Result<bool, Fault>
+    ensures found { IfOk result (λ b. SchemaMeans profile schema.now (λ judged. IsValidated judged doc.now b)) }
+    ensures refused { IfErr result (λ e. (e ≡ Fault.OutOfMemory)
+        ⊎ SchemaMeans profile schema.now (λ judged. ValidateRefusal judged doc.now e)) }
+{
+    match schema_stands_for_in(alloc, profile, schema)? {
+        Some(meant) => validate(alloc, &meant, doc),
+        None => validate(alloc, schema, doc),
+    }
+}
