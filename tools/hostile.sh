@@ -799,7 +799,8 @@ try 'wide: a chain of 65 embeddings: widen' 0 'error 11 at 6' 'widen --profile=w
 try 'wide: a chain of 65 embeddings: widen --why' 0 'told error 11 at 6' 'widen --profile=wide --why wide.cue'
 embeds 999 '{#A%d, a%d: int}' > wide.cue
 try 'wide: a chain of 999 embeddings: widen' 0 'error 11 at 6' 'widen --profile=wide wide.cue'
-try 'wide: a chain of 999 embeddings: check' 1000000 'holds 2 wide.cue:1:7: error 11:' 'check --profile=wide wide.cue'
+# Each of 50 faults is looked for in 128 rounds over 999 names.
+try 'wide: a chain of 999 embeddings: check' 20000000 'holds 2 wide.cue:1:7: error 11:' 'check --profile=wide wide.cue'
 { printf '#B: {y: int}\n'; listed 999 '#A%d: {#B, x: int}' '\n'; } > wide.cue
 try 'wide: 999 definitions embed one: widen' 0 'shows #A998: {' 'widen --profile=wide wide.cue'
 try 'wide: 999 definitions embed one: export' 100000 'shows "A998":{"additionalProperties":false' 'export --profile=wide --all wide.cue'
@@ -909,6 +910,14 @@ try 'wide: 20,000 times one reference of one label: widen' 0 'shows a: #B' 'wide
 { printf '#P: '; listed 20000 '{a%d: int}' ' & '; printf '\n'; } > wide.cue
 try 'wide: 20,000 operands put together: export' 1000000 'shows "a19999":{"type":"integer"}' 'export --profile=wide --root #P wide.cue'
 try 'wide: 20,000 operands put together: check' 10000000 'lines 0' 'check --profile=wide wide.cue'
+# A definition that a literal narrows where both are embedded: the labels are looked up, for each definition once.
+{ printf '#B: {'; listed 10000 'a%d: int' ', '; printf '}\n#A: {#B & {'; listed 10000 'a%d: >0' ', '; printf '}, z: int}\n'; } > wide.cue
+try 'wide: 10,000 labels narrowed: widen' 0 'shows z: int' 'widen --profile=wide wide.cue'
+{ printf '#B: {'; listed 20000 'a%d: int' ', '; printf '}\n#A: {'; many 20000 '#B & {a0: 1}, '; printf 'z: int, int}\n'; } > wide.cue
+# Each of 128 rounds asks it again.
+try 'wide: 20,000 labels narrowed 20,000 times beside a kind: widen' 2560000 'error 11' 'widen --profile=wide wide.cue'
+{ printf '#B: {a: int}\n'; awk 'BEGIN { for (i = 0; i < 998; i++) printf "#A%d: {#B & {a: >%d}, b%d: int}\n", i, i, i }'; } > wide.cue
+try 'wide: a definition narrowed by 998: widen' 0 'shows b997: int' 'widen --profile=wide wide.cue'
 # Attributes, each as long and as deep as it may be, and such as have no end.
 { printf '#A: {'; listed 20000 'a%d: int @go(A, "x")' '\n'; printf '}\n'; } > wide.cue
 try 'wide: 20,000 attributes of fields: export' 1000000 'shows "a19999":{"type":"integer"}' 'export --profile=wide --root #A wide.cue'

@@ -369,9 +369,9 @@ class Sources:
     def embedded(self, depth: int) -> str:
         """A definition, a literal, a disjunction or parentheses; a few that can't be embedded, or can't be so far."""
         form = self.chance.random()
-        if depth <= 0 or form < 0.5:
-            return self.name()
-        if form < 0.7:
+        if depth <= 0 or form < 0.45:
+            return self.narrowing() if form > 0.4 else self.name()
+        if form < 0.67:
             return self.struct(depth)
         if form < 0.89:
             return " | ".join(self.embedded(depth - 1) for _ in range(self.chance.randint(2, 3)))
@@ -379,9 +379,22 @@ class Sources:
             return f"({self.embedded(depth - 1)})"
         if form < 0.97:
             return self.joined(depth - 1)
-        if form < 0.985:
+        if form < 0.98:
             return f"{self.name()} & {self.struct(depth)}"
+        if form < 0.995:
+            return self.narrowing()
         return self.chance.choice([f"*{{}} | {self.struct(depth)}", "int", '"x"', "[...int]", f"{self.struct(depth)} | 1"])
+
+    def narrowing(self) -> str:
+        """A definition and a literal that narrows it, where it has the labels."""
+        fields = [f"{label}{self.chance.choice(['', '', '?', '!'])}: {self.chance.choice(ATOMS)}" for label in self.chance.choice(["a", "b", "ab", "ac"])]
+        operands = [self.name(), "{" + ", ".join(fields) + "}"]
+        self.chance.shuffle(operands)
+        return " & ".join(operands)
+
+    def base(self) -> str:
+        """A closed literal of plain values, which may be narrowed."""
+        return "{" + ", ".join(f"{label}: {self.chance.choice(ATOMS)}" for label in "abc") + "}"
 
     def field(self, depth: int) -> str:
         label = self.chance.choice("abcdef" if self.has_embeddings else LABELS)
@@ -404,7 +417,9 @@ class Sources:
         form = self.chance.random()
         if self.has_embeddings:
             one = self.struct(3) if name == "#P" or form < 0.8 else f"{self.struct(2)} | {self.struct(2)}"
-            return self.value(3) if form < 0.05 else self.joined(2) if form < 0.15 else one
+            if form < 0.15:
+                return self.value(3) if form < 0.05 else self.joined(2)
+            return self.base() if name != "#P" and form < 0.3 else one
         return self.value(3) if form < 0.3 else self.struct(3) if name == "#P" else self.disjunction(3)
 
     def further_body(self, name: str) -> str:
@@ -462,7 +477,7 @@ class Reading(WideReader):
 
 # What the model has and the program doesn't take yet: the last one where `is_taken` says so. The program refuses the first three by 11 before it looks at marks,
 # and the last one where it looks whether literals are opened.
-EMBEDDED_CONJUNCTION = "`&` with a reference that is embedded"
+EMBEDDED_CONJUNCTION = "`&` with a reference that is embedded, where that isn't the name of one closed literal, or the other operand isn't one"
 EMBEDDED_MARK = "a mark in what is embedded"
 TWO_VALUES = "two values of a label that an embedding brings together"
 JOINED = "literals that are joined"
@@ -489,9 +504,15 @@ class Taken(Widening):
         found = super().alternatives(it, copied, before, reaching, embedded, brought)
         if found is not None and embedded and it[0] == "marked":
             self.beyond.add(EMBEDDED_MARK)
-        if found is not None and embedded and it[0] == "and" and any(is_shut(part) for part in it[1]):
+        if found is not None and embedded and it[0] == "and" and any(is_shut(part) for part in it[1]) and not self.is_narrowing(it[1]):
             self.beyond.add(EMBEDDED_CONJUNCTION)
         return found
+
+    def is_narrowing(self, operands: list[tuple]) -> bool:
+        """One of two operands is a definition whose one body is a closed literal, and the other is such a literal."""
+        orders = (operands, operands[::-1]) if len(operands) == 2 else ()
+        bases = [(self.package.get(one[1], []), other) for one, other in orders if one[0] == "ref"]
+        return any(len(bodies) == 1 and is_closed_literal(bodies[0]) and is_closed_literal(other) for bodies, other in bases)
 
     def conjunction(self, operands: list[tuple], copied: frozenset, brought: tuple) -> tuple:
         if self.is_taken(operands, copied):
@@ -528,15 +549,19 @@ class Taken(Widening):
 
 
 def brings_together(one: Alternative) -> bool:
-    """Two declarations of one label hold literals or references, and one a reference, that isn't the same in both; `[string]` is of every
-    label, and not told apart so far."""
+    """Two declarations of one label, as `[string]` is of each, hold literals or references, and one a reference that isn't the same in both."""
     held = [it for it in one.declarations if not is_plain(it.value)]
     for place, it in enumerate(held):
         for other in held[:place]:
             is_apart = (holds_shut(it.value) or holds_shut(other.value)) and not (it.value[0] == "ref" and it.value == other.value)
-            if "[string]" in (it.mark, other.mark) or it.label == other.label and is_apart:
+            if is_apart and ("[string]" in (it.mark, other.mark) or it.label == other.label):
                 return True
     return False
+
+
+def is_closed_literal(it: tuple) -> bool:
+    """A literal without embeddings, `...` and `[string]`."""
+    return it[0] == "struct" and not it[2] and all(mark not in ("embed", "[string]") for _label, mark, _value in it[1])
 
 
 def has_mark(it: tuple) -> bool:

@@ -1,5 +1,5 @@
 // What is said of a form at its place, with the names that the source has there.
-use crate::bases::put_not_opened;
+use crate::bases::{put_not_opened, put_together};
 use crate::labels::{field_without, label_over, labels_inside, text_between};
 use crate::names::{put_field_reference, put_unknown};
 use crate::text::{put_around, put_filled, put_tokens};
@@ -38,12 +38,14 @@ pub fn put_advice(
         Form::HiddenName => put_hidden(text, near),
         Form::Limit | Form::LimitKind => put_limit(text, said, near),
         Form::EmbeddedDefinition => put_embedded_definition(text, said, near),
-        Form::EmbeddedNoStruct | Form::EmbeddedItself | Form::EmbeddedTwice => {
-            put_flaw(text, said, sources, near)
-        }
+        Form::EmbeddedNoStruct
+        | Form::EmbeddedItself
+        | Form::EmbeddedTwice
+        | Form::EmbeddedBesideEvery => put_flaw(text, said, sources, near),
         Form::EmbeddedStruct => put_embedded_struct(text, near),
         Form::FieldReference => put_field_reference(text, near),
         Form::NotOpened => put_not_opened(text, sources, near),
+        Form::Joined => put_together(text, sources, near),
         Form::ClosedOperand => put_closed_operand(text, said, near),
         Form::UnknownName | Form::UnknownDefinition => put_unknown(text, shown, said, sources),
         Form::StrayCharacter => text.push_str(said_of_shown(found.form, shown)),
@@ -141,26 +143,32 @@ fn other_fields<'a>(near: Near<'_, 'a>) -> Option<&'a str> {
 /// What is said first where the wide profile takes what is embedded.
 const TAKEN: &str = "`--profile wide` takes embeddings; without it ";
 
-/// Whether the wide profile takes what a struct embeds from a token on: definitions, literals and what parentheses hold, as alternatives.
+/// Whether the wide profile takes what a struct embeds from a token on: definitions, literals and what parentheses hold, as alternatives, and what
+/// `&` joins where no definition is beside it.
 fn is_taken(near: Near<'_, '_>) -> bool {
     let Some(embedded) = near.embedding() else {
         return false;
     };
+    let (mut is_joined, mut has_definition) = (false, false);
     let mut next = Some(near);
     for _ in embedded.from..embedded.to {
-        match next {
-            Some(token) if token.place >= embedded.to => return true,
-            Some(token) if is_taken_token(token.here()) => next = token.next(),
-            Some(_) => return false,
-            None => return true,
+        let Some(token) = next.filter(|token| token.place < embedded.to) else {
+            break;
+        };
+        let here = token.here();
+        if !is_taken_token(here) {
+            return false;
         }
+        is_joined = is_joined || here.text == "&";
+        has_definition = has_definition || here.sort == Sort::Definition;
+        next = token.next();
     }
-    true
+    !(is_joined && has_definition)
 }
 
 /// Whether embeddings have a token, outside of brackets.
 fn is_taken_token(token: Token<'_>) -> bool {
-    token.sort == Sort::Definition || matches!(token.text.as_bytes(), [b'{' | b'(' | b'|'])
+    token.sort == Sort::Definition || matches!(token.text.as_bytes(), [b'{' | b'(' | b'|' | b'&'])
 }
 
 /// Puts what to write for an embedded definition.

@@ -3,7 +3,7 @@ use crate::labels::{labels_inside, literal_of};
 use crate::text::{put_filled, put_tokens};
 use cs_forms::{Form, said_of_form};
 use cs_grammar::{Sort, Token};
-use cs_sources::{Declared, Near, Source, declared_in, separates};
+use cs_sources::{Declared, Near, Source, declared_in, follows_label, separates};
 use cs_text::Written;
 use std::alloc::{AllocError, Global};
 
@@ -22,11 +22,25 @@ pub(crate) fn put_not_opened(
 ) -> Written {
     let alloc = *text.allocator();
     let declared = declared_in(alloc, sources)?;
-    if near.before(1).text == ":" && put_repeated(text, &declared, near)? {
-        return Ok(());
+    if let Some(repeated) = repeated_at(alloc, &declared, near)? {
+        return put_repeated(text, &repeated);
     }
     let bases = bases_of(alloc, near)?;
     put_joined(text, &declared, &bases)
+}
+
+/// Puts what to do where the wide profile puts a struct literal together with others.
+pub(crate) fn put_together(
+    text: &mut String,
+    sources: &[Source<'_>],
+    near: Near<'_, '_>,
+) -> Written {
+    let alloc = *text.allocator();
+    let declared = declared_in(alloc, sources)?;
+    match repeated_at(alloc, &declared, near)? {
+        Some(repeated) => put_repeated_together(text, &repeated),
+        None => text.push_str(said_of_form(Form::Joined)),
+    }
 }
 
 /// The same for a struct literal that is joined with these definitions.
@@ -112,50 +126,106 @@ fn is_joined(token: Token<'_>) -> bool {
     !separates(token) && !matches!(token.text.as_bytes(), [b':' | b'|'] | [b'.', b'.', b'.'])
 }
 
-/// Puts that the field or the definition of a struct is declared several times, if it is.
-fn put_repeated(
-    text: &mut String,
+/// A label of a struct or a definition that is declared several times.
+#[derive(Drop)]
+struct Repeated<'s, 'a> {
+    name: &'a str,
+    times: usize,
+    /// Its labels in the struct; none of a definition.
+    labels: Vec<Near<'s, 'a>>,
+}
+
+/// The label that a token is the whole value of, or the front of that, where it is declared several times.
+fn repeated_at<'s, 'a>(
+    alloc: Global,
     declared: &Declared<'_, '_>,
-    near: Near<'_, '_>,
-) -> Result<bool, AllocError> {
-    let name = near.before(2).text;
-    let mut labels = labels_inside(*text.allocator(), near.bracket())?;
+    near: Near<'s, 'a>,
+) -> Result<Option<Repeated<'s, 'a>>, AllocError> {
+    let source = near.source;
+    let label = match near.place.checked_sub(1) {
+        Some(colon) if near.before(1).text == ":" => source.label_before(colon),
+        Some(_) | None => None,
+    };
+    let Some(label) = label else {
+        return Ok(None);
+    };
+    let name = source.token(label).text;
+    let mut labels = labels_inside(alloc, near.bracket())?;
     labels.retain(|label| label.here().text == name);
     // Outside of all brackets it is a definition.
-    let is_field = near.bracket().is_some();
-    let times = if is_field {
-        labels.len()
-    } else {
-        declared.times(name)
+    let times = match near.bracket() {
+        Some(_) => labels.len(),
+        None => declared.times(name),
     };
-    if times < 2 {
-        return Ok(false);
-    }
-    let often = if times == 2 { "twice" } else { "several times" };
-    put_filled(text, "`{}` is declared {}: ", &[name, often])?;
-    if is_field {
-        put_keys(text, name, &labels)?;
+    Ok(
+        (times > 1).then_some(Repeated {
+            name,
+            times,
+            labels,
+        }),
+    )
+}
+
+/// Puts that a label or a definition is declared several times, and what to write instead.
+fn put_repeated(text: &mut String, repeated: &Repeated<'_, '_>) -> Written {
+    let often = if repeated.times == 2 {
+        "twice"
     } else {
-        text.push_str("join its bodies to one, or end each of their structs with `...`")?;
+        "several times"
+    };
+    put_filled(text, "`{}` is declared {}: ", &[repeated.name, often])?;
+    if repeated.labels.is_empty() {
+        return text.push_str("join its bodies to one, or end each of their structs with `...`");
     }
-    Ok(true)
+    put_keys(text, repeated)
+}
+
+/// Puts that the wide profile puts together what is declared several times, and what to write without it.
+fn put_repeated_together(text: &mut String, repeated: &Repeated<'_, '_>) -> Written {
+    let all = if repeated.times == 2 { "both" } else { "all" };
+    let is_definition = repeated.labels.is_empty();
+    let parts = if is_definition { "bodies" } else { "values" };
+    put_filled(
+        text,
+        "`--profile wide` puts {} {} of `{}` together; without it ",
+        &[all, parts, repeated.name],
+    )?;
+    if is_definition {
+        return text.push_str("join them to one, or end each of their structs with `...`");
+    }
+    put_keys(text, repeated)
 }
 
 /// Puts the struct of the keys behind the labels of a name, where each has one and they are few.
-fn put_keys(text: &mut String, name: &str, labels: &[Near<'_, '_>]) -> Written {
-    put_filled(text, "join to `{}: {", &[name])?;
+fn put_keys(text: &mut String, repeated: &Repeated<'_, '_>) -> Written {
+    let labels = &repeated.labels;
+    put_filled(text, "join to `{}{}: {", &[repeated.name, mark_of(labels)])?;
     if labels.len() > MOST_NAMED || !labels.iter().all(|label| is_short(*label)) {
         return text.push_str("..}`");
     }
-    let mut mark = "";
+    let mut front = "";
     for label in labels {
-        put_filled(text, "{}{}: ..", &[mark, label.behind(2).text])?;
-        mark = ", ";
+        let mark = match label.behind(3).text {
+            ":" => "",
+            mark => mark,
+        };
+        put_filled(text, "{}{}{}: ..", &[front, label.behind(2).text, mark])?;
+        front = ", ";
     }
     text.push_str("}`")
 }
 
-/// Whether another label and its colon follow a label.
+/// The mark of labels that become one: `?` where all have it, or else that of the first one which has another or none.
+fn mark_of<'a>(labels: &[Near<'_, 'a>]) -> &'a str {
+    let mut marks = labels.iter().map(|label| label.behind(1).text);
+    match marks.find(|mark| *mark != "?") {
+        Some(":") => "",
+        Some(mark) => mark,
+        None => "?",
+    }
+}
+
+/// Whether another label follows a label and its colon.
 fn is_short(label: Near<'_, '_>) -> bool {
-    label.behind(1).text == ":" && label.behind(3).text == ":"
+    label.behind(1).text == ":" && follows_label(label.behind(3))
 }

@@ -6,10 +6,11 @@ ghost use Rattle.cs_tool.specs.CallRefusals.{IsSchemaText};
 ghost use Rattle.cs_tool.specs.Given.{bytes_in};
 ghost use Rattle.cs_widen.specs.Schemas.{SchemaMeans};
 
+use crate::joined::WideFaults;
 use crate::schema::check_schema;
 use crate::sources::{check, check_wide};
 use crate::warnings::{put_warning, warned};
-use cs_fault_words::{Profile, put_finding};
+use cs_fault_words::{Profile, Reading, put_finding};
 use cs_guard::Guarded;
 use cs_place::Named;
 use cs_sources::{declared_in, sources_of};
@@ -183,8 +184,11 @@ fn faulty<'a>(
 {
     let mut lines = String::new(alloc);
     let sources = sources_of(alloc, profile, named)?;
+    let wide = WideFaults::of(alloc, profile, faults, named)?;
     for fault in faults {
-        put_finding(alloc, &mut lines, fault, profile, root, schema, &sources)?;
+        let is_joined = wide.lack(fault);
+        let reading = Reading { profile, is_joined };
+        put_finding(alloc, &mut lines, fault, reading, root, schema, &sources)?;
     }
     let checked = Checked::Faulty;
     Ok(Findings { checked, lines })

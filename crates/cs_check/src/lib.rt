@@ -3,6 +3,7 @@
 #![tactic(auto)]
 
 mod findings;
+mod joined;
 mod schema;
 mod sources;
 mod warnings;

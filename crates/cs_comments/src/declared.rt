@@ -10,6 +10,15 @@ struct Declared {
     values: Vec<Notes>,
 }
 
+impl Declared {
+    fn nothing(alloc: Global) -> Declared {
+        Declared {
+            texts: Vec::new(alloc),
+            values: Vec::new(alloc),
+        }
+    }
+}
+
 /// The declarations of some names: of the definitions of a package, or of the fields of a struct.
 #[derive(Drop)]
 pub(crate) struct Declarations {
@@ -38,22 +47,27 @@ impl Declarations {
         }
     }
 
-    /// Adds a declaration: its text, and the notes of its value.
-    pub(crate) fn add(
+    /// Adds the text of a declaration.
+    pub(crate) fn add_text(
         &mut self,
         alloc: Global,
         name: String,
-        text: Option<String>,
+        text: String,
+    ) -> Result<(), AllocError> {
+        let nothing = Declared::nothing(alloc);
+        let declared = self.names.entry(name)?.or_insert(nothing);
+        Ok(declared.texts.push(text)?)
+    }
+
+    /// Adds the notes of the value of a declaration.
+    pub(crate) fn add_value(
+        &mut self,
+        alloc: Global,
+        name: String,
         value: Notes,
     ) -> Result<(), AllocError> {
-        let none = Declared {
-            texts: Vec::new(alloc),
-            values: Vec::new(alloc),
-        };
-        let declared = self.names.entry(name)?.or_insert(none);
-        if let Some(text) = text {
-            declared.texts.push(text)?;
-        }
+        let nothing = Declared::nothing(alloc);
+        let declared = self.names.entry(name)?.or_insert(nothing);
         Ok(declared.values.push(value)?)
     }
 

@@ -1,14 +1,19 @@
 // The values of default marks.
+use crate::comments::Comments;
 use cs_document::Doc;
 use cs_grammar::{Expr, ListEnd, Wide};
 use std::alloc::{AllocError, Global};
 use std::collections::BTreeMap;
 
-/// The value of the mark among the operands of a disjunction, if one of them has one.
-pub(crate) fn default_among(alloc: Global, operands: &[Expr]) -> Result<Option<Doc>, AllocError> {
+/// The value of the mark among the operands of a disjunction, if one of them has one and notes have room for it.
+pub(crate) fn default_among(
+    alloc: Global,
+    operands: &[Expr],
+    comments: &mut Comments,
+) -> Result<Option<Doc>, AllocError> {
     for operand in operands {
         if let Expr::Wide(Wide::Marked { value, .. }) = operand {
-            return value_of(alloc, value);
+            return value_of(alloc, value, comments);
         }
     }
     Ok(None)
@@ -16,18 +21,22 @@ pub(crate) fn default_among(alloc: Global, operands: &[Expr]) -> Result<Option<D
 
 /// The document that a literal is: `null`, a truth value, an integer, a text, `{}`, or a list of such. No other value can be a default.
 #[cycle(literals)]
-fn value_of(alloc: Global, literal: &Expr) -> Result<Option<Doc>, AllocError> {
+fn value_of(
+    alloc: Global,
+    literal: &Expr,
+    comments: &mut Comments,
+) -> Result<Option<Doc>, AllocError> {
     Ok(match literal {
         Expr::Null => Some(Doc::Null),
         Expr::Bool(truth) => Some(Doc::Bool(*truth)),
         Expr::Int(number) => Some(Doc::Int(*number)),
-        Expr::Text(text) => Some(Doc::Text(text.clone()?)),
-        Expr::Paren(inside) => return value_of(alloc, inside),
+        Expr::Text(text) => return text_of(alloc, text, comments),
+        Expr::Paren(inside) => return value_of(alloc, inside, comments),
         Expr::Struct { fields, .. } if fields.is_empty() => Some(Doc::Object(BTreeMap::new(alloc))),
         Expr::List {
             front,
             end: ListEnd::Closed,
-        } => return values_of(alloc, front),
+        } => return values_of(alloc, front, comments),
         Expr::Struct { .. }
         | Expr::List { .. }
         | Expr::Top
@@ -46,13 +55,26 @@ fn value_of(alloc: Global, literal: &Expr) -> Result<Option<Doc>, AllocError> {
 
 /// The list of the documents that some literals are.
 #[cycle(literals)]
-fn values_of(alloc: Global, literals: &[Expr]) -> Result<Option<Doc>, AllocError> {
+fn values_of(
+    alloc: Global,
+    literals: &[Expr],
+    comments: &mut Comments,
+) -> Result<Option<Doc>, AllocError> {
     let mut items = Vec::with_capacity(alloc, literals.len())?;
     for literal in literals {
-        let Some(item) = value_of(alloc, literal)? else {
+        let Some(item) = value_of(alloc, literal, comments)? else {
             return Ok(None);
         };
         items.push(item)?;
     }
     Ok(Some(Doc::List(items)))
+}
+
+/// The document that a text is, if notes have room for it.
+fn text_of(alloc: Global, text: &str, comments: &mut Comments) -> Result<Option<Doc>, AllocError> {
+    if comments.has_room(text.len()) {
+        Ok(Some(Doc::Text(String::from_str(alloc, text)?)))
+    } else {
+        Ok(None)
+    }
 }

@@ -1,40 +1,37 @@
 // The notes of values, as their translation to schemas has places for them.
-use crate::declared::Declarations;
+use crate::comments::{Comments, carried_number};
 use crate::defaults::default_among;
+use crate::members::Members;
 use cs_describe::Notes;
 use cs_grammar::{Declaration, Expr, Field, FieldMark, ListEnd, Wide};
 use std::alloc::{AllocError, Global};
-use std::vec::IntoIter;
 
-/// The texts of the definitions and fields of a source that are still to come, in its order; none where one has no text.
-pub(crate) type Texts = IntoIter<Option<String>>;
-
-/// The notes of a value; the texts to come are those of the fields in it.
+/// The notes of a value that carries the comments on the fields in it.
 #[cycle(values)]
 pub(crate) fn notes_of_value(
     alloc: Global,
     value: &Expr,
-    texts: &mut Texts,
+    comments: &mut Comments,
 ) -> Result<Notes, AllocError> {
     let mut notes = Notes::new(alloc);
     match value {
-        Expr::And(operands) => notes.all_of = notes_of_each(alloc, operands, texts)?,
+        Expr::And(operands) => notes.all_of = notes_of_each(alloc, operands, comments)?,
         Expr::Or(operands) => {
-            notes.any_of = notes_of_each(alloc, operands, texts)?;
-            notes.default = default_among(alloc, operands)?;
+            notes.any_of = notes_of_each(alloc, operands, comments)?;
+            notes.default = default_among(alloc, operands, comments)?;
         },
-        Expr::Paren(inside) => return notes_of_value(alloc, inside, texts),
+        Expr::Paren(inside) => return notes_of_value(alloc, inside, comments),
         // Nothing but its parentheses is left of `close` where it is widened.
-        Expr::Wide(Wide::Shut { value, .. }) => return notes_of_value(alloc, value, texts),
+        Expr::Wide(Wide::Shut { value, .. }) => return notes_of_value(alloc, value, comments),
         // A mark of a default is dropped where it is widened; its value is a note of the disjunction.
-        Expr::Wide(Wide::Marked { value, .. }) => return notes_of_value(alloc, value, texts),
+        Expr::Wide(Wide::Marked { value, .. }) => return notes_of_value(alloc, value, comments),
         Expr::Wide(Wide::Merged { declarations, .. }) => {
-            return notes_of_declarations(alloc, declarations, texts);
+            return notes_of_declarations(alloc, declarations, comments);
         },
-        Expr::Struct { fields, .. } => return notes_of_fields(alloc, fields, texts),
+        Expr::Struct { fields, .. } => return notes_of_fields(alloc, fields, comments),
         Expr::List { front, end } => {
-            notes.prefix = notes_of_each(alloc, front, texts)?;
-            notes.rest = notes_of_rest(alloc, end, texts)?;
+            notes.prefix = notes_of_each(alloc, front, comments)?;
+            notes.rest = notes_of_rest(alloc, end, comments)?;
         },
         Expr::Top
         | Expr::Bottom
@@ -57,11 +54,11 @@ pub(crate) fn notes_of_value(
 fn notes_of_each(
     alloc: Global,
     values: &[Expr],
-    texts: &mut Texts,
+    comments: &mut Comments,
 ) -> Result<Vec<Notes>, AllocError> {
     let mut each = Vec::with_capacity(alloc, values.len())?;
     for value in values {
-        each.push(notes_of_value(alloc, value, texts)?)?;
+        each.push(notes_of_value(alloc, value, comments)?)?;
     }
     Ok(each)
 }
@@ -71,132 +68,70 @@ fn notes_of_each(
 fn notes_of_rest(
     alloc: Global,
     end: &ListEnd,
-    texts: &mut Texts,
+    comments: &mut Comments,
 ) -> Result<Option<Box<Notes>>, AllocError> {
     match end {
         ListEnd::Each(value) => {
-            let notes = notes_of_value(alloc, value, texts)?;
+            let notes = notes_of_value(alloc, value, comments)?;
             Ok(Some(Box::new(alloc, notes)?))
         },
         ListEnd::Closed | ListEnd::Any => Ok(None),
     }
 }
 
-/// The notes of a struct: under `properties` those of its labels, and for each `[string]: T` one under `allOf`.
+/// The notes of a struct.
 #[cycle(values)]
 fn notes_of_fields(
     alloc: Global,
     fields: &[Field],
-    texts: &mut Texts,
+    comments: &mut Comments,
 ) -> Result<Notes, AllocError> {
-    let mut every = Vec::new(alloc);
-    let mut labels = Declarations::new(alloc);
+    let mut members = Members::new(alloc);
     for field in fields {
-        add_field(alloc, field, texts, &mut labels, &mut every)?;
+        add_field(alloc, field, comments, &mut members)?;
     }
-    notes_of_struct(alloc, labels, every)
+    members.into_notes(alloc)
 }
 
-/// The same of a literal with embeddings, which has the notes of the fields of itself and of the literals that it embeds.
+/// The same of a literal with embeddings, which is met only where nothing is put together: those of its own fields.
 #[cycle(values)]
 fn notes_of_declarations(
     alloc: Global,
     declarations: &[Declaration],
-    texts: &mut Texts,
+    comments: &mut Comments,
 ) -> Result<Notes, AllocError> {
-    let mut every = Vec::new(alloc);
-    let mut labels = Declarations::new(alloc);
-    add_declarations(alloc, declarations, texts, &mut labels, &mut every)?;
-    notes_of_struct(alloc, labels, every)
-}
-
-/// Adds the fields of a literal with embeddings.
-#[cycle(values)]
-fn add_declarations(
-    alloc: Global,
-    declarations: &[Declaration],
-    texts: &mut Texts,
-    labels: &mut Declarations,
-    every: &mut Vec<Notes>,
-) -> Result<(), AllocError> {
+    let mut members = Members::new(alloc);
     for declaration in declarations {
         match declaration {
-            Declaration::Field(field) => add_field(alloc, field, texts, labels, every)?,
-            Declaration::Embedded { value, .. } => {
-                add_embedded(alloc, value, texts, labels, every)?;
-            },
+            Declaration::Field(field) => add_field(alloc, field, comments, &mut members)?,
+            Declaration::Embedded { .. } => {},
         }
     }
-    Ok(())
+    members.into_notes(alloc)
 }
 
-/// Adds the fields of a literal that is embedded. The texts of other values are passed over: their fields stand elsewhere, or in an alternative.
-#[cycle(values)]
-fn add_embedded(
-    alloc: Global,
-    value: &Expr,
-    texts: &mut Texts,
-    labels: &mut Declarations,
-    every: &mut Vec<Notes>,
-) -> Result<(), AllocError> {
-    match value {
-        Expr::Struct { fields, .. } => {
-            for field in fields {
-                add_field(alloc, field, texts, labels, every)?;
-            }
-            Ok(())
-        },
-        Expr::Paren(inside) => add_embedded(alloc, inside, texts, labels, every),
-        Expr::Wide(Wide::Merged { declarations, .. }) => {
-            add_declarations(alloc, declarations, texts, labels, every)
-        },
-        _ => {
-            drop(notes_of_value(alloc, value, texts)?);
-            Ok(())
-        },
-    }
-}
-
-/// Adds a field: under its label, or to those under every key.
+/// Adds a field to a struct, or the comment on the next one.
 #[cycle(values)]
 fn add_field(
     alloc: Global,
     field: &Field,
-    texts: &mut Texts,
-    labels: &mut Declarations,
-    every: &mut Vec<Notes>,
+    comments: &mut Comments,
+    members: &mut Members,
 ) -> Result<(), AllocError> {
-    let text = texts.next().flatten();
-    let value = notes_of_value(alloc, &field.value, texts)?;
+    if let Some(number) = carried_number(field) {
+        return match comments.read(number)? {
+            Some(comment) => members.add_comment(alloc, comment),
+            None => Ok(()),
+        };
+    }
+    if !comments.has_room(field.label.len()) {
+        return Ok(());
+    }
+    let value = notes_of_value(alloc, &field.value, comments)?;
     match field.mark {
-        FieldMark::Every { .. } => Ok(every.push(notes_under_every_key(alloc, text, value)?)?),
+        FieldMark::Every { .. } => members.add_every(alloc, value),
         FieldMark::Regular | FieldMark::Optional | FieldMark::Required => {
-            labels.add(alloc, field.label.clone()?, text, value)
+            members.add_value(alloc, field.label.clone()?, value)
         },
     }
-}
-
-/// The notes of a struct, by those of its labels and those under every key.
-fn notes_of_struct(
-    alloc: Global,
-    labels: Declarations,
-    every: Vec<Notes>,
-) -> Result<Notes, AllocError> {
-    let mut notes = Notes::new(alloc);
-    notes.all_of = every;
-    notes.properties = labels.into_notes(alloc)?;
-    Ok(notes)
-}
-
-/// The notes of `[string]: T`, by its text and the notes of T.
-fn notes_under_every_key(
-    alloc: Global,
-    text: Option<String>,
-    value: Notes,
-) -> Result<Notes, AllocError> {
-    let mut value = value;
-    value.text = text;
-    let mut notes = Notes::new(alloc);
-    notes.additional = Some(Box::new(alloc, value)?);
-    Ok(notes)
 }

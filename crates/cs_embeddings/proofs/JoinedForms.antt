@@ -12,7 +12,7 @@ use Rattle.cs_embeddings.specs.Embedded.{can_be_embedded, embeds_well, embed_wel
 use Rattle.cs_embeddings.specs.Joined.{joined_with, joined_each, joined_end, joined_value, one_of}
 use Rattle.cs_embeddings.specs.Held.{first_place}
 use Rattle.cs_embeddings.specs.United.{are_several, unites, united}
-use Rattle.cs_embeddings.specs.Shut.{are_open}
+use Rattle.cs_embeddings.specs.Shut.{some_shut, are_open}
 use Rattle.cs_grammar.specs.declared.ast.Expr.{Expr}
 use Rattle.cs_embeddings.specs.Made.{IsNoRoom, IsMade, Makes, IsBelow, behind_marks, with_marks}
 use Rattle.cs_embeddings.specs.Size.{size, sizes, size_end}
@@ -23,7 +23,8 @@ use Rattle.cs_embeddings.specs.declared.joined.Room.{Room}
 pub united_can : (ds : List DefinitionTree) (es : Trees) → unites ds es ≡ true → can_be_embedded ds most_steps (conjunction es) ≡ true
 united_can ds es h =
     let can = can_be_embedded ds most_steps (conjunction es) in
-    (and_parts (not (are_open es)) can (and_parts (are_several es) (not (are_open es) && can) h).1).1
+    let apart = not (some_shut false es) in
+    (and_parts apart can (and_parts (not (are_open es)) (apart && can) (and_parts (are_several es) (not (are_open es) && (apart && can)) h).1).1).1
 
 module _ (ds : List DefinitionTree) (n : ℕ) where
   abbrev pub inner : Tree → Bool

@@ -14,7 +14,7 @@ use Rattle.cs_grammar.proofs.Views.{view-declared-field, view-embedded}
 use Rattle.cs_embeddings.specs.Alternatives.{Alternative, with_fields, opened_if, meets, meet, at, join_declarations, join_bodies, join_operands, join_all, join_definition, alternatives}
 use Rattle.cs_embeddings.specs.Checks.{bodies_view}
 use Rattle.cs_embeddings.specs.Embedded.{has_operand, all_embedded, embeds_well, declarations_embed_well, can_be_embedded}
-use Rattle.cs_embeddings.specs.Shut.{some_shut}
+use Rattle.cs_embeddings.specs.Narrowed.{may_join}
 use Rattle.cs_embeddings.specs.Views.{weight_of, with_field, IsTooMuch}
 use Rattle.cs_embeddings.specs.declared.fault.EmbeddingFault.{EmbeddingFault}
 use Rattle.cs_embeddings.proofs.Weights.{too_much_of_more, Grows, declarations_grow, bodies_grow, all_grow, map_grows, meet_keeps, weight-append}
@@ -91,7 +91,7 @@ module _ (ds : List DefinitionTree) where
         → (all_embedded (can_be_embedded ds left) es ≡ true) × (alternatives ds n p e a ≡ join_all (alternatives ds left) p es (a ∷ []))
     unfolding can_be_embedded alternatives
     at_conjunction e es is h =
-        let w = and_parts (not (some_shut false es)) (all_embedded (can_be_embedded ds left) es) (step e (conjunction es) is h) in
+        let w = and_parts (may_join ds es) (all_embedded (can_be_embedded ds left) es) (step e (conjunction es) is h) in
         (w.1, stands e (conjunction es) is)
 
     pub at_reference : (e : Tree) (s : List ℕ) (o : ℕ) → e ≡ reference s o → can_be_embedded ds n e ≡ true

@@ -1,5 +1,7 @@
 -- definitions one after another
 pub mod Bodies
+-- the labels of those whose one body is a closed literal
+pub mod Labelled
 -- declarations so far
 pub mod Clashing
 -- what parts find, one after another

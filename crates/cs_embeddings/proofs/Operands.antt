@@ -1,10 +1,11 @@
 -- Operands that are joined, as a list of values.
-use Rattle.std.proofs.Common.{◌≡◌, ℕ, suc, Bool, true, false, ◌&&◌, not, List, [], ◌∷◌, Option, None, refl, sym, ap, ◌∙◌}
+use Rattle.std.proofs.Common.{◌≡◌, ℕ, suc, Bool, true, false, ◌&&◌, ◌||◌, not, List, [], ◌∷◌, Option, None, refl, sym, ap, ◌∙◌}
 use Rattle.std.specs.List.{flat_map, list_all}
 use Rattle.cs_grammar.specs.Tree.{Tree, conjunction, DefinitionTree}
 use Rattle.cs_grammar.specs.View.{trees_of}
 use Rattle.cs_embeddings.specs.Alternatives.{Alternative, join_all, join_bodies, nothing, alternatives}
 use Rattle.cs_embeddings.specs.Embedded.{all_embedded, can_be_embedded}
+use Rattle.cs_embeddings.specs.Narrowed.{narrows}
 use Rattle.cs_embeddings.specs.Shut.{some_shut}
 use Rattle.cs_embeddings.proofs.Joins.{at_conjunction}
 use Rattle.cs_embeddings.proofs.Steps.{stepped}
@@ -20,14 +21,16 @@ joined_as_bodies inner p (t ∷ ts) xs = joined_as_bodies inner p ts (flat_map (
 
 module _ (ds : List DefinitionTree) (n left : ℕ) (ts : List Tree) (one : n ≡ suc left) where
   pub together_can : (b : Bool) → not (some_shut false (trees_of ts)) ≡ true → b ≡ list_all (can_be_embedded ds left) ts
-      → b ≡ can_be_embedded ds n (conjunction (trees_of ts))
+      → b ≡ (not (some_shut false (trees_of ts)) && can_be_embedded ds n (conjunction (trees_of ts)))
   together_can b apart can =
+      let here =
       stepped ds n left (conjunction (trees_of ts)) b one
-      (can ∙ sym (embedded_as_bodies (can_be_embedded ds left) ts) ∙ sym (ap (λ s. s && all_embedded (can_be_embedded ds left) (trees_of ts)) apart))
+      (can ∙ sym (embedded_as_bodies (can_be_embedded ds left) ts)
+      ∙ sym (ap (λ s. (s || narrows ds (trees_of ts)) && all_embedded (can_be_embedded ds left) (trees_of ts)) apart)) in
+      here ∙ sym (ap (λ s. s && can_be_embedded ds n (conjunction (trees_of ts))) apart)
 
-  pub shut_cannot : not (some_shut false (trees_of ts)) ≡ false → false ≡ can_be_embedded ds n (conjunction (trees_of ts))
-  shut_cannot shut =
-      stepped ds n left (conjunction (trees_of ts)) false one (sym (ap (λ s. s && all_embedded (can_be_embedded ds left) (trees_of ts)) shut))
+  pub shut_cannot : not (some_shut false (trees_of ts)) ≡ false → false ≡ (not (some_shut false (trees_of ts)) && can_be_embedded ds n (conjunction (trees_of ts)))
+  shut_cannot shut = sym (ap (λ s. s && can_be_embedded ds n (conjunction (trees_of ts))) shut)
 
   -- each can be embedded, and they are joined one behind the other
   module _ (can : can_be_embedded ds n (conjunction (trees_of ts)) ≡ true) where

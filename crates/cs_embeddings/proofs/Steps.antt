@@ -15,7 +15,7 @@ use Rattle.cs_grammar.specs.Bodies.{bodies}
 use Rattle.cs_embeddings.specs.Checks.{TellsLeast, TellsRounds, TellsSteps, takes_by}
 use Rattle.cs_embeddings.specs.Embedded.{has_operand, all_embedded, fields_embed_well, declarations_embed_well, can_be_embedded}
 use Rattle.cs_embeddings.specs.Flaws.{is_none}
-use Rattle.cs_embeddings.specs.Shut.{some_shut}
+use Rattle.cs_embeddings.specs.Narrowed.{may_join}
 use Rattle.cs_embeddings.specs.declared.embedded.Embeddable.{Embeddable}
 use Rattle.cs_embeddings.proofs.Bodies.{Named, has_name, has_name_push}
 use Rattle.cs_embeddings.proofs.Monotone.{steps_more}
@@ -28,7 +28,7 @@ can_step ds inner (wide (marked o e)) = false
 can_step ds inner (wide (shut o e)) = false
 can_step ds inner (paren e) = inner e
 can_step ds inner (disjunction es) = has_operand es && all_embedded inner es
-can_step ds inner (conjunction es) = not (some_shut false es) && all_embedded inner es
+can_step ds inner (conjunction es) = may_join ds es && all_embedded inner es
 can_step ds inner (reference s o) = list_all inner (bodies s ds)
 can_step ds inner (atom a) = false
 can_step ds inner (named s o) = false

@@ -1,6 +1,6 @@
 -- Alternatives only grow: what is joined to alternatives is as much as they are, at least. So where some on the way are more than there is room
 -- for, all are.
-use Rattle.std.proofs.Common.{◌≡◌, ℕ, zero, suc, ◌+◌, ◌≤◌, Bool, true, false, not, List, [], ◌∷◌, ◌++◌, map, length, Option, Some, refl, arith}
+use Rattle.std.proofs.Common.{◌≡◌, ℕ, zero, suc, ◌+◌, ◌≤◌, Bool, true, false, List, [], ◌∷◌, ◌++◌, map, length, Option, Some, refl, arith}
 use Rattle.std.proofs.lemmas.Bool.{and_parts, both_ways, cond_both}
 use Rattle.std.proofs.lemmas.List.{length_push}
 use Rattle.std.specs.List.{flat_map, list_all}
@@ -8,7 +8,7 @@ use Rattle.cs_grammar.specs.Tree.{Tree, atom, named, reference, conjunction, dis
 use Rattle.cs_grammar.specs.Bodies.{bodies}
 use Rattle.cs_embeddings.specs.Alternatives.{Alternative, with_declaration, with_fields, opened_if, meets, meet, at, join_declarations, join_bodies, join_operands, join_all, join_definition, alternatives}
 use Rattle.cs_embeddings.specs.Embedded.{has_operand, all_embedded, embeds_well, declarations_embed_well, can_be_embedded}
-use Rattle.cs_embeddings.specs.Shut.{some_shut}
+use Rattle.cs_embeddings.specs.Narrowed.{may_join}
 use Rattle.cs_embeddings.specs.Views.{weight_of, IsTooMuch}
 use Rattle.cs_embeddings.specs.declared.fault.EmbeddingFault.{EmbeddingFault}
 use Rattle.cs_embeddings.specs.declared.fault.EmbeddingFault.TheVariants.{OutOfMemory, UnknownName, NoStruct, Reopened, TooHigh, TooLarge}
@@ -126,7 +126,7 @@ module _ (ds : List DefinitionTree) where
       let w = and_parts (has_operand es) (all_embedded (can_be_embedded ds n) es) h in
       operands_grow (can_be_embedded ds n) (alternatives ds n) (alternatives_grow n) p es w.0 w.1 a
   alternatives_grow (suc n) p (conjunction es) h a =
-      let w = and_parts (not (some_shut false es)) (all_embedded (can_be_embedded ds n) es) h in
+      let w = and_parts (may_join ds es) (all_embedded (can_be_embedded ds n) es) h in
       all_grow (can_be_embedded ds n) (alternatives ds n) (alternatives_grow n) p es w.1 (a ∷ [])
   alternatives_grow (suc n) p (reference s o) h a =
       definition_grows (can_be_embedded ds n) (alternatives ds n) (alternatives_grow n) s (at p o) (bodies s ds) h a

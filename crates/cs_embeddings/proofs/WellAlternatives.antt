@@ -1,5 +1,5 @@
 -- The values of alternatives embed well: what can be embedded in so many steps declares only values whose embeddings take no more.
-use Rattle.std.proofs.Common.{◌≡◌, ℕ, zero, suc, ◌≤◌, Bool, true, false, not, List, [], ◌∷◌, ◌++◌, map, Option, Some, refl, arith}
+use Rattle.std.proofs.Common.{◌≡◌, ℕ, zero, suc, ◌≤◌, Bool, true, false, List, [], ◌∷◌, ◌++◌, map, Option, Some, refl, arith}
 use Rattle.std.proofs.lemmas.Bool.{and_parts, both_ways, cond_both}
 use Rattle.std.specs.List.{flat_map, list_all, AllByRecursion}
 use Rattle.cs_grammar.specs.declared.ast.FieldMark.{FieldMark}
@@ -7,7 +7,7 @@ use Rattle.cs_grammar.specs.Tree.{Label, Tree, atom, named, reference, conjuncti
 use Rattle.cs_grammar.specs.Bodies.{bodies}
 use Rattle.cs_embeddings.specs.Alternatives.{Alternative, nothing, with_declaration, with_fields, opened_if, meets, meet, at, join_declarations, join_bodies, join_operands, join_all, join_definition, alternatives, alternatives_of, most_steps}
 use Rattle.cs_embeddings.specs.Embedded.{has_operand, all_embedded, embeds_well, fields_embed_well, declarations_embed_well, can_be_embedded}
-use Rattle.cs_embeddings.specs.Shut.{some_shut}
+use Rattle.cs_embeddings.specs.Narrowed.{may_join}
 use Rattle.cs_embeddings.proofs.Monotone.{embeds_well_more}
 
 -- ---- lists
@@ -106,7 +106,7 @@ module _ (ds : List DefinitionTree) (most : ℕ) where
       let w = and_parts (has_operand es) (all_embedded (can_be_embedded ds n) es) h in
       good_operands IsWell (can_be_embedded ds n) (alternatives ds n) (well n l) (well_alternatives n (omega arith)) p es w.1 a k
   well_alternatives (suc n) l p (conjunction es) h a k =
-      let w = and_parts (not (some_shut false es)) (all_embedded (can_be_embedded ds n) es) h in
+      let w = and_parts (may_join ds es) (all_embedded (can_be_embedded ds n) es) h in
       good_all IsWell (can_be_embedded ds n) (alternatives ds n) (well n l) (well_alternatives n (omega arith)) p es w.1 (a ∷ []) (k, tt)
   well_alternatives (suc n) l p (reference s o) h a k =
       good_definition IsWell (can_be_embedded ds n) (alternatives ds n) (well n l) (well_alternatives n (omega arith)) s (at p o) (bodies s ds) h a k

@@ -6,17 +6,22 @@ use Rattle.std.specs.declared.alloc.Global.{Global}
 use Rattle.std.specs.declared.vec.Vec.{Vec}
 use Rattle.std.specs.Borrow.{Bor}
 use Rattle.std.specs.BTreeMap.{BTreeMap, get_by}
+use Rattle.std.specs.BTreeSet.{BTreeSet}
 use Rattle.std.specs.Cmp.Lexicographic.{slice_cmp}
 use Rattle.std.specs.Ordering.{nat_cmp}
 use Rattle.cs_grammar.specs.declared.ast.Expr.{Expr}
-use Rattle.cs_grammar.specs.Tree.{Tree, reference, DefinitionTree, body}
+use Rattle.cs_grammar.specs.Tree.{Tree, reference, Fields, DefinitionTree, body}
 use Rattle.cs_grammar.specs.Bodies.{bodies}
 use Rattle.cs_grammar.specs.View.{expr_view, SeenDeclaration, field_seen, embedding_seen}
+use Rattle.cs_resolve.specs.Narrowed.{HoldsTexts}
+use Rattle.cs_resolve.specs.Refinement.{texts}
 use Rattle.cs_embeddings.specs.Alternatives.{Alternative, most_steps}
 use Rattle.cs_embeddings.specs.Embedded.{can_be_embedded, embeds_well}
 use Rattle.cs_embeddings.specs.Flaws.{Flaw, unknown, no_struct, is_none, flaws, flaws_here}
 use Rattle.cs_embeddings.specs.Views.{alternatives_view, IsTooMuch}
 use Rattle.cs_embeddings.specs.declared.found.Found.{Found}
+use Rattle.cs_embeddings.specs.Narrowed.{sole_literal}
+use Rattle.cs_embeddings.specs.declared.bases.Bases.{Bases}
 use Rattle.cs_embeddings.specs.declared.definitions.Bodies.{Bodies}
 use Rattle.cs_embeddings.specs.declared.embedded.Embeddable.{Embeddable}
 use Rattle.cs_embeddings.specs.declared.flaws.Flaw as seen
@@ -36,9 +41,19 @@ TellsEntry (Some v) es = (bodies_view v.items ≡ es) × (is_none es ≡ false)
 abbrev pub TellsTable : BTreeMap (Bor (List ℕ)) (Vec (Bor Expr) Global) → List DefinitionTree → Type 0
 TellsTable m ds = (s : List ℕ) → TellsEntry (get_by (λ k. slice_cmp nat_cmp s k.now) m) (bodies s ds)
 
--- it has them, and the list has the name of each definition and no other
+-- a set has the labels of the closed literal that is found, and none is kept where none is
+abbrev pub TellsBase : Option (BTreeSet (Bor (List ℕ))) → Option Fields → Type 0
+TellsBase None found = found ≡ None
+TellsBase (Some labels) found = (fs : Fields) × (found ≡ Some fs) × HoldsTexts labels (texts fs)
+
+-- the table has the labels of each name's closed literal
+abbrev pub TellsBases : Bases → (List ℕ → Option Fields) → Type 0
+TellsBases b found = (s : List ℕ) → TellsBase (get_by (λ k. slice_cmp nat_cmp s k.now) b.by_name) (found s)
+
+-- it has them, with the labels of those that are a closed literal, and the list has the name of each definition and no other
 pub record TellsBodies (b : Bodies) (ds : List DefinitionTree) : Type 0 where
   pub table : TellsTable b.by_name ds
+  pub bases : TellsBases b.bases (λ s. sole_literal (bodies s ds))
   pub none : b.none.items ≡ []
   pub named : (s : List ℕ) → list_any (λ t. bytes_eq s t.now) b.names.items ≡ not (is_none (bodies s ds))
 

@@ -13,14 +13,26 @@ use Rattle.cs_embeddings.specs.Alternatives.{Brought}
 use Rattle.cs_embeddings.specs.Clashes.{are_apart}
 use Rattle.cs_embeddings.specs.Gathered.{is_every}
 use Rattle.cs_embeddings.specs.declared.clashes.Seen.{Seen}
+use Rattle.cs_embeddings.specs.declared.clashes.Values.{Values}
+use Rattle.cs_embeddings.specs.declared.clashes.Values.TheVariants.{Nothing, Alike, Apart}
 
-abbrev pub is_nothing : List Brought → Bool
-is_nothing [] = true
-is_nothing (d ∷ ds) = false
+-- a declaration whose value is apart from e
+abbrev pub is_apart : Tree → Brought → Bool
+is_apart e d = are_apart d.value e
 
--- a declaration of the label, whose value is apart from e
+-- such a one of the label
 abbrev pub is_other : List ℕ → Tree → Brought → Bool
 is_other s e d = bytes_eq d.label.text s && are_apart d.value e
+
+-- such a one of every label
+abbrev pub is_apart_every : Tree → Brought → Bool
+is_apart_every e d = is_every d.mark && are_apart d.value e
+
+-- the first value speaks for all of them, or each value is apart from one of them
+abbrev pub TellsValues : Values → List Brought → Type 0
+TellsValues Nothing before = before ≡ []
+TellsValues (Alike first) before = (e : Tree) → list_any (is_apart e) before ≡ are_apart (expr_view first.now) e
+TellsValues Apart before = (e : Tree) → list_any (is_apart e) before ≡ true
 
 -- the first value of a label speaks for all of them
 abbrev pub TellsFirst : Option (Bor Expr) → List ℕ → List Brought → Type 0
@@ -28,6 +40,8 @@ TellsFirst None s before = list_any (λ d. bytes_eq d.label.text s) before ≡ f
 TellsFirst (Some first) s before = (e : Tree) → list_any (is_other s e) before ≡ are_apart (expr_view first.now) e
 
 pub record TellsSeen (seen : Seen) (before : List Brought) : Type 0 where
-  pub empty : seen.is_empty ≡ is_nothing before
+  pub values : TellsValues seen.values before
   pub every : seen.has_every ≡ list_any (λ d. is_every d.mark) before
+  -- where there are some of every label, these speak for all
+  pub spoken : seen.has_every ≡ true → (e : Tree) → list_any (is_apart_every e) before ≡ list_any (is_apart e) before
   pub firsts : seen.has_every ≡ false → (s : List ℕ) → TellsFirst (get_by (λ k. slice_cmp nat_cmp s k.now) seen.firsts) s before

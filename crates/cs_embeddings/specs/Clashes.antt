@@ -1,5 +1,5 @@
 -- What an embedding would open (own rule): in a literal with embeddings a label has one value that holds a struct literal or a reference, or several
--- of which none holds a reference, or the same reference each time. CUE opens what is closed there.
+-- of which none holds a reference, or the same reference each time; a value of `[string]` is one of each label. CUE opens what is closed there.
 use Rattle.std.specs.Prelude.{ℕ, zero, suc, Bool, true, false, ◌&&◌, ◌||◌, not, List, [], ◌∷◌, ◌++◌, if◌then◌else◌, Option, Some, None}
 use Rattle.std.specs.List.{list_any, flat_map}
 use Rattle.std.specs.Str.{bytes_eq}
@@ -19,36 +19,34 @@ is_some_place (Some o) = true
 abbrev pub is_plain : Brought → Bool
 is_plain d = not (is_some_place (holds d.value))
 
+-- the definition that an expression is a reference to
+abbrev pub referred : Tree → Option (List ℕ)
+referred (reference s o) = Some s
+referred (atom a) = None
+referred (named t o) = None
+referred (conjunction es) = None
+referred (disjunction es) = None
+referred (paren e) = None
+referred (struct o fs b) = None
+referred (list es end) = None
+referred (wide w) = None
+
 -- both refer to one definition
-abbrev pub refers_to : List ℕ → Tree → Bool
-refers_to s (reference t o) = bytes_eq s t
-refers_to s (atom a) = false
-refers_to s (named t o) = false
-refers_to s (conjunction es) = false
-refers_to s (disjunction es) = false
-refers_to s (paren e) = false
-refers_to s (struct o fs b) = false
-refers_to s (list es end) = false
-refers_to s (wide w) = false
+abbrev pub are_same : Option (List ℕ) → Option (List ℕ) → Bool
+are_same None n = false
+are_same (Some s) None = false
+are_same (Some s) (Some t) = bytes_eq s t
 
 abbrev pub is_same_reference : Tree → Tree → Bool
-is_same_reference (reference s o) f = refers_to s f
-is_same_reference (atom a) f = false
-is_same_reference (named t o) f = false
-is_same_reference (conjunction es) f = false
-is_same_reference (disjunction es) f = false
-is_same_reference (paren e) f = false
-is_same_reference (struct o fs b) f = false
-is_same_reference (list es end) f = false
-is_same_reference (wide w) f = false
+is_same_reference e f = are_same (referred e) (referred f)
 
 -- something that is shut stands in one of two expressions, and they aren't the same reference
 abbrev pub are_apart : Tree → Tree → Bool
 are_apart e f = (is_shut true e || is_shut true f) && not (is_same_reference e f)
 
--- two declarations that aren't plain are of one label, and what is shut in one would be opened by the other; `[string]` is of every label
+-- two declarations that aren't plain are of one label, as `[string]` is of each, and what is shut in one would be opened by the other
 abbrev pub differ : Brought → Brought → Bool
-differ c d = is_every c.mark || (is_every d.mark || (bytes_eq c.label.text d.label.text && are_apart c.value d.value))
+differ c d = (is_every c.mark || (is_every d.mark || bytes_eq c.label.text d.label.text)) && are_apart c.value d.value
 
 -- the declarations that aren't plain
 abbrev pub held : List Brought → List Brought

@@ -1,8 +1,9 @@
 -- Embeddings: what a literal with embeddings can be, which expressions can be embedded, and what files stand for without embeddings.
 pub mod Shut
 pub mod Alternatives
-pub mod Embedded
 pub mod Held
+pub mod Narrowed
+pub mod Embedded
 pub mod United
 pub mod Gathered
 pub mod Joined

@@ -4,7 +4,7 @@ use Rattle.std.specs.Prelude.{ℕ, Bool, true, false, ◌&&◌, not, List, Optio
 use Rattle.cs_grammar.specs.Tree.{conjunction, Trees, none, more, DefinitionTree}
 use Rattle.cs_embeddings.specs.Alternatives.{Alternative, nothing, alternatives, most_steps}
 use Rattle.cs_embeddings.specs.Embedded.{can_be_embedded}
-use Rattle.cs_embeddings.specs.Shut.{are_open}
+use Rattle.cs_embeddings.specs.Shut.{some_shut, are_open}
 
 abbrev pub are_several : Trees → Bool
 are_several none = false
@@ -12,7 +12,7 @@ are_several (more e none) = false
 are_several (more e (more f es)) = true
 
 abbrev pub unites : List DefinitionTree → Trees → Bool
-unites ds es = are_several es && (not (are_open es) && can_be_embedded ds most_steps (conjunction es))
+unites ds es = are_several es && (not (are_open es) && (not (some_shut false es) && can_be_embedded ds most_steps (conjunction es)))
 
 -- what they can be together
 abbrev pub united : List DefinitionTree → Option ℕ → Trees → List Alternative

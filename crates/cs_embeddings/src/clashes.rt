@@ -3,7 +3,7 @@ ghost use Rattle.std.specs.Prelude.{◌≡◌, false, List, [], ◌∷◌, ◌++
 ghost use Rattle.std.specs.List.{list_any};
 ghost use Rattle.cs_grammar.specs.View.{expr_view};
 ghost use Rattle.cs_embeddings.specs.Alternatives as Alternatives;
-ghost use Rattle.cs_embeddings.specs.ClashTable.{TellsSeen};
+ghost use Rattle.cs_embeddings.specs.ClashTable.{TellsSeen, TellsValues, is_apart};
 ghost use Rattle.cs_embeddings.specs.Views.{brought_view};
 ghost use Rattle.cs_embeddings.specs.Clashes as Spec;
 ghost use Rattle.cs_embeddings.specs.Gathered.{is_every};
@@ -39,27 +39,67 @@ pub(crate) fn is_every(mark: FieldMark) -> bool
     matches!(mark, FieldMark::Every { .. })
 }
 
+/// The values of declarations.
+#[derive(Clone, Copy)]
+enum Values<'a> {
+    Nothing,
+    /// The first one: no value is apart from it.
+    Alike(&'a Expr),
+    /// Two are apart, so each other value is apart from one of them.
+    Apart,
+}
+
+impl<'a> Values<'a> {
+    /// Whether a value is apart from one of them.
+    fn differ(self, value: &Expr) -> bool
+        ensures { (before : List Alternatives.Brought) → TellsValues self.entry before
+            → result ≡ list_any (is_apart (expr_view value.now)) before }
+    {
+        match self {
+            Values::Nothing => false,
+            Values::Alike(first) => are_apart(first, value),
+            Values::Apart => true,
+        }
+    }
+
+    /// These and that of one declaration more.
+    fn with(self, value: &'a Expr) -> Values<'a>
+        ensures { (before : List Alternatives.Brought) (d : Alternatives.Brought) → d.value ≡ expr_view value.now
+            → TellsValues self.entry before → TellsValues result (before ++ d ∷ []) }
+    {
+        match self {
+            Values::Nothing => Values::Alike(value),
+            Values::Alike(first) => {
+                if are_apart(first, value) {
+                    Values::Apart
+                } else {
+                    Values::Alike(first)
+                }
+            }
+            Values::Apart => Values::Apart,
+        }
+    }
+}
+
 /// The declarations so far that aren't plain.
 #[derive(Drop)]
 struct Seen<'a> {
     /// The first one of each label. Those behind it are the same reference, or nothing in any of them is shut.
     firsts: BTreeMap<&'a str, &'a Expr>,
-    is_empty: bool,
+    /// Those of all labels.
+    values: Values<'a>,
     /// Whether one is `[string]`.
     has_every: bool,
 }
 
 impl<'a> Seen<'a> {
-    /// Whether a declaration differs from one of them.
+    /// Whether a declaration differs from one of them. Where one is `[string]`, none of them is apart from it.
     fn differs(&self, brought: Brought<'a>) -> bool
         ensures { (before : List Alternatives.Brought) → TellsSeen self.now before
             → result ≡ list_any (λ c. Spec.differ c (brought_view brought.entry)) before }
     {
-        if is_every(brought.field.mark) {
-            return !self.is_empty;
-        }
-        if self.has_every {
-            return true;
+        if is_every(brought.field.mark) || self.has_every {
+            return self.values.differ(&brought.field.value);
         }
         match self.firsts.get(brought.field.label.as_str()) {
             Some(first) => are_apart(first, &brought.field.value),
@@ -73,7 +113,7 @@ impl<'a> Seen<'a> {
             → list_any (λ c. Spec.differ c (brought_view brought.entry)) before ≡ false
             → TellsSeen self.new (before ++ brought_view brought.entry ∷ [])) }
     {
-        self.is_empty = false;
+        self.values = self.values.with(&brought.field.value);
         if is_every(brought.field.mark) {
             self.has_every = true;
             return Ok(());
@@ -95,7 +135,7 @@ pub(crate) fn first_clash(
 {
     let mut seen = Seen {
         firsts: BTreeMap::new(alloc),
-        is_empty: true,
+        values: Values::Nothing,
         has_every: false,
     };
     for brought in declarations {

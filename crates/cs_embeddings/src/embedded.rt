@@ -1,5 +1,5 @@
 // Which expressions can be embedded.
-ghost use Rattle.std.specs.Prelude.{◌≡◌, ℕ, suc, ◌<◌, ◌≤◌, Bool, false, List, [], ◌∷◌, ◌++◌, map, IfOk, OnOk};
+ghost use Rattle.std.specs.Prelude.{◌≡◌, ℕ, suc, ◌<◌, ◌≤◌, Bool, false, ◌&&◌, not, List, [], ◌∷◌, ◌++◌, map, IfOk, OnOk};
 ghost use Rattle.std.specs.Borrow.{Bor};
 ghost use Rattle.std.specs.List.{list_all};
 ghost use Rattle.cs_grammar.specs.Tree.{DefinitionTree, reference, conjunction};
@@ -8,6 +8,8 @@ ghost use Rattle.cs_grammar.specs.View.{expr_view, exprs_view, fields_view, decl
 ghost use Rattle.cs_embeddings.specs.Alternatives.{most_steps};
 ghost use Rattle.cs_embeddings.specs.Checks.{TellsBodies, TellsSteps, TellsRounds, bodies_view};
 ghost use Rattle.cs_embeddings.specs.Flaws.{is_none};
+ghost use Rattle.cs_embeddings.specs.Narrowed as Narrowed;
+ghost use Rattle.cs_embeddings.specs.Shut as Shut;
 ghost use Rattle.cs_embeddings.specs.United as United;
 ghost use Rattle.cs_embeddings.specs.Embedded as Spec;
 ghost use Rattle.cs_embeddings.specs.Embedded.{can_be_embedded, all_embedded, embeds_well, embed_well, fields_embed_well, declarations_embed_well, end_embeds_well};
@@ -101,9 +103,7 @@ impl<'b, 'a> Embeddable<'b, 'a> {
             }
             Expr::Paren(inside) => self.can_embed(inside, left),
             Expr::Or(operands) => has_operand(operands) && self.can_embed_all(operands, left),
-            Expr::And(operands) => {
-                !some_shut(false, operands) && self.can_embed_all(operands, left)
-            }
+            Expr::And(operands) => self.may_join(operands) && self.can_embed_all(operands, left),
             Expr::Reference { text, .. } => self.takes(text, steps),
             Expr::Top
             | Expr::Bottom
@@ -121,6 +121,14 @@ impl<'b, 'a> Embeddable<'b, 'a> {
         }
     }
 
+    /// Whether operands of `&` that are embedded can be joined: nothing in them is shut, or one is a definition that the other narrows.
+    fn may_join(&self, operands: &Vec<Expr>) -> bool
+        ensures { (ds : List DefinitionTree) → TellsBodies self.now.bodies.now ds
+            → result ≡ Narrowed.may_join ds (exprs_view operands.now.items) }
+    {
+        !some_shut(false, operands) || self.bodies.bases.narrows(operands)
+    }
+
     /// Whether operands that are joined are put together.
     pub(crate) fn unites(&self, operands: &[&Expr]) -> bool
         ensures { (ds : List DefinitionTree) → TellsBodies self.now.bodies.now ds → TellsSteps self.now ds most_steps
@@ -129,10 +137,11 @@ impl<'b, 'a> Embeddable<'b, 'a> {
         operands.len() > 1 && !all_open(operands) && self.can_embed_together(operands)
     }
 
-    /// Whether the conjunction of operands can be embedded.
+    /// Whether nothing in operands is shut, and their conjunction can be embedded.
     fn can_embed_together(&self, operands: &[&Expr]) -> bool
         ensures { (ds : List DefinitionTree) → TellsBodies self.now.bodies.now ds → TellsSteps self.now ds most_steps
-            → result ≡ can_be_embedded ds most_steps (conjunction (trees_of (bodies_view operands.now))) }
+            → result ≡ (not (Shut.some_shut false (trees_of (bodies_view operands.now)))
+            && can_be_embedded ds most_steps (conjunction (trees_of (bodies_view operands.now)))) }
     {
         !any_shut(operands) && self.can_embed_bodies(operands, MOST_STEPS - 1)
     }

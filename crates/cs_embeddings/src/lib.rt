@@ -2,6 +2,7 @@
 #![tactic(auto)]
 
 mod alternatives;
+mod bases;
 mod clashes;
 mod definitions;
 mod embedded;

@@ -31,7 +31,7 @@ pub fn export_root(
     ensures refused { IfErr result (λ e. ExportRefusal (bytes_in sources.now) root.now e) }
     ensures only { IsReady (bytes_in sources.now) root.now → IsOkUnless result Fault.OutOfMemory }
 {
-    let notes = notes_if(alloc, sources, layout)?;
+    let notes = notes_if(alloc, Profile::Default, sources, layout)?;
     exported_root(alloc, sources, &notes, root, layout)
 }
 
@@ -46,7 +46,7 @@ pub fn export_all(alloc: Global, sources: &[&[u8]], layout: Layout) -> Result<Ve
     ensures only { (E : Environment)
         → IsAccepted (bytes_in sources.now) E → IsOkUnless result Fault.OutOfMemory }
 {
-    let notes = notes_if(alloc, sources, layout)?;
+    let notes = notes_if(alloc, Profile::Default, sources, layout)?;
     exported_all(alloc, sources, &notes, layout)
 }
 
@@ -67,7 +67,7 @@ pub fn export_root_in(
         (λ judged. ExportRefusal judged root.now e) e) }
 {
     cs_widen::wide_law(); // for the proof: what the default profile accepts declares the same in it
-    let notes = notes_if(alloc, sources, layout)?;
+    let notes = notes_if(alloc, profile, sources, layout)?;
     match stands_for_in(alloc, profile, sources)? {
         Some(meant) => exported_root(alloc, &[meant.as_bytes()], &notes, root, layout),
         None => exported_root(alloc, sources, &notes, root, layout),
@@ -90,7 +90,7 @@ pub fn export_all_in(
         (λ judged. SourcesRefusal judged e) e) }
 {
     cs_widen::wide_law(); // for the proof: what the default profile accepts declares the same in it
-    let notes = notes_if(alloc, sources, layout)?;
+    let notes = notes_if(alloc, profile, sources, layout)?;
     match stands_for_in(alloc, profile, sources)? {
         Some(meant) => exported_all(alloc, &[meant.as_bytes()], &notes, layout),
         None => exported_all(alloc, sources, &notes, layout),

@@ -18,21 +18,27 @@ use cs_document::Doc;
 use cs_json::{write_doc, write_pretty};
 use cs_schema::{SchemaDoc, to_doc};
 use cs_tool::Fault;
+use cs_widen::Profile;
 use std::alloc::Global;
 use std::collections::BTreeMap;
 
 /// The notes of definitions by their names, where they are asked for.
 pub(crate) type Comments = Option<BTreeMap<String, Notes>>;
 
-/// The notes of sources, if they are asked for.
-pub(crate) fn notes_if(alloc: Global, sources: &[&[u8]], layout: Layout) -> Result<Comments, Fault>
+/// The notes of sources in a profile, if they are asked for.
+pub(crate) fn notes_if(
+    alloc: Global,
+    profile: Profile,
+    sources: &[&[u8]],
+    layout: Layout,
+) -> Result<Comments, Fault>
     ensures none { layout.is_described ≡ false → IfOk result (λ notes. notes ≡ None) }
     ensures memory { IsOkUnless result Fault.OutOfMemory }
 {
     if !layout.is_described {
         return Ok(None);
     }
-    Ok(Some(notes_of(alloc, sources)?))
+    Ok(Some(notes_of(alloc, profile, sources)?))
 }
 
 /// The text of a schema, without a newline, with these comments.

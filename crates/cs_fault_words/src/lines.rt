@@ -49,20 +49,30 @@ fn put_refusal(text: &mut String, told: &Told<'_>, sizes: &[(&str, u64)]) -> Wri
     Ok(())
 }
 
-/// Puts a line for a fault of sources that were read in a profile, of the root that was asked for, or of a schema: its place, as
-/// `FILE:LINE:COLUMN: `, its number, and what to do. `sources` are those of the call, cut into tokens. Only memory can run out.
+/// How sources were read, and what the other profile says of them.
+#[derive(Clone, Copy)]
+pub struct Reading {
+    /// The profile that they were read in.
+    pub profile: Profile,
+    /// Whether the wide profile puts together what has to be opened in the default one.
+    pub is_joined: bool,
+}
+
+/// Puts a line for a fault of sources, of the root that was asked for, or of a schema: its place, as `FILE:LINE:COLUMN: `, its number, and what to
+/// do. `sources` are those of the call, cut into tokens. Only memory can run out.
 pub fn put_finding<'a>(
     alloc: Global,
     text: &mut String,
     fault: &Fault,
-    profile: Profile,
+    reading: Reading,
     root: &str,
     schema: Option<Named<'a>>,
     sources: &[Source<'a>],
 ) -> Written {
     let mut told = Told::new(alloc);
     let about = About {
-        profile,
+        profile: reading.profile,
+        is_joined: reading.is_joined,
         ..about_schema(schema)
     };
     tell(&mut told, fault, about, root, sources)?;
@@ -77,6 +87,7 @@ fn taken_by(form: Option<Form>) -> &'static str {
     match form {
         Some(Form::DefaultMark) => "`--profile wide` takes defaults; without it ",
         Some(Form::Attribute) => "`--profile wide` takes attributes; without it ",
+        Some(Form::Close) => "`--profile wide` takes `close`; without it ",
         Some(_) | None => "",
     }
 }
@@ -89,6 +100,7 @@ fn about_schema<'a>(schema: Option<Named<'a>>) -> About<'a> {
         sources,
         root: "",
         profile: Profile::Default,
+        is_joined: false,
         schema,
         document: None,
         path: None,

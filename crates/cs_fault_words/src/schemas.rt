@@ -59,6 +59,15 @@ fn offset_of(alloc: Global, text: &[u8], keys: &[String]) -> Result<Option<usize
     Ok(found.map(|place| place.key.unwrap_or(place.value)))
 }
 
+/// What is said of a keyword that the profile doesn't have; of a note that the wide profile takes first that.
+fn said_of_keyword(name: &str) -> &'static str {
+    if name == "default" {
+        "`--profile wide` takes `{}` as a note; without it take it out, since it says nothing of what is valid"
+    } else {
+        "`{}` isn't in the profile: say it by other keywords, or take it out where it says nothing"
+    }
+}
+
 /// Tells of a keyword, its value or a reference in a schema, or of definitions that refer to one another in a loop (21 to 24).
 pub(crate) fn tell_schema_fault<'a>(
     told: &mut Told<'a>,
@@ -68,9 +77,7 @@ pub(crate) fn tell_schema_fault<'a>(
     let text = &mut told.hint;
     let (pointer, keyword) = match fault {
         Fault::Keyword { place, name } => {
-            let said =
-                "`{}` isn't in the profile: say it by other keywords, or take it out where it says nothing";
-            put_filled(text, said, &[name.as_str()])?;
+            put_filled(text, said_of_keyword(name.as_str()), &[name.as_str()])?;
             (place.as_str(), name.as_str())
         }
         Fault::Shape { place, name } => {

@@ -23,6 +23,8 @@ pub struct About<'a> {
     pub root: &'a str,
     /// The profile that the sources were read in.
     pub profile: Profile,
+    /// Whether the wide profile puts together what has to be opened in the default one.
+    pub is_joined: bool,
     pub schema: Option<Named<'a>>,
     pub document: Option<Named<'a>>,
     /// The file that could not be read, or was too long.
@@ -58,11 +60,11 @@ pub(crate) fn tell<'a>(
     }
 }
 
-/// Tells the form of CUE at the place of a fault in a profile; nothing without its source, and where that has no token there or behind.
+/// Tells the form of CUE at the place of a fault; nothing without its source, and where that has no token there or behind.
 fn tell_form<'a>(
     told: &mut Told<'a>,
     fault: &Fault,
-    profile: Profile,
+    about: About<'a>,
     source: Option<&Source<'a>>,
     sources: &[Source<'a>],
 ) -> Written {
@@ -72,6 +74,7 @@ fn tell_form<'a>(
     let Some(near) = Near::at(source, offset) else {
         return Ok(());
     };
+    let profile = about.profile;
     let found = match fault {
         Fault::NoToken { .. } => form_stuck(profile, source.named.text, offset),
         Fault::IntegerRange { .. } => Found::at(near, Form::LargeInteger),
@@ -79,7 +82,9 @@ fn tell_form<'a>(
         Fault::LeftOut { .. } => form_left_out_in(profile, near),
         Fault::UnknownName { .. } => form_unknown(near),
         Fault::FieldReference { .. } => Found::at(near, Form::FieldReference),
-        Fault::NotOpened { .. } => form_not_opened(told.alloc(), profile, near, sources)?,
+        Fault::NotOpened { .. } => {
+            form_not_opened(told.alloc(), profile, about.is_joined, near, sources)?
+        }
         _ => return Ok(()),
     };
     told.place(source.named, found.start, found.end);
@@ -105,7 +110,7 @@ fn tell_by_kind<'a>(
         | Fault::IntegerRange { .. }
         | Fault::UnknownName { .. }
         | Fault::FieldReference { .. }
-        | Fault::NotOpened { .. } => tell_form(told, fault, about.profile, source, sources),
+        | Fault::NotOpened { .. } => tell_form(told, fault, about, source, sources),
         Fault::TooHigh { .. } => tell_too_high(told, source),
         Fault::PackageName { .. } => tell_package_name(told, source, sources),
         Fault::Cycle { names } => tell_cycle(told, sources, names),

@@ -1,7 +1,7 @@
 // Forms of embeddings that the wide profile refuses, by what is embedded (11).
+use crate::closed::closed_around;
 use crate::forms::{Form, Found};
-use crate::together::{closed_around, is_put_together};
-use crate::values::Value;
+use crate::values::{Value, is_unlabelled};
 use cs_grammar::Profile;
 use cs_sources::{Brought, Declared, Near, Part, Separator, Source, declared_in};
 use std::alloc::{AllocError, Global};
@@ -40,21 +40,33 @@ impl Flaw {
     /// A flaw that is about the label of a declaration, which may be the name of a definition.
     fn of_label(form: Form, declaration: Part<'_, '_>) -> Flaw {
         let from = declaration.from;
-        Flaw::about(form, declaration.between(from, from.saturating_add(1)))
+        let closing = declaration.first().and_then(|label| label.closing());
+        let last = closing.map_or(from, |closing| closing.place);
+        Flaw::about(form, declaration.between(from, last.saturating_add(1)))
+    }
+
+    /// A flaw that is about two declarations whose values would open one another: about the label of the first, or of that beside `[string]`.
+    fn of_clash(first: Part<'_, '_>, second: Part<'_, '_>) -> Flaw {
+        match (is_unlabelled(first), is_unlabelled(second)) {
+            (true, false) => Flaw::of_label(Form::EmbeddedBesideEvery, second),
+            (false, true) => Flaw::of_label(Form::EmbeddedBesideEvery, first),
+            (true, true) | (false, false) => Flaw::of_label(Form::EmbeddedTwice, first),
+        }
     }
 }
 
-/// The form where a struct literal has to be opened in a profile: in the default one also where the other one puts it together with others, in
-/// the wide one also where something is embedded that can't be, at a value that an embedding would open, and beside what a definition closed.
-/// Only memory can run out.
+/// The form where a struct literal has to be opened in a profile: in the default one also where the other one puts it together with others, which
+/// it is said whether it does, in the wide one also where something is embedded that can't be, at a value that an embedding would open, and beside
+/// what a definition closed. Only memory can run out.
 pub fn form_not_opened(
     alloc: Global,
     profile: Profile,
+    is_joined: bool,
     near: Near<'_, '_>,
     sources: &[Source<'_>],
 ) -> Result<Found, AllocError> {
     let form = match profile {
-        Profile::Default if is_put_together(alloc, near, sources)? => Form::Joined,
+        Profile::Default if is_joined => Form::Joined,
         Profile::Default => Form::NotOpened,
         Profile::Wide => match flaw_of_embedding(alloc, near, sources)? {
             Some(flaw) if !matches!(flaw.form, Form::NotOpened) => flaw.form,
@@ -109,8 +121,8 @@ fn flaw_beside<'t>(
     if is_alone {
         return Ok(None);
     }
-    if let Some(declaration) = opened_twice(alloc, &joined.fields, field)? {
-        return Ok(Some(Flaw::of_label(Form::EmbeddedTwice, declaration)));
+    if let Some((first, second)) = opened_twice(alloc, &joined.fields, field)? {
+        return Ok(Some(Flaw::of_clash(first, second)));
     }
     let twice = declared_twice(&joined.fields, field);
     Ok(twice.map(|declaration| Flaw::of_label(Form::NotOpened, declaration)))
@@ -166,36 +178,43 @@ fn literal_around<'t>(near: Near<'t, 't>) -> Option<(Part<'t, 't>, bool)> {
     }
 }
 
-/// The declaration of a field that may be declared twice: this one, or the first of any where none is given.
+/// Whether two declarations of one key are about a field, where one is given.
+fn are_meant(field: Option<Part<'_, '_>>, first: Part<'_, '_>, second: Part<'_, '_>) -> bool {
+    match field {
+        Some(field) => field.may_share_key(first) && field.may_share_key(second),
+        None => true,
+    }
+}
+
+/// The declaration of a field that may be declared twice: this one, or the first of any where none is given, with its label where that is `[string]`.
 fn declared_twice<'t>(
     fields: &[Brought<'t, 't>],
     field: Option<Part<'t, 't>>,
 ) -> Option<Part<'t, 't>> {
     for (place, other) in fields.iter().enumerate().take(MOST_COMPARED) {
-        let is_meant = match field {
-            Some(field) => field.may_share_key(other.part),
-            None => true,
-        };
         let behind = place.saturating_add(1);
         let others = fields.get(behind..).unwrap_or(&[]);
-        if is_meant
-            && others
-                .iter()
-                .take(MOST_COMPARED)
-                .any(|next| next.part.may_share_key(other.part))
-        {
-            return Some(field.unwrap_or(other.part));
+        let again = others.iter().take(MOST_COMPARED).find(|next| {
+            next.part.may_share_key(other.part) && are_meant(field, other.part, next.part)
+        });
+        if let Some(next) = again {
+            let named = if is_unlabelled(other.part) {
+                next
+            } else {
+                other
+            };
+            return Some(field.unwrap_or(named.part));
         }
     }
     None
 }
 
-/// The same where one value would open the other.
+/// The first two declarations whose values would open one another: of one key with this field, or of any where none is given.
 fn opened_twice<'t>(
     alloc: Global,
     fields: &[Brought<'t, 't>],
     field: Option<Part<'t, 't>>,
-) -> Result<Option<Part<'t, 't>>, AllocError> {
+) -> Result<Option<(Part<'t, 't>, Part<'t, 't>)>, AllocError> {
     let mut values = Vec::new(alloc);
     for declaration in fields.iter().take(MOST_COMPARED) {
         let value = Value::of(declaration.part);
@@ -204,14 +223,14 @@ fn opened_twice<'t>(
         }
     }
     for (place, value) in values.iter().enumerate() {
-        let is_meant = match field {
-            Some(field) => field.may_share_key(value.declaration),
-            None => true,
-        };
         let behind = place.saturating_add(1);
-        let others = values.get(behind..).unwrap_or(&[]);
-        if is_meant && others.iter().any(|other| other.opens(*value)) {
-            return Ok(Some(field.unwrap_or(value.declaration)));
+        let mut others = values.get(behind..).unwrap_or(&[]).iter();
+        let first = value.declaration;
+        let other = others.find(|other| {
+            other.opens(*value) && are_meant(field, first, other.declaration)
+        });
+        if let Some(other) = other {
+            return Ok(Some((first, other.declaration)));
         }
     }
     Ok(None)

@@ -146,6 +146,8 @@ pub enum Form {
     EmbeddedItself,
     /// `{#B, x: {..}}` where `x` has a struct or a reference in `#B`.
     EmbeddedTwice,
+    /// `{#B, x: {..}}` where `[string]` has a struct or a reference in `#B`. For programs it is the same form.
+    EmbeddedBesideEvery,
 }
 
 /// A form, and the bytes of the source that show it: from `start` up to `end`, which is behind the last one.

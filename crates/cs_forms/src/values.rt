@@ -13,10 +13,24 @@ pub(crate) struct Value<'t> {
 }
 
 /// Whether a label is `[string]`.
-fn is_unlabelled(declaration: Part<'_, '_>) -> bool {
+pub(crate) fn is_unlabelled(declaration: Part<'_, '_>) -> bool {
     declaration
         .first()
         .is_some_and(|label| is_mark(label.here(), "["))
+}
+
+/// The name of the definition that the value of a field is a reference to.
+fn reference_of<'a>(declaration: Part<'_, 'a>) -> Option<&'a str> {
+    let value = declaration.declared()?;
+    let token = value.first()?.here();
+    let is_alone = value.from.checked_add(1) == Some(value.to);
+    (is_alone && token.sort == Sort::Definition).then_some(token.text)
+}
+
+/// Whether the values of two fields are references to one definition.
+fn is_same_reference(first: Part<'_, '_>, second: Part<'_, '_>) -> bool {
+    let name = reference_of(first);
+    name.is_some() && name == reference_of(second)
 }
 
 impl<'t> Value<'t> {
@@ -40,11 +54,11 @@ impl<'t> Value<'t> {
         }
     }
 
-    /// Whether two values of one key would open one another, where each holds a struct or a reference: something is closed in one of them, or one is
-    /// of every key.
+    /// Whether two values of one key would open one another, where each holds a struct or a reference: something is closed in one of them, and they
+    /// aren't the same reference.
     pub(crate) fn opens(self, other: Value<'_>) -> bool {
         let is_closed = self.is_shut || other.is_shut;
-        let is_of_every = is_unlabelled(self.declaration) || is_unlabelled(other.declaration);
-        self.declaration.may_share_key(other.declaration) && (is_closed || is_of_every)
+        let (first, second) = (self.declaration, other.declaration);
+        is_closed && first.may_share_key(second) && !is_same_reference(first, second)
     }
 }

@@ -10,7 +10,7 @@ type Sayings = &'static [(&'static [&'static str], &'static str)];
 
 /// What programs call each form, and what is said of it, in their order: a `{}` stands for what its place tells. A form without a row is
 /// refused by the prover.
-const FORMS: [(&str, &str); 67] = rows! {
+const FORMS: [(&str, &str); 68] = rows! {
     "byte-order-mark" => "a byte order mark: save the file as UTF-8 without it",
     "float" => "floats are left out: scale it (percent, milliseconds)",
     "number-spelling" => "`{}`: {}",
@@ -78,6 +78,7 @@ const FORMS: [(&str, &str); 67] = rows! {
     "embedded-no-struct" => "`{}` can't be embedded: only struct literals can, alternatives of them, and definitions of these; give it a label, or write out its keys",
     "embedded-itself" => "`{}` embeds itself, which never ends: give it a label in its place, or write out the keys that are meant",
     "embedded-twice" => "embedding joins two values of `{}` that hold a struct or a reference, and one would open the other: write all of its keys in one place",
+    "embedded-twice" => "embedding joins the values of `[string]` and `{}`, which hold a struct or a reference each, and one would open the other: leave one of the two out",
 };
 
 /// What to write instead of what a package gives, by its name; it goes on with another sentence.

@@ -95,8 +95,11 @@ fn sole_bodies(alloc: Global, files: &Vec<File>) -> Result<SoleBodies<'_>, Alloc
     Ok(bodies)
 }
 
-/// The labels of fields.
-fn texts_of(alloc: Global, fields: &Vec<Field>) -> Result<FieldLabels<'_>, AllocError>
+/// The labels of fields, `[string]` as if it were one.
+///
+/// # Errors
+/// Memory ran out.
+pub fn field_labels(alloc: Global, fields: &Vec<Field>) -> Result<FieldLabels<'_>, AllocError>
     ensures { IfOk result (λ s. HoldsTexts s (Refinement.texts (fields_view fields.now.items))) }
 {
     let mut labels = BTreeSet::new(alloc);
@@ -119,7 +122,7 @@ fn add_literal<'a>(
         → IsBase ds name.now (Refinement.texts (fields_view fields.now.items))
         → Sound ds bases.old → Sound ds bases.new) }
 {
-    let labels = texts_of(alloc, fields)?;
+    let labels = field_labels(alloc, fields)?;
     let number = bases.sets.len();
     bases.sets.push(labels)?;
     bases.numbers.insert(name, number)?;

@@ -1,5 +1,6 @@
 // Sources that are refused, or are no text, have no notes, through `notes_of`.
 use cs_comments::notes_of;
+use cs_syntax::Profile;
 use std::test::Fail;
 
 /// The third and the fourth declare `#Q`; the others are refused.
@@ -13,7 +14,7 @@ const SOURCES: [&[u8]; 5] = [
 
 #[test]
 fn refused_sources_have_no_notes(rt: HostRuntime) -> Result<(), Fail> {
-    let notes = notes_of(rt.alloc(), &SOURCES)?;
+    let notes = notes_of(rt.alloc(), Profile::Default, &SOURCES)?;
     assert!(rt; notes.len() == 1 && notes.contains_key("Q"));
     Ok(())
 }

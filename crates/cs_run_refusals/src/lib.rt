@@ -7,6 +7,7 @@ use cs_place::Named;
 use cs_reason_words::{Form, Format};
 use cs_run_input::{NO_FILE, STANDARD_INPUT, Unread, print, profile_of, sizes_of, unread_file};
 use cs_tool::{Fault, write_fault, write_fault_json};
+use cs_widen::stands_for_in;
 use std::alloc::{AllocError, Global};
 use std::io::Write;
 
@@ -24,6 +25,7 @@ pub fn about_input<'a>(unread: Unread<'a>, sizes: &'a [(&'a str, u64)]) -> About
         sources: &[],
         root: "",
         profile: Profile::Default,
+        is_joined: false,
         schema: None,
         document: None,
         path: unread.path,
@@ -114,6 +116,10 @@ pub fn tell(
     names: &[&str],
     side: Option<&str>,
 ) -> Result<u8, Fault> {
+    let about = About {
+        is_joined: is_joined(rt.alloc(), fault, about)?,
+        ..about
+    };
     match (form, fault) {
         (Form::Lines, Fault::OutOfMemory) => return Err(Fault::OutOfMemory),
         (Form::Lines, _) => tell_lines(rt, fault, about, side)?,
@@ -124,6 +130,29 @@ pub fn tell(
         (Form::Object(_), _) => tell_object(rt, fault, about, names, side)?,
     }
     Ok(fault.status())
+}
+
+/// Whether the wide profile puts together what has to be opened in the default one: it takes the sources, or what it refuses first is behind that,
+/// or of what is looked at later.
+fn is_joined(alloc: Global, fault: &Fault, about: About<'_>) -> Result<bool, AllocError> {
+    let (Fault::NotOpened { file, offset }, Profile::Default) = (fault, about.profile) else {
+        return Ok(false);
+    };
+    let mut texts = Vec::with_capacity(alloc, about.sources.len())?;
+    for source in about.sources {
+        texts.push(source.text)?;
+    }
+    match stands_for_in(alloc, Profile::Wide, &texts) {
+        Err(Fault::OutOfMemory) => Err(AllocError),
+        Err(
+            Fault::NotOpened {
+                file: other,
+                offset: next,
+            },
+        ) => Ok((*file, *offset) < (other, next)),
+        Ok(_) | Err(Fault::Cycle { .. } | Fault::ChainTooLong { .. }) => Ok(true),
+        Err(_) => Ok(false),
+    }
 }
 
 /// Whether a refusal is told by its number alone in a format: in the output formats of JSON Schema each, and in each want of memory.

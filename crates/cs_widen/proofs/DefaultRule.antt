@@ -18,6 +18,7 @@ use Rattle.cs_embeddings.specs.Alternatives.{Brought, most_steps}
 use Rattle.cs_embeddings.specs.Embedded.{all_embedded, can_be_embedded}
 use Rattle.cs_embeddings.specs.Gathered.{those_of, values_of, most_gathered, gathers, is_gathered}
 use Rattle.cs_embeddings.specs.Joined.{as_declared}
+use Rattle.cs_embeddings.specs.Narrowed.{may_join}
 use Rattle.cs_embeddings.specs.Shut.{is_shut, some_shut, is_open, are_open, fields_open, end_open}
 use Rattle.cs_embeddings.specs.United.{are_several, unites}
 use Rattle.cs_embeddings.specs.Without.{all_definitions}
@@ -52,7 +53,7 @@ module _ (ds : List DefinitionTree) where
     embeddable_held (suc n) q (named s o) d w h = cc
     embeddable_held (suc n) q (reference s o) d w h = refl
     embeddable_held (suc n) q (conjunction es) d w h =
-        first_held n of_amp es d w.1 w.2 (and_parts (not (some_shut false es)) (all_embedded (can_be_embedded ds n) es) h).1
+        first_held n of_amp es d w.1 w.2 (and_parts (may_join ds es) (all_embedded (can_be_embedded ds n) es) h).1
     embeddable_held (suc n) q (disjunction es) d w h =
         first_held n of_bar es d w.1 w.2 (and_parts _ (all_embedded (can_be_embedded ds n) es) h).1
     embeddable_held (suc n) q (paren e) d w h = embeddable_held n by_itself e d w h
@@ -151,13 +152,10 @@ are_two (more e none) h = cc
 are_two (more e (more f es)) h = tt
 
 module _ (ds : List DefinitionTree) where
-  embeddable_parts : (n : ℕ) (es : Trees) → can_be_embedded ds n (conjunction es) ≡ true
-      → (some_shut false es ≡ false) × ((m : ℕ) × (all_embedded (can_be_embedded ds m) es ≡ true))
+  embeddable_parts : (n : ℕ) (es : Trees) → can_be_embedded ds n (conjunction es) ≡ true → (m : ℕ) × (all_embedded (can_be_embedded ds m) es ≡ true)
   unfolding can_be_embedded
   embeddable_parts zero es h = cc
-  embeddable_parts (suc n) es h =
-      let parts = and_parts (not (some_shut false es)) (all_embedded (can_be_embedded ds n) es) h in
-      (not-true (some_shut false es) parts.0, (n, parts.1))
+  embeddable_parts (suc n) es h = (n, (and_parts (may_join ds es) (all_embedded (can_be_embedded ds n) es) h).1)
 
   -- what is put together
   record AreUnited (es : Trees) : Type 0 where
@@ -169,10 +167,18 @@ module _ (ds : List DefinitionTree) where
 
   united_parts : (es : Trees) → unites ds es ≡ true → AreUnited es
   united_parts es h =
-      let several = and_parts (are_several es) (not (are_open es) && can_be_embedded ds most_steps (conjunction es)) h in
-      let here = and_parts (not (are_open es)) (can_be_embedded ds most_steps (conjunction es)) several.1 in
-      let parts = embeddable_parts most_steps es here.1 in
-      record { two = are_two es several.0; closed = not-true (are_open es) here.0; free = parts.0; steps = parts.1.0; embedded = parts.1.1 }
+      let can = can_be_embedded ds most_steps (conjunction es) in
+      let several = and_parts (are_several es) (not (are_open es) && (not (some_shut false es) && can)) h in
+      let here = and_parts (not (are_open es)) (not (some_shut false es) && can) several.1 in
+      let apart = and_parts (not (some_shut false es)) can here.1 in
+      let parts = embeddable_parts most_steps es apart.1 in
+      record {
+        two = are_two es several.0;
+        closed = not-true (are_open es) here.0;
+        free = not-true (some_shut false es) apart.0;
+        steps = parts.0;
+        embedded = parts.1;
+      }
 
   refuted : (es : Trees) → (AreUnited es → true ≡ false) → unites ds es ≡ false
   refuted es never = by (unites ds es) refl

@@ -37,3 +37,7 @@ SchemaStandsForIn profiles.Wide text s = StandsWithoutDefaults text s
 -- it is so of the text of the schema that is meant
 abbrev pub SchemaMeans : Profile → List ℕ → (List ℕ → Type 0) → Type 0
 SchemaMeans p text IsSo = (s : Option (List ℕ)) × SchemaStandsForIn p text s × IsSo (unwrap_or s text)
+
+-- it is so of each text that may be meant
+abbrev pub AlwaysMeans : Profile → List ℕ → (List ℕ → Type 0) → Type 0
+AlwaysMeans p text IsSo = (s : Option (List ℕ)) → SchemaStandsForIn p text s → IsSo (unwrap_or s text)

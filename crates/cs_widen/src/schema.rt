@@ -2,7 +2,8 @@
 ghost use Rattle.std.specs.Prelude.{◌≡◌, ◌⊎◌, IfOk, IfErr, IsOkUnless};
 ghost use Rattle.cs_tool.specs.CallRefusals.{ValidateRefusal};
 ghost use Rattle.cs_tool.specs.Headline.{IsValidated};
-ghost use Rattle.cs_widen.specs.Schemas.{bytes_of, SchemaStandsForIn, StandsWithoutDefaults, SchemaMeans};
+ghost use Rattle.cs_tool.specs.Ready.{IsReadyToValidate};
+ghost use Rattle.cs_widen.specs.Schemas.{bytes_of, SchemaStandsForIn, StandsWithoutDefaults, SchemaMeans, AlwaysMeans};
 
 use cs_describe::without_defaults;
 use cs_json::{DocFault, read_doc, write_doc};
@@ -59,6 +60,8 @@ pub fn validate_in(
     ensures found { IfOk result (λ b. SchemaMeans profile schema.now (λ judged. IsValidated judged doc.now b)) }
     ensures refused { IfErr result (λ e. (e ≡ Fault.OutOfMemory)
         ⊎ SchemaMeans profile schema.now (λ judged. ValidateRefusal judged doc.now e)) }
+    ensures only { AlwaysMeans profile schema.now (λ judged. IsReadyToValidate judged doc.now)
+        → IsOkUnless result Fault.OutOfMemory }
 {
     match schema_stands_for_in(alloc, profile, schema)? {
         Some(meant) => validate(alloc, &meant, doc),

@@ -38,3 +38,13 @@ returns-in-None-clause-refused c =
     let stands = subst (λ s. SchemaStandsForIn c.args.profile text (bytes_of s)) c.in-None.is c.in_ok-meant.ensures.found in
     IfErr-weaker c.validate-in-None.result (λ (e : Fault). ValidateRefusal text c.args.doc.now e) (λ (e : Fault). (e ≡ OutOfMemory) ⊎ SchemaMeans c.args.profile text (λ judged. ValidateRefusal judged c.args.doc.now e))
     (λ e x. inr (None, stands, x)) c.validate-in-None.ensures.refused
+
+pub returns-in-Some-clause-only : goal.returns-in-Some-clause-only
+returns-in-Some-clause-only c ready =
+    let m = c.deref.result.now in
+    let same : bytes_of c.in_ok-meant.field-0 ≡ Some m = ap bytes_of c.in-Some.is ∙ ap Some (sym c.deref.ensures.value) in
+    c.validate.ensures.only (ready (Some m) (subst (SchemaStandsForIn c.args.profile c.args.schema.now) same c.in_ok-meant.ensures.found))
+
+pub returns-in-None-clause-only : goal.returns-in-None-clause-only
+returns-in-None-clause-only c ready =
+    c.validate-in-None.ensures.only (ready None (subst (λ s. SchemaStandsForIn c.args.profile c.args.schema.now (bytes_of s)) c.in-None.is c.in_ok-meant.ensures.found))

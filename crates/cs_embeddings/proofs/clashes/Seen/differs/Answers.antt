@@ -3,12 +3,15 @@ use Rattle.cs_grammar.proofs.Views.{view-text}
 use Rattle.cs_embeddings.specs.Views.{brought_view}
 use Rattle.cs_embeddings.proofs.Clashing.{differs_every, differs_some, differs_first, differs_none}
 use Rattle.cs_embeddings.proofs.clashes.Seen.differs.Goals as goal
+use Rattle.cs_embeddings.proofs.clashes.Seen.differs.Goals.{then-is_every-via-then-is_every, then-is_every-via-else-is_every+then-self}
 
 pub returns-then-is_every : goal.returns-then-is_every
-returns-then-is_every c before told = differs_every c.args.self.now before told (brought_view c.args.brought) (sym c.is_every.ensures ∙ c.if-is_every.true)
-
-pub returns-then-self : goal.returns-then-self
-returns-then-self c before told = differs_some c.args.self.now before told (brought_view c.args.brought) c.if-self.true
+returns-then-is_every c before told =
+    let d = brought_view c.args.brought in
+    c.differ.ensures before told.values ∙ elim c.then-is_every.branch [
+      | then-is_every-via-then-is_every w ↦ differs_every c.args.self.now before told d (sym c.is_every.ensures ∙ w.if-is_every.true)
+      | then-is_every-via-else-is_every+then-self w ↦ differs_some c.args.self.now before told d w.if-self.true
+    ]
 
 pub returns-in-Some : goal.returns-in-Some
 returns-in-Some c before told =

@@ -1,4 +1,4 @@
-use Rattle.std.proofs.Common.{◌≡◌, ◌<◌, ◌≤◌, Bool, true, false, not, List, [], ◌∷◌, length, refl, sym, ap, ◌∙◌, arith}
+use Rattle.std.proofs.Common.{◌≡◌, ◌<◌, ◌≤◌, Bool, true, false, ◌&&◌, not, List, [], ◌∷◌, length, refl, sym, ap, ◌∙◌, arith}
 use Rattle.std.specs.Borrow.{Bor}
 use Rattle.std.proofs.lemmas.Bool.{ltb-true}
 use Rattle.cs_grammar.specs.Tree.{DefinitionTree, conjunction}
@@ -7,7 +7,7 @@ use Rattle.cs_grammar.specs.declared.ast.Expr.{Expr}
 use Rattle.cs_embeddings.specs.Alternatives.{most_steps}
 use Rattle.cs_embeddings.specs.Checks.{bodies_view}
 use Rattle.cs_embeddings.specs.Embedded.{can_be_embedded}
-use Rattle.cs_embeddings.specs.Shut.{are_open}
+use Rattle.cs_embeddings.specs.Shut.{some_shut, are_open}
 use Rattle.cs_embeddings.specs.United.{are_several, unites}
 use Rattle.cs_embeddings.proofs.embedded.Embeddable.unites.Goals as goal
 use Rattle.cs_embeddings.proofs.embedded.Embeddable.unites.Goals.{then-operands-gt1, else-operands-gt1}
@@ -24,7 +24,8 @@ few (e ∷ f ∷ es) l = absurd (omega (arith, l))
 
 module _ (ds : List DefinitionTree) (es : List (Bor Expr)) where
   they_unite : (b : Bool) → 1 < length es → not (are_open (trees_of (bodies_view es))) ≡ true
-      → b ≡ can_be_embedded ds most_steps (conjunction (trees_of (bodies_view es))) → b ≡ unites ds (trees_of (bodies_view es))
+      → b ≡ (not (some_shut false (trees_of (bodies_view es))) && can_be_embedded ds most_steps (conjunction (trees_of (bodies_view es))))
+      → b ≡ unites ds (trees_of (bodies_view es))
   they_unite b l shut h = rw (several es l, shut) h
 
   all_open : 1 < length es → not (are_open (trees_of (bodies_view es))) ≡ false → false ≡ unites ds (trees_of (bodies_view es))

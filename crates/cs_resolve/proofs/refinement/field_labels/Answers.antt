@@ -3,7 +3,7 @@ use Rattle.cs_grammar.specs.View.{fields_view}
 use Rattle.cs_resolve.specs.Narrowed.{HoldsTexts}
 use Rattle.cs_resolve.specs.Refinement.{texts}
 use Rattle.cs_resolve.proofs.TextSets.{text_put, texts_more}
-use Rattle.cs_resolve.proofs.refinement.texts_of.Goals as goal
+use Rattle.cs_resolve.proofs.refinement.field_labels.Goals as goal
 
 pub loop-field-preserved : goal.loop-field-preserved
 loop-field-preserved c =

@@ -1,0 +1,127 @@
+// The comments on fields, and the declarations that carry them in trees.
+use cs_grammar::{Expr, Field, FieldMark};
+use std::alloc::{AllocError, Global};
+use std::vec::IntoIter;
+
+/// How many bytes the comments, labels and defaults of all notes have at most. Those of a package have fewer; but where structs are put
+/// together, those of one field can stand in many of them.
+const MOST_BYTES: usize = 4_194_304;
+
+/// The texts of the definitions and fields of a source that are still to come, in its order; none where one has no text.
+pub(crate) type Texts = IntoIter<Option<String>>;
+
+/// A comment, and the label that it is on; none on `[string]`.
+#[derive(Drop)]
+pub(crate) struct Comment {
+    pub(crate) label: Option<String>,
+    pub(crate) text: String,
+}
+
+impl Comment {
+    fn label_length(&self) -> usize {
+        match &self.label {
+            Some(label) => label.len(),
+            None => 0,
+        }
+    }
+
+    fn copy(&self) -> Result<Comment, AllocError> {
+        let label = match &self.label {
+            Some(label) => Some(label.clone()?),
+            None => None,
+        };
+        let text = self.text.clone()?;
+        Ok(Comment { label, text })
+    }
+}
+
+/// How many bytes may still be put into notes.
+#[derive(Drop)]
+struct Room {
+    left: usize,
+}
+
+impl Room {
+    /// Takes so many bytes, if they are left.
+    fn take(&mut self, bytes: usize) -> bool {
+        let Some(left) = self.left.checked_sub(bytes) else {
+            return false;
+        };
+        self.left = left;
+        true
+    }
+}
+
+/// The comments on the fields of sources, by number. A tree carries the number of a comment as the value of a declaration before the
+/// field that it is on. That declaration is a `[string]`, since no others are put together with these: wherever the field is brought, its
+/// comment is too. It isn't in quotes, as each other `[string]` is.
+#[derive(Drop)]
+pub(crate) struct Comments {
+    numbered: Vec<Comment>,
+    room: Room,
+}
+
+impl Comments {
+    pub(crate) fn new(alloc: Global) -> Comments {
+        Comments {
+            numbered: Vec::new(alloc),
+            room: Room { left: MOST_BYTES },
+        }
+    }
+
+    /// Adds the comment on a field. The declaration that carries it.
+    pub(crate) fn add(
+        &mut self,
+        alloc: Global,
+        field: &Field,
+        text: String,
+    ) -> Result<Field, AllocError> {
+        let number = i64::try_from(self.numbered.len()).unwrap_or(i64::MAX);
+        let label = label_of(field)?;
+        self.numbered.push(Comment { label, text })?;
+        Ok(Field {
+            label: String::new(alloc),
+            quoted: false,
+            mark: FieldMark::Every { at: 0 },
+            value: Expr::Int(number),
+        })
+    }
+
+    /// The comment of that number, if notes have room for it.
+    pub(crate) fn read(&mut self, number: usize) -> Result<Option<Comment>, AllocError> {
+        let Some(comment) = self.numbered.get(number) else {
+            return Ok(None);
+        };
+        let has_room = self.room.take(comment.text.len()) && self.room.take(comment.label_length());
+        if has_room {
+            Ok(Some(comment.copy()?))
+        } else {
+            Ok(None)
+        }
+    }
+
+    /// Whether notes have room for so many bytes, which are taken.
+    pub(crate) fn has_room(&mut self, bytes: usize) -> bool {
+        self.room.take(bytes)
+    }
+}
+
+/// The label that the comment on a field is on.
+fn label_of(field: &Field) -> Result<Option<String>, AllocError> {
+    match field.mark {
+        FieldMark::Every { .. } => Ok(None),
+        FieldMark::Regular | FieldMark::Optional | FieldMark::Required => {
+            Ok(Some(field.label.clone()?))
+        },
+    }
+}
+
+/// The number of the comment that a declaration carries, if it carries one.
+pub(crate) fn carried_number(field: &Field) -> Option<usize> {
+    match (field.mark, &field.value) {
+        (FieldMark::Every { .. }, Expr::Int(number)) if !field.quoted => {
+            usize::try_from(*number).ok()
+        },
+        _ => None,
+    }
+}
