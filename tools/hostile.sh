@@ -910,12 +910,26 @@ try 'wide: 20,000 times one reference of one label: widen' 0 'shows a: #B' 'wide
 { printf '#P: '; listed 20000 '{a%d: int}' ' & '; printf '\n'; } > wide.cue
 try 'wide: 20,000 operands put together: export' 1000000 'shows "a19999":{"type":"integer"}' 'export --profile=wide --root #P wide.cue'
 try 'wide: 20,000 operands put together: check' 10000000 'lines 0' 'check --profile=wide wide.cue'
+# What is plain stays beside what is put together, and definitions are put together over files.
+{ printf '#P: {a: int} & '; many 20000 '!=null & '; printf '{b: int}\n'; } > wide.cue
+try 'wide: 20,000 plain operands beside structs: widen' 0 'shows a: int' 'widen --profile=wide wide.cue'
+printf '{"a":1,"b":"s"}' > one
+try 'wide: 20,000 plain operands beside structs: vet --why' 60000 'holds 1 one:1:12: /b: found "s", want int' \
+    'vet --why --profile=wide --root #P --doc one wide.cue'
+{ printf '#P: {x: {a: int}, '; many 20000 'x: !=null, '; printf 'x: {b: int}}\n'; } > wide.cue
+try 'wide: 20,000 plain values beside structs: widen' 0 'shows x: !=null' 'widen --profile=wide wide.cue'
+printf '{"x":{"a":1,"b":"s"}}' > one
+try 'wide: 20,000 plain values beside structs: vet --why' 60000 'holds 1 one:1:17: /x/b: found "s", want int' \
+    'vet --why --profile=wide --root #P --doc one wide.cue'
+{ listed 900 '#A%d: a: int' '\n'; printf '\n'; } > wide.cue
+{ listed 900 '#A%d: b: int' '\n'; printf '\n'; } > other.cue
+try 'wide: 900 definitions in two files: widen' 0 'shows b: int' 'widen --profile=wide wide.cue other.cue'
 # A definition that a literal narrows where both are embedded: the labels are looked up, for each definition once.
 { printf '#B: {'; listed 10000 'a%d: int' ', '; printf '}\n#A: {#B & {'; listed 10000 'a%d: >0' ', '; printf '}, z: int}\n'; } > wide.cue
 try 'wide: 10,000 labels narrowed: widen' 0 'shows z: int' 'widen --profile=wide wide.cue'
 { printf '#B: {'; listed 20000 'a%d: int' ', '; printf '}\n#A: {'; many 20000 '#B & {a0: 1}, '; printf 'z: int, int}\n'; } > wide.cue
 # Each of 128 rounds asks it again.
-try 'wide: 20,000 labels narrowed 20,000 times beside a kind: widen' 2560000 'error 11' 'widen --profile=wide wide.cue'
+try 'wide: 20,000 labels narrowed 20,000 times beside a kind: widen' 2560000 'error 11 at 528908' 'widen --profile=wide wide.cue'
 { printf '#B: {a: int}\n'; awk 'BEGIN { for (i = 0; i < 998; i++) printf "#A%d: {#B & {a: >%d}, b%d: int}\n", i, i, i }'; } > wide.cue
 try 'wide: a definition narrowed by 998: widen' 0 'shows b997: int' 'widen --profile=wide wide.cue'
 # Attributes, each as long and as deep as it may be, and such as have no end.

@@ -11,17 +11,16 @@
   of an alternative for each, one for a name, every declared field is as all of them ask, and every other key is allowed by one of them.
 - With a program: the rows, by `widen --profile wide` and `vet --profile wide`; where the program doesn't take a form so far, `so far`
   says how it refuses that. Then random packages with defaults and embeddings, every third one without embeddings, every fifth one in a
-  file for each declaration, and every tenth one in two files. Where the model refuses, the program has to. Where it doesn't, `widen --profile wide` has to say of the
-  package what `widen` says of the one that the model means: the number of the same refusal, or a text that is read as the same package;
+  file for each declaration, and every tenth one in two files. Where the model refuses, the program has to. Where it doesn't,
+  `widen --profile wide` has to say of the package what `widen` says of the one that the model means: the number of the same refusal, or a text that is read as the same package;
   `export` writes the same schemas, to the byte, and `vet` judges documents as the model does. The program has to refuse by 11 where the
-  model uses a rule that it doesn't take: `&` with a reference or a mark in what is embedded, what is shut in one of two values of a label
-  that an embedding brings together, bodies of a definition in several files that are joined, and what is joined with a plain operand or
-  a mark among it. `check` has to tell the same number first.
+  model uses a rule that it doesn't take: `&` with a reference in what is embedded, where that isn't the name of one closed literal, what is
+  shut in one of two values of a label that an embedding brings together, and more than 64 values that are joined. `check` has to tell the
+  same number first.
 
 Numbers are compared in the order of the program's conditions: what can't be embedded (9, 11), then what an embedding brings together
 (11) or too many nodes with it (14), then marks (5), then the package that is meant, where 9 and 10 come before 11. They aren't told
-apart in three cases: 9 and 11 where some name isn't declared, 5 and 11 where a package with marks needs that literals are joined, and
-with such a mark at fault 9 and 10 too.
+apart in one case: 9 and 11 where some name isn't declared.
 """
 from __future__ import annotations
 
@@ -475,12 +474,9 @@ class Reading(WideReader):
         self.has_wrong_mark = True
 
 
-# What the model has and the program doesn't take yet: the last one where `is_taken` says so. The program refuses the first three by 11 before it looks at marks,
-# and the last one where it looks whether literals are opened.
+# What the model has and the program doesn't take yet. It refuses these by 11 before it looks at marks.
 EMBEDDED_CONJUNCTION = "`&` with a reference that is embedded, where that isn't the name of one closed literal, or the other operand isn't one"
-EMBEDDED_MARK = "a mark in what is embedded"
 TWO_VALUES = "two values of a label that an embedding brings together"
-JOINED = "literals that are joined"
 # So many values of a label, or bodies in a file, are joined at most.
 MOST_GATHERED = 64
 
@@ -502,8 +498,6 @@ class Taken(Widening):
 
     def alternatives(self, it: tuple, copied: frozenset, before: Alternative, reaching: tuple, embedded: bool, brought: tuple = ()) -> list[Alternative] | None:
         found = super().alternatives(it, copied, before, reaching, embedded, brought)
-        if found is not None and embedded and it[0] == "marked":
-            self.beyond.add(EMBEDDED_MARK)
         if found is not None and embedded and it[0] == "and" and any(is_shut(part) for part in it[1]) and not self.is_narrowing(it[1]):
             self.beyond.add(EMBEDDED_CONJUNCTION)
         return found
@@ -516,33 +510,34 @@ class Taken(Widening):
 
     def conjunction(self, operands: list[tuple], copied: frozenset, brought: tuple) -> tuple:
         if self.is_taken(operands, copied):
-            return Widening.joined(self, [(it, copied, brought) for it in operands], [])
-        return super().conjunction(operands, copied, brought)
+            return self.joined([(it, copied, brought) for it in operands], [self.stands_for(it, copied, brought) if is_plain(it) else it for it in operands])
+        return ("and", [self.stands_for(it, copied, brought) for it in operands])
 
     def together(self, same: list[Declaration], every: list[Declaration]) -> tuple | None:
         values = [it.value for it in same]
         if len(values) <= MOST_GATHERED and self.is_taken(values, frozenset().union(*(it.copied for it in same))):
-            return Widening.joined(self, [(it.value, it.copied, it.brought) for it in same], [])
-        return super().together(same, every)
+            return self.joined([(it.value, it.copied, it.brought) for it in same], [])
+        return None
 
-    def of_file(self, bodies: list[tuple]) -> Iterator[tuple]:
-        """What the bodies of a definition in one file stand for: they are put together as the values of a label are."""
-        if len(bodies) <= MOST_GATHERED and self.is_taken(bodies, frozenset()):
-            yield Widening.joined(self, [(it, frozenset(), ()) for it in bodies], [])
-        else:
+    def of_definition(self, bodies: list[tuple]) -> Iterator[tuple]:
+        """What the bodies of a definition stand for: they are put together as the values of a label are."""
+        held = [it for it in bodies if not is_plain(it)]
+        if len(held) > MOST_GATHERED or not self.is_taken(bodies, frozenset()):
             yield from (self.stands_for(it) for it in bodies)
+            return
+        is_met = False
+        for body in bodies:
+            if is_plain(body):
+                yield self.stands_for(body)
+            elif not is_met:
+                is_met = True
+                yield self.joined([(it, frozenset(), ()) for it in held], [])
 
     def is_taken(self, operands: list[tuple], copied: frozenset) -> bool:
-        """The program joins operands of `&`, values of a label and bodies in a file where none of them is plain or has a mark."""
-        is_taken = asks_joining(operands) and not any(is_shut(it) or is_plain(it) or has_mark(it) for it in operands)
-        return is_taken and all(self.alternatives(it, copied, Alternative((), False, frozenset()), (), False) is not None for it in operands)
-
-    def joined(self, operands: list[tuple], meant: list[tuple]) -> tuple:
-        self.beyond.add(JOINED)
-        try:
-            return super().joined(operands, meant)
-        except Refused:
-            return ("and", meant)
+        """The program joins operands of `&`, values of a label and bodies of a definition, all that aren't plain."""
+        held = [it for it in operands if not is_plain(it)]
+        is_taken = asks_joining(operands) and not any(is_shut(it) for it in held)
+        return is_taken and all(self.alternatives(it, copied, Alternative((), False, frozenset()), (), False) is not None for it in held)
 
     def refuse_names(self, one: Alternative) -> None:
         pass
@@ -562,11 +557,6 @@ def brings_together(one: Alternative) -> bool:
 def is_closed_literal(it: tuple) -> bool:
     """A literal without embeddings, `...` and `[string]`."""
     return it[0] == "struct" and not it[2] and all(mark not in ("embed", "[string]") for _label, mark, _value in it[1])
-
-
-def has_mark(it: tuple) -> bool:
-    """A mark stands in an operand, in parentheses or not."""
-    return it[0] == "marked" or it[0] in ("or", "and") and any(has_mark(part) for part in it[1])
 
 
 def references(it: tuple) -> set[str]:
@@ -606,12 +596,12 @@ def meaning_of(sources: list[str]) -> Meaning:
     package = together(files)
     taken = Taken(package)
     meaning, meant = Meaning(beyond=taken.beyond), {name: [] for name in package}
-    for name, bodies in (it for file in files for it in file.items()):
+    for name, bodies in package.items():
         try:
-            meant[name] += taken.of_file(bodies)
+            meant[name] += taken.of_definition(bodies)
         except Refused as why:
             meaning.numbers.add(why.number)
-    if taken.beyond - {JOINED}:
+    if taken.beyond:
         meaning.numbers.add(11)
     if sum(size(body) for bodies in meant.values() for body in bodies) > MOST_NODES:
         meaning.numbers.add(14)
@@ -625,17 +615,12 @@ def meaning_of(sources: list[str]) -> Meaning:
 
 def with_marks_taken(has_wrong_mark: bool, taken: Taken, meaning: Meaning, meant: Package) -> Meaning:
     for name, bodies in meant.items():
-        if breaks_opening(bodies):
-            taken.beyond.add(JOINED)
         try:
             meaning.package[name] = [taken.unmarked(body, True) for body in bodies]
         except Refused as why:
             meaning.numbers.add(why.number)
     if has_wrong_mark:
         meaning.numbers.add(5)
-    # Literals that are joined may have no default any more.
-    if meaning.numbers and JOINED in taken.beyond:
-        meaning.numbers |= {9, 10, 11}
     return meaning
 
 

@@ -9,10 +9,10 @@ are tried before code stands on them.
   each embedded expression, and is open where one of them is. A name has one choice in a join, and its declarations stand once, at the
   first place.
 - Where the opening rule refuses a conjunction, the values of a label or the bodies of a definition, the operands are joined in the same
-  way, if each that isn't plain is put together from literals that nothing has closed: no reference and no `close`. Of a conjunction this is
-  asked as it is written, where a literal that embeds something doesn't end with `...`. Bodies of one file are joined first, and those of
-  several where it still refuses them.
-- A field may be missing where its value has a default, which is one marked operand of its disjunction.
+  way, if each that isn't plain is put together from literals that nothing has closed: no reference and no `close`. What is plain stays
+  beside them. Of a conjunction this is asked as it is written, where a literal that embeds something doesn't end with `...`.
+- A field may be missing where its value has a default, which is one marked operand of its disjunction. Such a disjunction is a value, and
+  not what a literal is put together from.
 - Refused are: by 5 a mark elsewhere, a second one, and a default beside another declaration that may be absent; by 10 a name that would
   name a field of the literal that it is joined into; by 11 an embedded expression without alternatives, as a definition in itself, what
   can't be joined, and what an embedding brought and closed beside a value from elsewhere; by 14 too many alternatives.
@@ -308,8 +308,6 @@ class Widening:
         if form == "close":
             found = self.alternatives(it[1], copied, before, reaching, embedded, brought)
             return None if embedded and found is not None and len(found) > 1 else found
-        if form == "marked":
-            return self.alternatives(it[1], copied, before, reaching, embedded, brought)
         if form == "or":
             found = [self.alternatives(part, copied, before, reaching, embedded, brought) for part in it[1]]
             return None if None in found else [one for some in found for one in some]
@@ -421,7 +419,7 @@ class Widening:
     def conjunction(self, operands: list[tuple], copied: frozenset, brought: tuple) -> tuple:
         """A conjunction of what is shut stays: whether it narrows a definition is seen where all is meant."""
         meant = [self.stands_for(it, copied, brought) for it in operands]
-        if not asks_joining(operands) or any(is_shut(it) for it in operands):
+        if not asks_joining(operands) or any(is_shut(it) for it in operands if not is_plain(it)):
             return ("and", meant)
         try:
             return self.joined([(it, copied, brought) for it in operands], meant)
@@ -459,9 +457,9 @@ class Widening:
             if it.mark == "[string]":
                 fields.append((it.label, it.mark, self.stands_for(it.value, it.copied, it.brought)))
                 continue
-            same = [other for other in one.declarations if other.mark != "[string]" and other.label == it.label]
+            same = [other for other in one.declarations if other.mark != "[string]" and other.label == it.label and not is_plain(other.value)]
             self.refuse_relaxed(same)
-            value = self.together(same, every)
+            value = None if is_plain(it.value) else self.together(same, every)
             if value is None:
                 fields.append((it.label, it.mark, self.stands_for(it.value, it.copied, it.brought)))
             elif it.label not in done:
@@ -526,16 +524,16 @@ class Widening:
         return ("struct", fields, it[2])
 
     def of_bodies(self, bodies: list[tuple]) -> list[tuple]:
-        """What bodies of a definition stand for: one where the opening rule refuses them."""
+        """What bodies of a definition stand for: those that aren't plain are one where the opening rule refuses them."""
         found = [self.stands_for(body) for body in bodies]
-        return [self.joined([(body, frozenset(), ()) for body in bodies], found)] if breaks_opening(found) else found
+        if not breaks_opening(found):
+            return found
+        held = [place for place, body in enumerate(bodies) if not is_plain(body)]
+        together = self.joined([(bodies[place], frozenset(), ()) for place in held], [found[place] for place in held])
+        return [together if place == held[0] else it for place, it in enumerate(found) if place not in held[1:]]
 
-    def whole(self, files: list[Package] | None = None) -> Package:
-        meant: Package = {}
-        for name, bodies in self.package.items():
-            found = [it for file in files or [self.package] for it in self.of_bodies(file.get(name, []))]
-            found = self.of_bodies(bodies) if breaks_opening(found) else found
-            meant[name] = [self.unmarked(body, True) for body in found]
+    def whole(self) -> Package:
+        meant = {name: [self.unmarked(body, True) for body in self.of_bodies(bodies)] for name, bodies in self.package.items()}
         if any(breaks_opening(bodies) or any(breaks_rule_inside(meant, body) for body in bodies) for bodies in meant.values()):
             raise Refused(11, "a literal that has to be opened")
         if len(meant) > 1000 or sum(nodes(body) for bodies in meant.values() for body in bodies) > MOST_NODES:
@@ -552,8 +550,7 @@ def together(files: list[Package]) -> Package:
 
 
 def widened(*sources: str) -> Package:
-    files = [WideReader(source).package() for source in sources]
-    return Widening(together(files)).whole(files)
+    return Widening(together([WideReader(source).package() for source in sources])).whole()
 
 
 def spelled(package: Package) -> str:

@@ -5,7 +5,7 @@ use crate::names::{put_field_reference, put_unknown};
 use crate::text::{put_around, put_filled, put_tokens};
 use cs_forms::{Form, Found, closed_around, flaw_of_embedding, said_of_form, said_of_shown};
 use cs_grammar::{Sort, Token};
-use cs_sources::{Near, Source, declared_in, end_of, follows_label, separates};
+use cs_sources::{Inside, Near, Source, declared_in, end_of, follows_label, separates};
 use cs_text::Written;
 use std::alloc::{AllocError, Global};
 
@@ -70,6 +70,11 @@ fn put_excluded(
     sources: &[Source<'_>],
     near: Near<'_, '_>,
 ) -> Written {
+    if near.begins_declaration() && near.inside() == Inside::File {
+        // It stands for what it is put together from, which is at fault.
+        let said = "a default in `{}` is out of place, or another declaration could exclude it";
+        return put_filled(text, said, &[near.here().text]);
+    }
     let label = match label_over(near) {
         Some(label) => label,
         // Where it was embedded, it is that of two declarations.

@@ -2,6 +2,7 @@
 use crate::labels::field_named;
 use crate::text::put_filled;
 use cs_forms::{Form, kind_meant, said_of_form};
+use cs_grammar::Sort;
 use cs_place::position_of;
 use cs_sources::{Declared, Near, Source, declared_in};
 use cs_text::{Written, few_edits};
@@ -48,6 +49,10 @@ fn is_kind(name: &str) -> bool {
 /// Puts that a name names a field, and where that is.
 pub(crate) fn put_field_reference(text: &mut String, near: Near<'_, '_>) -> Written {
     let name = near.here().text;
+    if near.here().sort == Sort::Definition {
+        // It stands for what it is put together from, which is at fault.
+        return put_filled(text, "a name in `{}` is a field there", &[name]);
+    }
     put_filled(text, said_of_form(Form::FieldReference), &[name])?;
     if let Some(label) = field_named(*text.allocator(), near)? {
         let source = near.source;
@@ -70,6 +75,10 @@ pub(crate) fn put_unknown(
 ) -> Written {
     let alloc = *text.allocator();
     let declared = declared_in(alloc, sources)?;
+    // It stands for what it is put together from, which is at fault.
+    if declared.times(name) > 0 {
+        return put_filled(text, "a name in `{}` isn't declared", &[name]);
+    }
     let nearest = nearest(alloc, name, &declared)?;
     let Some(meant) = nearest.or(kind_meant(name)) else {
         return put_filled(text, said, &[name]);

@@ -17,9 +17,10 @@ use Rattle.cs_grammar.specs.View.{expr_view}
 use Rattle.cs_grammar.specs.declared.ast.Expr.{Expr}
 use Rattle.cs_embeddings.specs.Alternatives.{Brought}
 use Rattle.cs_embeddings.specs.Gathered.{is_every}
-use Rattle.cs_embeddings.specs.Clashes.{is_plain, referred, are_same, is_same_reference, are_apart, differ, held, is_some_place, place_in, clashes_behind}
+use Rattle.cs_resolve.specs.Refinement.{referred}
+use Rattle.cs_embeddings.specs.Clashes.{are_same, is_same_reference, are_apart, differ, held, place_in, clashes_behind}
 use Rattle.cs_embeddings.specs.ClashTable.{is_apart, is_apart_every, is_other, TellsFirst, TellsValues, TellsSeen}
-use Rattle.cs_embeddings.specs.Held.{holds}
+use Rattle.cs_embeddings.specs.Held.{holds, is_plain}
 use Rattle.cs_embeddings.specs.Shut.{is_shut}
 use Rattle.cs_embeddings.specs.Views.{brought_view}
 use Rattle.cs_embeddings.specs.declared.alternatives.Brought as rust
@@ -48,7 +49,7 @@ referred_shut (atom a) m h = cc
 referred_shut (named s o) m h = cc
 referred_shut (conjunction es) m h = cc
 referred_shut (disjunction es) m h = cc
-referred_shut (paren e) m h = cc
+referred_shut (paren e) m h = referred_shut e m h
 referred_shut (struct o fs b) m h = cc
 referred_shut (list es end) m h = cc
 referred_shut (wide w) m h = cc
@@ -316,11 +317,11 @@ module _ (seen : Seen) (before : List Brought) (told : TellsSeen seen before) (d
 
 -- ---- one after another
 
-held_push : (ds : List Brought) (d : Brought) → held (ds ++ d ∷ []) ≡ held ds ++ cond (is_plain d) [] (d ∷ [])
+held_push : (ds : List Brought) (d : Brought) → held (ds ++ d ∷ []) ≡ held ds ++ cond (is_plain d.value) [] (d ∷ [])
 held_push [] d = refl
-held_push (c ∷ ds) d = by (is_plain c) (held_push ds d)
+held_push (c ∷ ds) d = by (is_plain c.value) (held_push ds d)
   where
-    by : (b : Bool) → held (ds ++ d ∷ []) ≡ held ds ++ cond (is_plain d) [] (d ∷ []) → cond b (held (ds ++ d ∷ [])) (c ∷ held (ds ++ d ∷ [])) ≡ cond b (held ds) (c ∷ held ds) ++ cond (is_plain d) [] (d ∷ [])
+    by : (b : Bool) → held (ds ++ d ∷ []) ≡ held ds ++ cond (is_plain d.value) [] (d ∷ []) → cond b (held (ds ++ d ∷ [])) (c ∷ held (ds ++ d ∷ [])) ≡ cond b (held ds) (c ∷ held ds) ++ cond (is_plain d.value) [] (d ∷ [])
     by true later = later
     by false later = ap (λ xs. c ∷ xs) later
 
@@ -340,25 +341,25 @@ module _ (xs : List rust.Brought) (i : ℕ) (x : rust.Brought) (l : i < length x
   abbrev item : Brought
   item = brought_view x
 
-  next_done : held (map brought_view (take (i + 1) xs)) ≡ held (map brought_view (take i xs)) ++ cond (is_plain item) [] (item ∷ [])
+  next_done : held (map brought_view (take (i + 1) xs)) ≡ held (map brought_view (take i xs)) ++ cond (is_plain item.value) [] (item ∷ [])
   next_done =
       ap (λ ys. held (map brought_view ys)) (take_more xs i x l ∙ ap (λ y. take i xs ++ y ∷ []) (sym is))
       ∙ ap held (map-append brought_view (take i xs) (x ∷ []))
       ∙ held_push (map brought_view (take i xs)) item
 
-  next_rest : held (map brought_view (drop i xs)) ≡ cond (is_plain item) (held (map brought_view (drop (i + 1) xs))) (item ∷ held (map brought_view (drop (i + 1) xs)))
+  next_rest : held (map brought_view (drop i xs)) ≡ cond (is_plain item.value) (held (map brought_view (drop (i + 1) xs))) (item ∷ held (map brought_view (drop (i + 1) xs)))
   next_rest = ap (λ ys. held (map brought_view ys)) (at_place xs i x l is)
 
-  pub plain_done : is_plain item ≡ true → held (map brought_view (take (i + 1) xs)) ≡ held (map brought_view (take i xs))
+  pub plain_done : is_plain item.value ≡ true → held (map brought_view (take (i + 1) xs)) ≡ held (map brought_view (take i xs))
   plain_done h = next_done ∙ ap (λ b. held (map brought_view (take i xs)) ++ cond b [] (item ∷ [])) h ∙ append-nil (held (map brought_view (take i xs)))
 
-  pub plain_rest : is_plain item ≡ true → held (map brought_view (drop i xs)) ≡ held (map brought_view (drop (i + 1) xs))
+  pub plain_rest : is_plain item.value ≡ true → held (map brought_view (drop i xs)) ≡ held (map brought_view (drop (i + 1) xs))
   plain_rest h = next_rest ∙ ap (λ b. cond b (held (map brought_view (drop (i + 1) xs))) (item ∷ held (map brought_view (drop (i + 1) xs)))) h
 
-  pub held_done : is_plain item ≡ false → held (map brought_view (take (i + 1) xs)) ≡ held (map brought_view (take i xs)) ++ item ∷ []
+  pub held_done : is_plain item.value ≡ false → held (map brought_view (take (i + 1) xs)) ≡ held (map brought_view (take i xs)) ++ item ∷ []
   held_done h = next_done ∙ ap (λ b. held (map brought_view (take i xs)) ++ cond b [] (item ∷ [])) h
 
-  pub held_rest : is_plain item ≡ false → held (map brought_view (drop i xs)) ≡ item ∷ held (map brought_view (drop (i + 1) xs))
+  pub held_rest : is_plain item.value ≡ false → held (map brought_view (drop i xs)) ≡ item ∷ held (map brought_view (drop (i + 1) xs))
   held_rest h = next_rest ∙ ap (λ b. cond b (held (map brought_view (drop (i + 1) xs))) (item ∷ held (map brought_view (drop (i + 1) xs)))) h
 
 -- a declaration that doesn't differ is passed
@@ -371,8 +372,8 @@ clash_here before d ds o h is =
     ap (λ b. cond b (place_in d.place (holds d.value)) [] ++ clashes_behind (before ++ d ∷ []) ds) h
     ∙ ap (λ p. place_in d.place p ++ clashes_behind (before ++ d ∷ []) ds) is
 
-pub plain_by : (d : Brought) → holds d.value ≡ None → is_plain d ≡ true
-plain_by d h = ap (λ o. not (is_some_place o)) h
+pub plain_by : (d : Brought) → holds d.value ≡ None → is_plain d.value ≡ true
+plain_by d h = ap (λ o. not (is_some o)) h
 
-pub held_by : (d : Brought) (o : ℕ) → holds d.value ≡ Some o → is_plain d ≡ false
-held_by d o h = ap (λ o. not (is_some_place o)) h
+pub held_by : (d : Brought) (o : ℕ) → holds d.value ≡ Some o → is_plain d.value ≡ false
+held_by d o h = ap (λ o. not (is_some o)) h

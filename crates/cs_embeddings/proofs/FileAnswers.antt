@@ -9,6 +9,7 @@ use Rattle.cs_grammar.specs.Tree.{FileTree, definitions}
 use Rattle.cs_grammar.specs.View.{file_view}
 use Rattle.cs_grammar.specs.declared.ast.File.{File}
 use Rattle.cs_embeddings.proofs.FileParts.{height-append}
+use Rattle.cs_embeddings.specs.Bodies.{left_in}
 use Rattle.cs_embeddings.specs.Made.{IsNoRoomForFiles, MakesFiles}
 use Rattle.cs_embeddings.specs.Without.{IsJoined, IsWithin, IsRefusal, all_definitions, flaws_of_files, clashes_of_files, joined_files}
 use Rattle.cs_embeddings.specs.declared.fault.EmbeddingFault.{EmbeddingFault}
@@ -26,15 +27,15 @@ no_higher (g ∷ fs) (suc i) f is =
     let all = height-append (definitions g) (flat_map definitions fs) in omega arith
 
 module _ (fs : List FileTree) (flawless : flaws_of_files fs ≡ []) where
-  pub found_of : (r : Result (Vec File Global) EmbeddingFault) → MakesFiles r (all_definitions fs) fs → IfOk r (λ v. IsJoined fs (map file_view v.items))
+  pub found_of : (r : Result (Vec File Global) EmbeddingFault) → MakesFiles r (all_definitions fs) (left_in fs) → IfOk r (λ v. IsJoined fs (map file_view v.items))
   found_of (Ok v) h = record { flawless = flawless; apart = h.apart; joined = h.made }
   found_of (Err e) h = tt
 
-  pub within_of : (r : Result (Vec File Global) EmbeddingFault) → MakesFiles r (all_definitions fs) fs → IfOk r (λ v. IsWithin (map file_view v.items))
+  pub within_of : (r : Result (Vec File Global) EmbeddingFault) → MakesFiles r (all_definitions fs) (left_in fs) → IfOk r (λ v. IsWithin (map file_view v.items))
   within_of (Ok v) h = h.within
   within_of (Err e) h = tt
 
-  refusal : (e : EmbeddingFault) → IsNoRoomForFiles e (all_definitions fs) fs → IsRefusal e fs
+  refusal : (e : EmbeddingFault) → IsNoRoomForFiles e (all_definitions fs) (left_in fs) → IsRefusal e fs
   refusal OutOfMemory h = tt
   refusal (Reopened i o) h = (flawless, h)
   refusal (TooHigh i) h = (flawless, h)
@@ -42,12 +43,12 @@ module _ (fs : List FileTree) (flawless : flaws_of_files fs ≡ []) where
   refusal (UnknownName i o) h = absurd h
   refusal (NoStruct i o) h = absurd h
 
-  pub refused_of : (r : Result (Vec File Global) EmbeddingFault) → MakesFiles r (all_definitions fs) fs → IfErr r (λ e. IsRefusal e fs)
+  pub refused_of : (r : Result (Vec File Global) EmbeddingFault) → MakesFiles r (all_definitions fs) (left_in fs) → IfErr r (λ e. IsRefusal e fs)
   refused_of (Ok v) h = tt
   refused_of (Err e) h = refusal e h
 
   module _ (apart : clashes_of_files fs ≡ []) (within : IsWithin (joined_files fs)) where
-    no_other : (e : EmbeddingFault) → IsNoRoomForFiles e (all_definitions fs) fs → e ≡ OutOfMemory
+    no_other : (e : EmbeddingFault) → IsNoRoomForFiles e (all_definitions fs) (left_in fs) → e ≡ OutOfMemory
     no_other OutOfMemory h = cc
     no_other (Reopened i o) h = let k : ◌≡◌ {A = _} (slice_get {X = ℕ × ℕ} [] 0) (Some (i, o)) = subst
         (λ (xs : List (ℕ × ℕ)). slice_get xs 0 ≡ Some (i, o)) apart h in cc
@@ -56,6 +57,6 @@ module _ (fs : List FileTree) (flawless : flaws_of_files fs ≡ []) where
     no_other (UnknownName i o) h = absurd h
     no_other (NoStruct i o) h = absurd h
 
-    pub only_of : (r : Result (Vec File Global) EmbeddingFault) → MakesFiles r (all_definitions fs) fs → IsOkUnless r OutOfMemory
+    pub only_of : (r : Result (Vec File Global) EmbeddingFault) → MakesFiles r (all_definitions fs) (left_in fs) → IsOkUnless r OutOfMemory
     only_of (Ok v) h = tt
     only_of (Err e) h = no_other e h

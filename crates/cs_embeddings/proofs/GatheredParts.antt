@@ -1,5 +1,5 @@
 -- What holds of declarations holds of them where those of one label are put together.
-use Rattle.std.proofs.Common.{◌≡◌, ◌⊎◌, ℕ, Bool, true, false, not, ◌&&◌, cond, List, [], ◌∷◌, ◌++◌, filter, length, refl, subst, inl, inr}
+use Rattle.std.proofs.Common.{◌≡◌, ◌⊎◌, ℕ, Bool, true, false, not, ◌&&◌, ◌||◌, cond, List, [], ◌∷◌, ◌++◌, filter, length, refl, subst, inl, inr}
 use Rattle.std.proofs.lemmas.Bool.{and_parts, cond_both}
 use Rattle.std.specs.List.{AllByRecursion, list_all, list_any}
 use Rattle.std.specs.Prelude.{nat_le}
@@ -12,7 +12,8 @@ use Rattle.cs_grammar.specs.Written.{by_itself, IsName, IsDefinitionName, IsWrit
 use Rattle.cs_embeddings.proofs.WellAlternatives.{all-append}
 use Rattle.cs_embeddings.specs.Alternatives.{Brought}
 use Rattle.cs_embeddings.specs.Embedded.{embeds_well, embed_well}
-use Rattle.cs_embeddings.specs.Gathered.{is_every, is_of, those_of, values_of, gathers, is_gathered, most_gathered, mark_or, mark_of, together, gathered_at, gathered_behind, gathered}
+use Rattle.cs_embeddings.specs.Gathered.{is_every, stays_alone, is_of, those_of, values_of, gathers, is_gathered, most_gathered, mark_or, mark_of, together, gathered_at, gathered_behind, gathered}
+use Rattle.cs_embeddings.specs.Held.{is_plain}
 use Rattle.cs_embeddings.specs.United.{unites}
 
 -- ---- any property
@@ -31,12 +32,12 @@ abbrev pub Kept : (Brought → Type 0) → (Brought → Type 0) → List Definit
 Kept P Q ds = (s : List ℕ) (bs : List Brought) → gathers ds bs ≡ true → AllByRecursion (λ d. P d × (is_of s d ≡ true)) bs → Q (together s bs)
 
 module _ (ds : List DefinitionTree) (P Q : Brought → Type 0) (same : (d : Brought) → P d → Q d) (kept : Kept P Q ds) where
-  at_one : (all before : List Brought) (d : Brought) → AllByRecursion P all → P d → AllByRecursion Q (gathered_at ds all before d)
+  pub at_one : (all before : List Brought) (d : Brought) → AllByRecursion P all → P d → AllByRecursion Q (gathered_at ds all before d)
   at_one all before d h here =
       let those = those_of d.label.text all in
       cond_both (is_gathered ds all d) (cond (list_any (is_of d.label.text) before) [] (together d.label.text those ∷ [])) (d ∷ []) (AllByRecursion Q)
       (λ is. cond_both (list_any (is_of d.label.text) before) [] (together d.label.text those ∷ []) (AllByRecursion Q)
-      (λ met. tt) (λ first. (kept d.label.text those (and_parts (not (is_every d.mark)) (gathers ds those) is).1 (all_filter P (is_of d.label.text) all h), tt)))
+      (λ met. tt) (λ first. (kept d.label.text those (and_parts (not (stays_alone d)) (gathers ds those) is).1 (all_filter P (is_of d.label.text) all h), tt)))
       (λ stays. (same d here, tt))
 
   behind : (all before bs : List Brought) → AllByRecursion P all → AllByRecursion P bs → AllByRecursion Q (gathered_behind ds all before bs)
@@ -53,7 +54,7 @@ module _ (ds : List DefinitionTree) (inner : Tree → Bool) where
   abbrev pub IsWellBrought : Brought → Type 0
   IsWellBrought d = embeds_well inner d.value ≡ true
 
-  well_values : (s : List ℕ) (bs : List Brought) → AllByRecursion (λ d. IsWellBrought d × (is_of s d ≡ true)) bs → embed_well inner (values_of bs) ≡ true
+  pub well_values : (s : List ℕ) (bs : List Brought) → AllByRecursion (λ d. IsWellBrought d × (is_of s d ≡ true)) bs → embed_well inner (values_of bs) ≡ true
   well_values s [] h = refl
   well_values s (d ∷ bs) h = rw (h.0.0, well_values s bs h.1) refl
 
@@ -61,6 +62,10 @@ module _ (ds : List DefinitionTree) (inner : Tree → Bool) where
   gathered_well bs h = gathered_all ds IsWellBrought IsWellBrought (λ d w. w) (λ s bs g k. well_values s bs k) bs h
 
 -- ---- what can be written down
+
+not_first : (a b : Bool) → not (a || b) ≡ true → not a ≡ true
+not_first true b h = h
+not_first false b h = refl
 
 abbrev pub IsWrittenBrought : Brought → Type 0
 IsWrittenBrought d = IsWrittenLabel d.label d.mark × IsWritten by_itself d.value
@@ -94,8 +99,8 @@ module _ (ds : List DefinitionTree) where
   -- a declaration of a label without quotes
   named_label : (s : List ℕ) (d : Brought) → IsOne s d → d.label.quotes ≡ false → IsName s
   named_label s d h bare =
-      let parts = and_parts (not (is_every d.mark)) (bytes_eq d.label.text s) h.1 in
-      subst IsName ((bytes_eq-Decides d.label.text s).0 parts.1) (by d.mark parts.0 h.0.0)
+      let parts = and_parts (not (stays_alone d)) (bytes_eq d.label.text s) h.1 in
+      subst IsName ((bytes_eq-Decides d.label.text s).0 parts.1) (by d.mark (not_first (is_every d.mark) (is_plain d.value) parts.0) h.0.0)
     where
       by : (m : FieldMark) → not (is_every m) ≡ true → IsWrittenLabel d.label m → IsName d.label.text
       by Regular k w = w bare
@@ -120,7 +125,7 @@ module _ (ds : List DefinitionTree) where
 
   no_every : (s : List ℕ) (bs : List Brought) → AllByRecursion (IsOne s) bs → not (is_every (mark_of bs)) ≡ true
   no_every s [] h = refl
-  no_every s (d ∷ bs) h = by d.mark (and_parts (not (is_every d.mark)) (bytes_eq d.label.text s) h.0.1).0 (no_every s bs h.1)
+  no_every s (d ∷ bs) h = by d.mark (not_first (is_every d.mark) (is_plain d.value) (and_parts (not (stays_alone d)) (bytes_eq d.label.text s) h.0.1).0) (no_every s bs h.1)
     where
       by : (m : FieldMark) → not (is_every m) ≡ true → not (is_every (mark_of bs)) ≡ true → not (is_every (mark_or m (mark_of bs))) ≡ true
       by Regular k rest = refl
@@ -156,11 +161,8 @@ module _ (ds : List DefinitionTree) where
   their_name : (s : List ℕ) (bs : List Brought) → gathers ds bs ≡ true → AllByRecursion (IsOneBody s) bs → IsDefinitionName s
   their_name s [] g h = cc
   their_name s (d ∷ bs) g h =
-      subst IsDefinitionName ((bytes_eq-Decides d.label.text s).0 (and_parts (not (is_every d.mark)) (bytes_eq d.label.text s) h.0.1).1) h.0.0.0
+      subst IsDefinitionName ((bytes_eq-Decides d.label.text s).0 (and_parts (not (stays_alone d)) (bytes_eq d.label.text s) h.0.1).1) h.0.0.0
 
-  one_defined : Kept IsDefined CanBeDefined ds
+  pub one_defined : Kept IsDefined CanBeDefined ds
   one_defined s bs g h =
       (their_name s bs g h, inr ((and_parts (nat_le (length bs) most_gathered) (unites ds (values_of bs)) g).1, written_bodies s bs h))
-
-  pub gathered_defined : (bs : List Brought) → AllByRecursion IsDefined bs → AllByRecursion CanBeDefined (gathered ds bs)
-  gathered_defined bs h = gathered_all ds IsDefined CanBeDefined (λ d w. (w.0, inl w.1)) one_defined bs h

@@ -8,7 +8,7 @@ use Rattle.std.specs.List.{list_any}
 use Rattle.std.specs.Str.{bytes_eq}
 use Rattle.cs_grammar.specs.Tree.{DefinitionTree}
 use Rattle.cs_embeddings.specs.Alternatives.{Brought}
-use Rattle.cs_embeddings.specs.Gathered.{is_every, is_of, those_of, values_of, most_gathered, gathers, is_gathered, together, gathered_behind, gathered}
+use Rattle.cs_embeddings.specs.Gathered.{stays_alone, is_of, those_of, values_of, most_gathered, gathers, is_gathered, together, gathered_behind, gathered}
 use Rattle.cs_embeddings.specs.United.{unites}
 
 from_not : (b : Bool) → not b ≡ true → b ≡ false
@@ -87,13 +87,13 @@ module _ (ds : List DefinitionTree) (all : List Brought) where
         let both = and_parts g (list_any (is_of s) (before ++ d ∷ [])) (from_no (g && list_any (is_of s) (before ++ d ∷ [])) isnt) in
         let unmet = only_left g m (from_not (g && m) was) both.0 in
         let meets = sym (or_nothing (is_of s d)) ∙ only_right m (is_of s d || false) (sym (with_one s) ∙ both.1) unmet in
-        let of = and_parts (not (is_every d.mark)) (bytes_eq d.label.text s) meets in
+        let of = and_parts (not (stays_alone d)) (bytes_eq d.label.text s) meets in
         let same = (bytes_eq-Decides d.label.text s).0 of.1 in
-        let x_of = and_parts (not (is_every x.mark)) (gathers ds (those_of s all)) both.0 in
+        let x_of = and_parts (not (stays_alone x)) (gathers ds (those_of s all)) both.0 in
         let gathers_d = subst (λ t. gathers ds (those_of t all) ≡ true) (sym same) x_of.1 in (
-          and_from (not (is_every d.mark)) (gathers ds (those_of d.label.text all)) of.0 gathers_d,
+          and_from (not (stays_alone d)) (gathers ds (those_of d.label.text all)) of.0 gathers_d,
           subst (λ t. list_any (is_of t) before ≡ false) (sym same) unmet,
-          and_from (not (is_every x.mark)) (bytes_eq s d.label.text) x_of.0 ((bytes_eq-Decides s d.label.text).1 (sym same)),
+          and_from (not (stays_alone x)) (bytes_eq s d.label.text) x_of.0 ((bytes_eq-Decides s d.label.text).1 (sym same)),
         )
 
   module _ (before : List Brought) (d : Brought) (rest : List Brought) where
@@ -121,8 +121,8 @@ module _ (ds : List DefinitionTree) (all : List Brought) where
   few_at : (d : Brought) (rest : List Brought) → AreFew (d ∷ rest) → is_gathered ds all d ≡ true → suc (length (those_of d.label.text rest)) ≤ 64
   few_at d rest few h =
       let s = d.label.text in
-      let w = and_parts (not (is_every d.mark)) (gathers ds (those_of s all)) h in
-      let own = and_from (not (is_every d.mark)) (bytes_eq s s) w.0 ((bytes_eq-Decides s s).1 refl) in
+      let w = and_parts (not (stays_alone d)) (gathers ds (those_of s all)) h in
+      let own = and_from (not (stays_alone d)) (bytes_eq s s) w.0 ((bytes_eq-Decides s s).1 refl) in
       subst (λ b. length (cond b (d ∷ those_of s rest) (those_of s rest)) ≤ 64) own (few s w.1)
 
   counted : (before rest : List Brought) → AreFew rest → left_in before rest ≤ 64 * length (gathered_behind ds all before rest)

@@ -20,7 +20,7 @@ use Rattle.cs_grammar.specs.Tree.{Tree, Trees, none, more, conjunction, Definiti
 use Rattle.cs_grammar.specs.View.{expr_view, trees_of}
 use Rattle.cs_embeddings.specs.Alternatives.{Brought}
 use Rattle.cs_embeddings.specs.Checks.{bodies_view}
-use Rattle.cs_embeddings.specs.Gathered.{is_every, is_of, those_of, values_of, most_gathered, gathers, mark_or, mark_of, place_of, together, gathered_at, gathered_behind, gathered}
+use Rattle.cs_embeddings.specs.Gathered.{stays_alone, is_of, those_of, values_of, most_gathered, gathers, is_gathered, mark_or, mark_of, place_of, together, gathered_at, gathered_behind, gathered}
 use Rattle.cs_embeddings.specs.GatheredTable.{IsTogether, declared_view, together_view, gathered_view, IsSound, TellsLabel, TellsLabels, Stands}
 use Rattle.cs_embeddings.specs.Held.{or_else}
 use Rattle.cs_embeddings.specs.United.{unites}
@@ -119,13 +119,13 @@ any_push p bs d = list_any-append p bs (d ∷ []) ∙ ap (λ b. list_any p bs ||
 those_push : (s : List ℕ) (bs : List Brought) (d : Brought) → those_of s (bs ++ d ∷ []) ≡ those_of s bs ++ cond (is_of s d) (d ∷ []) []
 those_push s bs d = filter-append (is_of s) bs (d ∷ [])
 
-is_of_own : (d : Brought) (s : List ℕ) → is_every d.mark ≡ false → d.label.text ≡ s → is_of s d ≡ true
+is_of_own : (d : Brought) (s : List ℕ) → stays_alone d ≡ false → d.label.text ≡ s → is_of s d ≡ true
 is_of_own d s one same = ap₂ (λ e b. not e && b) one ((bytes_eq-Decides d.label.text s).1 same)
 
 is_of_other : (d : Brought) (name s : List ℕ) → d.label.text ≡ name → bytes_eq name s ≡ false → is_of s d ≡ false
-is_of_other d name s same other = ap (λ t. not (is_every d.mark) && bytes_eq t s) same ∙ ap (λ b. not (is_every d.mark) && b) other ∙ and_nothing (not (is_every d.mark))
+is_of_other d name s same other = ap (λ t. not (stays_alone d) && bytes_eq t s) same ∙ ap (λ b. not (stays_alone d) && b) other ∙ and_nothing (not (stays_alone d))
 
-is_of_none : (d : Brought) (s : List ℕ) → is_every d.mark ≡ true → is_of s d ≡ false
+is_of_none : (d : Brought) (s : List ℕ) → stays_alone d ≡ true → is_of s d ≡ false
 is_of_none d s every = ap (λ e. not e && bytes_eq d.label.text s) every
 
 those_own : (s : List ℕ) (bs : List Brought) (d : Brought) → is_of s d ≡ true → those_of s (bs ++ d ∷ []) ≡ those_of s bs ++ d ∷ []
@@ -172,7 +172,7 @@ table_put P m r n name v without after here others t =
 
 -- one more is put behind those of its label
 pub label_added : (l k : Labels) (r : Table) (ds : List DefinitionTree) (bs : List Brought) (d : Brought) (name : List ℕ) (t : Together)
-    → d.label.text ≡ name → is_every d.mark ≡ false → TellsLabels l ds bs []
+    → d.label.text ≡ name → stays_alone d ≡ false → TellsLabels l ds bs []
     → ((s : List ℕ) → label_at s r ≡ update bytes_eq (λ u. label_at u l.by_text) name None s)
     → ((s : List ℕ) → label_at s k.by_text ≡ update bytes_eq (λ u. label_at u r) name (Some (Unmet t)) s)
     → IsTogether t name (those_of name bs ++ d ∷ []) → TellsLabels k ds (bs ++ d ∷ []) []
@@ -197,11 +197,11 @@ together_as t s bs told =
 
 module _ (ds : List DefinitionTree) (all before : List Brought) (d : Brought) where
   -- one that is of every label stands for itself
-  pub every_alone : is_every d.mark ≡ true → gathered_at ds all before d ≡ d ∷ []
+  pub every_alone : stays_alone d ≡ true → gathered_at ds all before d ≡ d ∷ []
   every_alone every =
       ap (λ e. cond (not e && gathers ds (those_of d.label.text all)) (cond (list_any (is_of d.label.text) before) [] (together d.label.text (those_of d.label.text all) ∷ [])) (d ∷ [])) every
 
-  module _ (one : is_every d.mark ≡ false) where
+  module _ (one : stays_alone d ≡ false) where
     gathered_by : (g m : Bool) → gathers ds (those_of d.label.text all) ≡ g → list_any (is_of d.label.text) before ≡ m
         → gathered_at ds all before d ≡ cond g (cond m [] (together d.label.text (those_of d.label.text all) ∷ [])) (d ∷ [])
     gathered_by g m is met =
@@ -215,17 +215,24 @@ module _ (ds : List DefinitionTree) (all before : List Brought) (d : Brought) wh
         let united = and_parts (nat_le (length (those_of d.label.text all)) most_gathered) (unites ds (values_of (those_of d.label.text all))) (sym g) in (
           g,
           ap (λ b. b ∷ []) (together_as t d.label.text (those_of d.label.text all) w.0) ∙ sym (gathered_by true false (sym g) w.1),
-          ap (unites ds) w.0.values ∙ united.1,
+          (refl, ap (unites ds) w.0.values ∙ united.1, w.0.many),
         )
+
+    -- whether it is put together with others
+    pub gathered_is : (b : Bool) → b ≡ gathers ds (those_of d.label.text all) → b ≡ is_gathered ds all d
+    gathered_is b g = g ∙ ap (λ a. not a && gathers ds (those_of d.label.text all)) (sym one)
+
+  pub alone_for : stays_alone d ≡ true → is_gathered ds all d ≡ false
+  alone_for alone = ap (λ a. not a && gathers ds (those_of d.label.text all)) alone
 
 -- ---- one declaration is met
 
-pub every_met : (l : Labels) (ds : List DefinitionTree) (all before : List Brought) (d : Brought) → is_every d.mark ≡ true → TellsLabels l ds all before
+pub every_met : (l : Labels) (ds : List DefinitionTree) (all before : List Brought) (d : Brought) → stays_alone d ≡ true → TellsLabels l ds all before
     → TellsLabels l ds all (before ++ d ∷ [])
 every_met l ds all before d every told s = kept_before ds s d (is_of_none d s every) (label_at s l.by_text) all before (told s)
 
 pub label_met : (l k : Labels) (r : Table) (ds : List DefinitionTree) (all before : List Brought) (d : Brought) (name : List ℕ) (b : Bool)
-    → d.label.text ≡ name → is_every d.mark ≡ false → TellsLabels l ds all before
+    → d.label.text ≡ name → stays_alone d ≡ false → TellsLabels l ds all before
     → ((s : List ℕ) → label_at s r ≡ update bytes_eq (λ u. label_at u l.by_text) name None s)
     → ((s : List ℕ) → label_at s k.by_text ≡ update bytes_eq (λ u. label_at u r) name (Some (Met b)) s)
     → b ≡ gathers ds (those_of d.label.text all) → TellsLabels k ds all (before ++ d ∷ [])
@@ -243,7 +250,7 @@ pub declared_more : (xs : List Declared) (i : ℕ) (x : Declared) → i < length
 declared_more xs i x l is =
     ap (map declared_view) (take_more xs i x l ∙ ap (λ y. take i xs ++ y ∷ []) (sym is)) ∙ map-append declared_view (take i xs) (x ∷ [])
 
-declared_rest : (xs : List Declared) (i : ℕ) (x : Declared) → i < length xs → x ≡ get_or xs i x
+pub declared_rest : (xs : List Declared) (i : ℕ) (x : Declared) → i < length xs → x ≡ get_or xs i x
     → map declared_view (drop i xs) ≡ declared_view x ∷ map declared_view (drop (i + 1) xs)
 declared_rest xs i x l is = ap (map declared_view) (at_place xs i x l is)
 

@@ -1,5 +1,5 @@
 -- What each form of an expression stands for, from what its parts stand for.
-use Rattle.std.proofs.Common.{◌≡◌, ℕ, suc, ◌+◌, ◌≤◌, Bool, true, false, not, ◌&&◌, List, ◌++◌, Result, sym, ap, ap₂, ◌∙◌, subst, arith}
+use Rattle.std.proofs.Common.{◌≡◌, ℕ, suc, ◌+◌, ◌≤◌, Bool, true, false, not, ◌&&◌, List, ◌++◌, Some, Result, sym, ap, ap₂, ◌∙◌, subst, arith}
 use Rattle.std.proofs.lemmas.Bool.{and_parts, cond-true, cond-false}
 use Rattle.std.specs.List.{flat_map}
 use Rattle.cs_grammar.specs.Height.{height, height_all, height_end}
@@ -9,8 +9,8 @@ use Rattle.cs_embeddings.proofs.Parts.{no_room_left, no_room_right, no_room_insi
 use Rattle.cs_embeddings.specs.Alternatives.{at, most_steps}
 use Rattle.cs_embeddings.specs.Clashes.{clashes_with, clashes_each, clashes_end, clashes_of, clashes_value}
 use Rattle.cs_embeddings.specs.Embedded.{can_be_embedded, embeds_well, embed_well, end_embeds_well}
-use Rattle.cs_embeddings.specs.Joined.{joined_with, joined_each, joined_end, joined_value, one_of}
-use Rattle.cs_embeddings.specs.Held.{first_place}
+use Rattle.cs_embeddings.specs.Joined.{beside, joined_with, joined_each, joined_end, joined_value, one_of}
+use Rattle.cs_embeddings.specs.Held.{holding, first_place}
 use Rattle.cs_embeddings.specs.United.{are_several, unites, united}
 use Rattle.cs_embeddings.specs.Shut.{some_shut, are_open}
 use Rattle.cs_grammar.specs.declared.ast.Expr.{Expr}
@@ -70,13 +70,30 @@ module _ (ds : List DefinitionTree) (n : ℕ) where
   EndMade room nodes rest x end = IsMade room.levels nodes rest (height_end (end_meant room end)) (size_end (end_meant room end)) x (end_meant room end)
       (end_found room end)
 
-  -- operands of `&` that stay, and those that are put together
-  staying_meant : (room : Room) (es : Trees) → unites ds es ≡ false
+  -- operands of `&` that stay, those that are put together beside plain ones, and those that all are
+  staying_meant : (room : Room) (es : Trees) → unites ds es ≡ false → unites ds (holding es) ≡ false
       → meant room (conjunction es) ≡ conjunction (joined_each ds (joined_value ds n) false room.place es)
-  staying_meant room es stay = cond-false (unites ds es) _ _ stay
+  staying_meant room es stay apart = cond-false (unites ds es) _ _ stay ∙ ap conjunction (cond-false (unites ds (holding es)) _ _ apart)
 
-  staying_found : (room : Room) (es : Trees) → unites ds es ≡ false → found room (conjunction es) ≡ each_found room es
-  staying_found room es stay = cond-false (unites ds es) _ _ stay
+  staying_found : (room : Room) (es : Trees) → unites ds es ≡ false → unites ds (holding es) ≡ false → found room (conjunction es) ≡ each_found room es
+  staying_found room es stay apart = cond-false (unites ds es) _ _ stay ∙ cond-false (unites ds (holding es)) _ _ apart
+
+  -- what stands beside one another, and what of it would be opened
+  abbrev pub beside_meant : Room → Trees → Trees
+  beside_meant room es =
+      let V = joined_value ds n in
+      beside (Some (joined_with ds V room.is_whole room.place (conjunction (holding es)))) es (joined_each ds V room.is_whole room.place es)
+
+  abbrev pub beside_found : Room → Trees → List ℕ
+  beside_found room es = found room (conjunction (holding es))
+
+  abbrev pub BesideUnmade : EmbeddingFault → ℕ → Room → ℕ → Trees → Type 0
+  BesideUnmade e file room nodes es =
+      IsNoRoom e file room.levels nodes (height_all (beside_meant room es)) (sizes (beside_meant room es)) (beside_found room es)
+
+  abbrev pub BesideMade : Room → ℕ → ℕ → Trees → Trees → Type 0
+  BesideMade room nodes rest x es =
+      IsMade room.levels nodes rest (height_all (beside_meant room es)) (sizes (beside_meant room es)) x (beside_meant room es) (beside_found room es)
 
   united_meant : (room : Room) (es : Trees) → unites ds es ≡ true
       → meant room (conjunction es) ≡ one_of ds (joined_value ds n) room.is_whole (at room.place (first_place es)) (united ds room.place es)
@@ -85,6 +102,18 @@ module _ (ds : List DefinitionTree) (n : ℕ) where
   united_found : (room : Room) (es : Trees) → unites ds es ≡ true
       → found room (conjunction es) ≡ flat_map (clashes_of ds (clashes_value ds n) false) (united ds room.place es)
   united_found room es unite = cond-true (unites ds es) _ _ unite
+
+  keeping_meant : (room : Room) (es : Trees) → unites ds es ≡ false → unites ds (holding es) ≡ true
+      → meant room (conjunction es) ≡ conjunction (beside_meant (record room { is_whole = false }) es)
+  keeping_meant room es stay unite =
+      let each = joined_each ds (joined_value ds n) false room.place es in
+      cond-false (unites ds es) _ _ stay
+      ∙ ap conjunction (cond-true (unites ds (holding es)) _ _ unite)
+      ∙ ap (λ t. conjunction (beside (Some t) es each)) (sym (united_meant (record room { is_whole = false }) (holding es) unite))
+
+  keeping_found : (room : Room) (es : Trees) → unites ds es ≡ false → unites ds (holding es) ≡ true → found room (conjunction es) ≡ beside_found room es
+  keeping_found room es stay unite =
+      cond-false (unites ds es) _ _ stay ∙ cond-true (unites ds (holding es)) _ _ unite ∙ sym (united_found room (holding es) unite)
 
   module _ (room : Room) (es : Trees) (unite : unites ds es ≡ true) where
     abbrev united_one : Tree
@@ -128,12 +157,12 @@ module _ (ds : List DefinitionTree) (n : ℕ) where
         operands_unmade well = no_room_inside e file room.levels inside.levels nodes mid _ _ _ goes.0.levels goes.1
             (at_parts false r set (λ q. EachUnmade e file q mid es) (each well))
 
-        pub and_unmade : t ≡ conjunction es → unites ds es ≡ false → IsUnmade e file room nodes t
-        and_unmade is stay =
+        pub and_unmade : t ≡ conjunction es → unites ds es ≡ false → unites ds (holding es) ≡ false → IsUnmade e file room nodes t
+        and_unmade is stay apart =
             let h = operands_unmade (subst (λ u. embeds_well inner u ≡ true) is embeds) in
             subst (IsUnmade e file room nodes) (sym is)
-            (subst (λ cs. IsNoRoom e file room.levels nodes (height (meant room (conjunction es))) (size (meant room (conjunction es))) cs) (sym (staying_found room es stay))
-            (subst (λ u. IsNoRoom e file room.levels nodes (height u) (size u) (each_found room es)) (sym (staying_meant room es stay)) h))
+            (subst (λ cs. IsNoRoom e file room.levels nodes (height (meant room (conjunction es))) (size (meant room (conjunction es))) cs) (sym (staying_found room es stay apart))
+            (subst (λ u. IsNoRoom e file room.levels nodes (height u) (size u) (each_found room es)) (sym (staying_meant room es stay apart)) h))
 
         pub or_unmade : t ≡ disjunction es → IsUnmade e file room nodes t
         or_unmade is = subst (IsUnmade e file room nodes) (sym is) (operands_unmade (subst (λ u. embeds_well inner u ≡ true) is embeds))
@@ -142,19 +171,36 @@ module _ (ds : List DefinitionTree) (n : ℕ) where
         operands_made : embed_well inner es ≡ true → EachMade (parts false) mid rest x es
         operands_made well = at_parts false r set (λ q. EachMade q mid rest x es) (each well)
 
-        pub and_made : t ≡ conjunction es → unites ds es ≡ false → y ≡ conjunction x → IsMadeOf room nodes rest y t
-        and_made is stay made =
+        pub and_made : t ≡ conjunction es → unites ds es ≡ false → unites ds (holding es) ≡ false → y ≡ conjunction x → IsMadeOf room nodes rest y t
+        and_made is stay apart made =
             let h = made_inside room.levels inside.levels goes.0.levels mid rest _ _ x _ _ conjunction y made nodes goes.1
             (operands_made (subst (λ u. embeds_well inner u ≡ true) is embeds)) in
             subst (IsMadeOf room nodes rest y) (sym is)
             (subst (λ cs. IsMade room.levels nodes rest (height (meant room (conjunction es))) (size (meant room (conjunction es))) y (meant room (conjunction es)) cs)
-            (sym (staying_found room es stay))
-            (subst (λ u. IsMade room.levels nodes rest (height u) (size u) y u (each_found room es)) (sym (staying_meant room es stay)) h))
+            (sym (staying_found room es stay apart))
+            (subst (λ u. IsMade room.levels nodes rest (height u) (size u) y u (each_found room es)) (sym (staying_meant room es stay apart)) h))
 
         pub or_made : t ≡ disjunction es → y ≡ disjunction x → IsMadeOf room nodes rest y t
         or_made is made = subst (IsMadeOf room nodes rest y) (sym is)
             (made_inside room.levels inside.levels goes.0.levels mid rest _ _ x _ _ disjunction y made nodes goes.1
             (operands_made (subst (λ u. embeds_well inner u ≡ true) is embeds)))
+
+    -- operands beside one another
+    module _ (es : Trees) (stay : unites ds es ≡ false) (unite : unites ds (holding es) ≡ true) (r : Room) (set : r ≡ record inside { is_whole = false }) where
+      pub beside_unmade : (e : EmbeddingFault) (file : ℕ) → (r.levels ≤ n → BesideUnmade e file r mid es) → IsUnmade e file room nodes (conjunction es)
+      beside_unmade e file each =
+          let h = no_room_inside e file room.levels inside.levels nodes mid _ _ _ goes.0.levels goes.1
+          (at_parts false r set (λ q. BesideUnmade e file q mid es) each) in
+          subst (λ cs. IsNoRoom e file room.levels nodes (height (meant room (conjunction es))) (size (meant room (conjunction es))) cs) (sym (keeping_found room es stay unite))
+          (subst (λ u. IsNoRoom e file room.levels nodes (height u) (size u) (beside_found room es)) (sym (keeping_meant room es stay unite)) h)
+
+      pub beside_made : (rest : ℕ) (x : Trees) (y : Tree) → y ≡ conjunction x → (r.levels ≤ n → BesideMade r mid rest x es) → IsMadeOf room nodes rest y (conjunction es)
+      beside_made rest x y made each =
+          let h = made_inside room.levels inside.levels goes.0.levels mid rest _ _ x _ _ conjunction y made nodes goes.1
+          (at_parts false r set (λ q. BesideMade q mid rest x es) each) in
+          subst (λ cs. IsMade room.levels nodes rest (height (meant room (conjunction es))) (size (meant room (conjunction es))) y (meant room (conjunction es)) cs)
+          (sym (keeping_found room es stay unite))
+          (subst (λ u. IsMade room.levels nodes rest (height u) (size u) y u (beside_found room es)) (sym (keeping_meant room es stay unite)) h)
 
     -- a list
     module _ (es : Trees) (end : End) (embeds : embeds_well inner (list es end) ≡ true) (r : Room) (set : r ≡ record inside { is_whole = true }) where

@@ -1,23 +1,28 @@
 -- What an expression stands for, part by part, as the code has the parts.
-use Rattle.std.proofs.Common.{◌≡◌, ℕ, ◌+◌, max, Bool, true, List, [], ◌∷◌, ◌++◌, Option, map, refl, ap, ◌∙◌}
+use Rattle.std.proofs.Common.{◌≡◌, ℕ, ◌+◌, ◌<◌, max, Bool, true, false, List, [], ◌∷◌, ◌++◌, Option, Some, map, length, get_or, refl, sym, ap, ◌∙◌, subst}
 use Rattle.std.proofs.lemmas.Bool.{and_parts}
+use Rattle.std.proofs.lemmas.List.{append-nil}
 use Rattle.std.specs.List.{flat_map, AllByRecursion}
 use Rattle.cs_grammar.specs.Height.{height, height_all, height_fields}
-use Rattle.cs_grammar.specs.Tree.{Tree, more, field, DefinitionTree}
+use Rattle.cs_grammar.specs.Tree.{Tree, Trees, more, field, DefinitionTree}
 use Rattle.cs_grammar.specs.View.{expr_view, exprs_view, trees_of, fields_of, field_view, fields_view, Seen}
 use Rattle.cs_grammar.specs.declared.ast.Expr.{Expr}
 use Rattle.cs_grammar.specs.declared.ast.Field.{Field}
-use Rattle.cs_embeddings.proofs.Parts.{highest, total, AreMade}
+use Rattle.cs_embeddings.proofs.Parts.{highest, total, AreMade, all_at}
 use Rattle.cs_embeddings.specs.Clashes.{clashes_with, clashes_each, clashes_of}
-use Rattle.cs_embeddings.specs.Embedded.{embeds_well, embed_well}
+use Rattle.cs_embeddings.proofs.Plain.{standing_clashes, beside_trees, all_standing_well}
+use Rattle.cs_embeddings.specs.Embedded.{has_operand, embeds_well, embed_well}
+use Rattle.cs_embeddings.specs.Held.{holding}
 use Rattle.cs_embeddings.specs.GatheredTable.{gathered_view}
-use Rattle.cs_embeddings.specs.Joined.{joined_with, joined_each, literal_of, literals_of, fields_of_brought, placed}
+use Rattle.cs_embeddings.specs.Joined.{beside, joined_with, joined_each, literal_of, literals_of, fields_of_brought, placed}
 use Rattle.cs_embeddings.specs.Made.{IsNoRoom, IsMade}
 use Rattle.cs_embeddings.specs.Size.{size, sizes, size_fields}
+use Rattle.cs_embeddings.specs.Standing.{operand_view, standing, standing_tree}
 use Rattle.cs_embeddings.specs.Views.{alternative_view, alternatives_view}
 use Rattle.cs_embeddings.specs.declared.alternatives.Alternative as rust
 use Rattle.cs_embeddings.specs.declared.fault.EmbeddingFault.{EmbeddingFault}
 use Rattle.cs_embeddings.specs.declared.gathered.Gathered.{Gathered}
+use Rattle.cs_embeddings.specs.declared.held.Operand.{Operand}
 
 -- ---- what embeds well, part by part
 
@@ -80,6 +85,75 @@ module _ (ds : List DefinitionTree) (value : Option ℕ → Tree → Tree) (inne
         → let meant = joined_each ds value whole p (exprs_view es) in IsNoRoom e file levels nodes (height_all meant) (sizes meant)
         (clashes_each ds inner p (exprs_view es))
     each_unmade e file h = rw (each_high whole es, each_large whole es, each_clashes es) h
+
+-- ---- operands beside one another
+
+pub standing_well : (inner : Tree → Bool) (ts : List Tree) (held : Tree) (os : List Operand) (i : ℕ) (o : Operand) → map operand_view os ≡ standing false ts
+    → i < length os → o ≡ get_or os i o → embed_well inner (trees_of ts) ≡ true → embeds_well inner held ≡ true
+    → embeds_well inner (standing_tree held (operand_view o)) ≡ true
+standing_well inner ts held os i o seen l is embeds kept =
+    all_at (λ (p : Operand). embeds_well inner (standing_tree held (operand_view p)) ≡ true) os i o l is
+    (of_map (λ p. embeds_well inner (standing_tree held p) ≡ true) operand_view os
+    (subst (AllByRecursion (λ p. embeds_well inner (standing_tree held p) ≡ true)) (sym seen) (all_standing_well inner held kept false ts embeds)))
+
+module _ {X : Type 0} (f : X → Tree) where
+  trees_high : (xs : List X) → height_all (trees_of (map f xs)) ≡ highest (λ x. height (f x)) xs
+  trees_high [] = refl
+  trees_high (x ∷ xs) = ap (λ h. max (height (f x)) h) (trees_high xs)
+
+  trees_large : (xs : List X) → sizes (trees_of (map f xs)) ≡ total (λ x. size (f x)) xs
+  trees_large [] = refl
+  trees_large (x ∷ xs) = ap (λ s. size (f x) + s) (trees_large xs)
+
+module _ (ds : List DefinitionTree) (value : Option ℕ → Tree → Tree) (inner : Option ℕ → Tree → List ℕ) (whole : Bool) (p : Option ℕ) (held : Tree) where
+  abbrev pub own_operand : Operand → Tree
+  own_operand o = joined_with ds value whole p (standing_tree held (operand_view o))
+
+  abbrev pub operand_clashes : Operand → List ℕ
+  operand_clashes o = clashes_with ds inner p (standing_tree held (operand_view o))
+
+  abbrev pub AreBeside : ℕ → ℕ → ℕ → List Operand → List Expr → Type 0
+  AreBeside levels nodes rest os ys = AreMade expr_view own_operand (λ o. height (own_operand o)) (λ o. size (own_operand o)) operand_clashes levels nodes rest os ys
+
+  operands_seen : (os : List Operand) → map own_operand os ≡ map (λ o. joined_with ds value whole p (standing_tree held o)) (map operand_view os)
+  operands_seen [] = refl
+  operands_seen (o ∷ os) = ap (λ ts. own_operand o ∷ ts) (operands_seen os)
+
+  clashes_seen : (os : List Operand) → flat_map operand_clashes os ≡ flat_map (λ o. clashes_with ds inner p (standing_tree held o)) (map operand_view os)
+  clashes_seen [] = refl
+  clashes_seen (o ∷ os) = ap (λ cs. operand_clashes o ++ cs) (clashes_seen os)
+
+  module _ (ts : List Tree) (os : List Operand) (seen : map operand_view os ≡ standing false ts) (some : has_operand (holding (trees_of ts)) ≡ true) where
+    abbrev stand : Trees
+    stand = beside (Some (joined_with ds value whole p held)) (trees_of ts) (joined_each ds value whole p (trees_of ts))
+
+    operand_trees : trees_of (map own_operand os) ≡ stand
+    operand_trees = ap trees_of (operands_seen os ∙ ap (map (λ o. joined_with ds value whole p (standing_tree held o))) seen) ∙ beside_trees ds value whole p held false ts
+
+    operands_clash : flat_map operand_clashes os ≡ clashes_with ds inner p held
+    operands_clash =
+        clashes_seen os ∙ ap (flat_map (λ o. clashes_with ds inner p (standing_tree held o))) seen ∙ standing_clashes ds inner p held ts some
+        ∙ append-nil (clashes_with ds inner p held)
+
+    operands_high : height_all stand ≡ highest (λ o. height (own_operand o)) os
+    operands_high = sym (ap height_all operand_trees) ∙ trees_high own_operand os
+
+    operands_large : sizes stand ≡ total (λ o. size (own_operand o)) os
+    operands_large = sym (ap sizes operand_trees) ∙ trees_large own_operand os
+
+    pub operands_made : (levels nodes rest : ℕ) (ys : List Expr) → AreBeside levels nodes rest os ys
+        → IsMade levels nodes rest (height_all stand) (sizes stand) (exprs_view ys) stand (clashes_with ds inner p held)
+    operands_made levels nodes rest ys h = record {
+      made = ap trees_of h.made ∙ operand_trees;
+      low = rw operands_high h.low;
+      left = rw operands_large h.left;
+      apart = sym operands_clash ∙ h.apart;
+    }
+
+    pub operands_unmade : (levels nodes : ℕ) (e : EmbeddingFault) (file : ℕ)
+        → IsNoRoom e file levels nodes (highest (λ o. height (own_operand o)) os) (total (λ o. size (own_operand o)) os) (flat_map operand_clashes os)
+        → IsNoRoom e file levels nodes (height_all stand) (sizes stand) (clashes_with ds inner p held)
+    operands_unmade levels nodes e file h = rw (operands_high, operands_large, sym operands_clash) h
 
 -- ---- alternatives
 

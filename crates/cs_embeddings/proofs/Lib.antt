@@ -21,10 +21,15 @@ pub mod Gathering
 pub mod GatheredParts
 pub mod GatheredSizes
 pub mod Listed
+pub mod Keeping
+pub mod LeftParts
 -- what is made of parts one after another, and what expressions stand for
 pub mod Parts
 pub mod JoinedParts
 pub mod Marked
+-- what is plain
+pub mod Plain
+pub mod PlainParts
 pub mod JoinedForms
 pub mod Literals
 pub mod BroughtValues

@@ -1,5 +1,5 @@
 -- What can be written down with embeddings can be written down without them.
-use Rattle.std.proofs.Common.{◌≡◌, ℕ, zero, suc, Bool, true, false, cond, List, [], ◌∷◌, map, filter, Option, Some, None, refl, sym, subst, inl, inr}
+use Rattle.std.proofs.Common.{◌≡◌, ℕ, zero, suc, Bool, true, false, cond, List, [], ◌∷◌, ◌++◌, map, filter, Option, Some, None, refl, sym, subst, inl, inr}
 use Rattle.std.proofs.lemmas.Bool.{both_ways, cond_both}
 use Rattle.std.specs.List.{flat_map, AllByRecursion}
 use Rattle.std.specs.Str.{bytes_eq}
@@ -9,12 +9,15 @@ use Rattle.cs_grammar.specs.Limits.{most_height}
 use Rattle.cs_grammar.specs.Tree.{Label, Tree, atom, named, reference, conjunction, disjunction, paren, struct, list, wide, marked, merged, shut, Declarations, no_declaration, declared, embedded, Trees, none, more, Fields, no_field, field, End, closed, any, each, DefinitionTree, definition, defined_name, body, FileTree, file}
 use Rattle.cs_grammar.specs.Bodies.{bodies}
 use Rattle.cs_grammar.specs.Written.{Place, by_itself, of_bar, of_amp, IsWritten, AreWritten, AreWrittenFields, AreWrittenDeclarations, IsWrittenEnd, IsWrittenLabel, AreTwo, IsWrittenDefinition, IsWrittenFile}
-use Rattle.cs_embeddings.proofs.GatheredParts.{IsWrittenBrought, IsStanding, CanStand, gathered_standing, IsDefined, CanBeDefined, gathered_defined}
+use Rattle.cs_embeddings.proofs.GatheredParts.{IsWrittenBrought, IsStanding, CanStand, gathered_standing, IsDefined, CanBeDefined, one_defined}
+use Rattle.cs_embeddings.proofs.LeftParts.{left_all}
+use Rattle.cs_embeddings.proofs.Plain.{held_written, beside_two}
 use Rattle.cs_embeddings.proofs.WellAlternatives.{all-append, all-map, all-flat_map}
 use Rattle.cs_embeddings.specs.Alternatives.{Brought, Alternative, nothing, with_declaration, with_fields, opened_if, meets, meet, at, join_declarations, join_bodies, join_operands, join_all, join_definition, alternatives, alternatives_of, most_steps}
+use Rattle.cs_embeddings.specs.Bodies.{Body, Left, as_declared, bodies_behind, left_behind, joined_body, joined_left}
 use Rattle.cs_embeddings.specs.Gathered.{gathered}
-use Rattle.cs_embeddings.specs.Held.{first_place}
-use Rattle.cs_embeddings.specs.Joined.{placed, own, fields_of_brought, literals_of, one_of, joined_with, joined_each, joined_end, joined_value, joined_definition, as_declared, as_definition, gathered_definitions, joined_file}
+use Rattle.cs_embeddings.specs.Held.{is_plain, holding, first_place}
+use Rattle.cs_embeddings.specs.Joined.{placed, own, beside, fields_of_brought, literals_of, one_of, together_of, joined_with, joined_each, joined_end, joined_value}
 use Rattle.cs_embeddings.specs.United.{unites, united}
 use Rattle.cs_embeddings.specs.Without.{all_definitions, IsJoined}
 
@@ -67,6 +70,21 @@ module _ (inner : Option ℕ → Tree → Alternative → List Alternative)
       let xs = join_bodies inner (Some o) es (a ∷ []) in
       let all = all-map HasWritten HasWritten (meet s) (λ b g. g) xs (bodies_written (Some o) es h (a ∷ []) (k, tt)) in
       cond_both (meets s a) (a ∷ []) (map (meet s) xs) HaveWritten (λ met. (k, tt)) (λ unmet. all)
+
+-- ---- operands beside one another
+
+rest_written : (q : Place) (es meant : Trees) → AreWritten q meant → AreWritten q (beside None es meant)
+rest_written q none meant h = tt
+rest_written q (more e es) none h = tt
+rest_written q (more e es) (more m meant) h =
+    cond_both (is_plain e) (more m (beside None es meant)) (beside None es meant) (AreWritten q) (λ is. (h.0, rest_written q es meant h.1)) (λ no. rest_written q es meant h.1)
+
+beside_written : (q : Place) (t : Tree) → IsWritten q t → (es meant : Trees) → AreWritten q meant → AreWritten q (beside (Some t) es meant)
+beside_written q t w none meant h = tt
+beside_written q t w (more e es) none h = tt
+beside_written q t w (more e es) (more m meant) h =
+    cond_both (is_plain e) (more m (beside (Some t) es meant)) (more t (beside None es meant)) (AreWritten q)
+    (λ is. (h.0, beside_written q t w es meant h.1)) (λ no. (w, rest_written q es meant h.1))
 
 -- ---- definitions that can be written down
 
@@ -134,6 +152,10 @@ module _ (ds : List DefinitionTree) (all : AllByRecursion IsWrittenDefinition ds
         subst (λ r. IsWritten r (disjunction (literals_of ds value o (a ∷ b ∷ xs)))) (sym (fit refl)) (tt, tt, literals_written o (a ∷ b ∷ xs) h)
     one_written q false fit o (a ∷ b ∷ xs) h = (tt, tt, literals_written o (a ∷ b ∷ xs) h)
 
+    together_written : (q : Place) (whole : Bool) → (whole ≡ true → q ≡ by_itself) → (p : Option ℕ) (r : Place) (es : Trees) → AreWritten r es
+        → IsWritten q (together_of ds value whole p es)
+    together_written q whole fit p r es h = one_written q whole fit (at p (first_place es)) (united ds p es) (united_written p r es h)
+
     two : (whole : Bool) (p : Option ℕ) (es : Trees) → AreTwo es → AreTwo (joined_each ds value whole p es)
     two whole p none h = h
     two whole p (more e none) h = h
@@ -149,10 +171,17 @@ module _ (ds : List DefinitionTree) (all : AllByRecursion IsWrittenDefinition ds
       written q whole fit p (named s o) h = h
       written q whole fit p (reference s o) h = h
       written q whole fit p (conjunction es) h =
-          let o = at p (first_place es) in
-          cond_both (unites ds es) (one_of ds value whole o (united ds p es)) (conjunction (joined_each ds value false p es)) (IsWritten q)
-          (λ t. one_written q whole fit o (united ds p es) (united_written p of_amp es h.2))
-          (λ f. (h.0, two false p es h.1, written_each of_amp false (no_whole of_amp) p es h.2))
+          let each = joined_each ds value false p es in let held = holding es in let t = together_of ds value false p held in
+          cond_both (unites ds es) (together_of ds value whole p es) (conjunction (cond (unites ds held) (beside (Some t) es each) each)) (IsWritten q)
+          (λ is. together_written q whole fit p of_amp es h.2)
+          (λ f. let kept =
+          cond_both (unites ds held) (beside (Some t) es each) each (λ ms. AreTwo ms × AreWritten of_amp ms)
+          (λ is. (
+            beside_two ds value p t es f is,
+            beside_written of_amp t (together_written of_amp false (no_whole of_amp) p of_amp held (held_written of_amp es h.2)) es each
+                (written_each of_amp false (no_whole of_amp) p es h.2),
+          ))
+          (λ no. (two false p es h.1, written_each of_amp false (no_whole of_amp) p es h.2)) in (h.0, kept.0, kept.1))
       written q whole fit p (disjunction es) h = (h.0, two false p es h.1, written_each of_bar false (no_whole of_bar) p es h.2)
       written q whole fit p (paren e) h = written by_itself true (λ t. refl) p e h
       written q whole fit p (struct o fs b) h = own_written (own p fs b) (fields_written p fs h nothing tt)
@@ -176,9 +205,10 @@ module _ (ds : List DefinitionTree) (all : AllByRecursion IsWrittenDefinition ds
   values_written zero p e h = tt
   values_written (suc n) p e (inl h) = written (joined_value ds n) (values_written n) by_itself true (λ t. refl) p e h
   values_written (suc n) p (conjunction es) (inr h) =
-      let V = joined_value ds n in let o = at p (first_place es) in
-      cond_both (unites ds es) (one_of ds V true o (united ds p es)) (conjunction (joined_each ds V false p es)) (IsWritten by_itself)
-      (λ t. one_written V (values_written n) by_itself true (λ w. refl) o (united ds p es) (united_written p by_itself es h.1))
+      let V = joined_value ds n in let each = joined_each ds V false p es in let held = holding es in
+      cond_both (unites ds es) (together_of ds V true p es)
+      (conjunction (cond (unites ds held) (beside (Some (together_of ds V false p held)) es each) each)) (IsWritten by_itself)
+      (λ t. together_written V (values_written n) by_itself true (λ w. refl) p by_itself es h.1)
       (λ f. absurd (both_ways (unites ds es) f h.0))
   values_written (suc n) p (atom a) (inr h) = absurd h
   values_written (suc n) p (named s o) (inr h) = absurd h
@@ -193,22 +223,23 @@ module _ (ds : List DefinitionTree) (all : AllByRecursion IsWrittenDefinition ds
   bodies_defined [] h = tt
   bodies_defined (definition s o e ∷ es) h = (h.0, bodies_defined es h.1)
 
-  standing_written : (bs : List Brought) → AllByRecursion (CanBeDefined ds) bs
-      → AllByRecursion IsWrittenDefinition (map (joined_definition ds) (map as_definition bs))
-  standing_written [] h = tt
-  standing_written (d ∷ bs) h = ((h.0.0, values_written (suc most_height) None d.value h.0.1), standing_written bs h.1)
+  bodies_left_written : (bs : List Body) → AllByRecursion (λ (b : Body). CanBeDefined ds b.declared) bs → AllByRecursion IsWrittenDefinition (map (joined_body ds) bs)
+  bodies_left_written [] h = tt
+  bodies_left_written (b ∷ bs) h = ((h.0.0, values_written (suc most_height) b.place b.declared.value h.0.1), bodies_left_written bs h.1)
 
-  definitions_written : (es : List DefinitionTree) → AllByRecursion IsWrittenDefinition es
-      → AllByRecursion IsWrittenDefinition (map (joined_definition ds) (gathered_definitions ds es))
-  definitions_written es h = standing_written (gathered ds (map as_declared es)) (gathered_defined ds (map as_declared es) (bodies_defined es h))
-
-  files_written : (fs : List FileTree) → AllByRecursion IsWrittenFile fs → AllByRecursion IsWrittenFile (map (joined_file ds) fs)
-  files_written [] h = tt
-  files_written (file c es ∷ fs) h = ((h.0.0, definitions_written es h.0.1), files_written fs h.1)
+  files_left_written : (before : List Brought) (fs : List FileTree) → AllByRecursion IsWrittenFile fs
+      → AllByRecursion (λ (l : Left). AllByRecursion (λ (b : Body). CanBeDefined ds b.declared) l.bodies) (left_behind ds before fs)
+      → AllByRecursion IsWrittenFile (map (joined_left ds) (left_behind ds before fs))
+  files_left_written before [] h k = tt
+  files_left_written before (file c es ∷ fs) h k =
+      ((h.0.0, bodies_left_written (bodies_behind ds (map as_declared es) before (map as_declared es)) k.0), files_left_written (before ++ map as_declared es) fs h.1 k.1)
 
 written_definitions : (fs : List FileTree) → AllByRecursion IsWrittenFile fs → AllByRecursion IsWrittenDefinition (all_definitions fs)
 written_definitions [] h = tt
 written_definitions (file c es ∷ fs) h = all-append IsWrittenDefinition es (all_definitions fs) h.0.1 (written_definitions fs h.1)
 
 pub joined_written : (fs gs : List FileTree) → AllByRecursion IsWrittenFile fs → IsJoined fs gs → AllByRecursion IsWrittenFile gs
-joined_written fs gs h j = subst (AllByRecursion IsWrittenFile) (sym j.joined) (files_written (all_definitions fs) (written_definitions fs h) fs h)
+joined_written fs gs h j =
+    let ds = all_definitions fs in let all = written_definitions fs h in
+    let left = left_all ds (IsDefined ds) (CanBeDefined ds) (λ d w. (w.0, inl w.1)) (one_defined ds) fs refl (bodies_defined ds all ds all) in
+    subst (AllByRecursion IsWrittenFile) (sym j.joined) (files_left_written ds all [] fs h left)

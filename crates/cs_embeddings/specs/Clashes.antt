@@ -3,35 +3,16 @@
 use Rattle.std.specs.Prelude.{ℕ, zero, suc, Bool, true, false, ◌&&◌, ◌||◌, not, List, [], ◌∷◌, ◌++◌, if◌then◌else◌, Option, Some, None}
 use Rattle.std.specs.List.{list_any, flat_map}
 use Rattle.std.specs.Str.{bytes_eq}
-use Rattle.cs_grammar.specs.Limits.{most_height}
 use Rattle.cs_grammar.specs.Tree.{Tree, atom, named, reference, conjunction, disjunction, paren, struct, list, wide, marked, merged, shut, Trees, none, more, End, closed, any, each, DefinitionTree}
+use Rattle.cs_resolve.specs.Refinement.{referred}
 use Rattle.cs_embeddings.specs.Alternatives.{Brought, Alternative, at, alternatives_of}
 use Rattle.cs_embeddings.specs.Gathered.{is_every, gathered}
-use Rattle.cs_embeddings.specs.Held.{holds}
+use Rattle.cs_embeddings.specs.Held.{holds, is_plain, holding}
 use Rattle.cs_embeddings.specs.Joined.{own}
 use Rattle.cs_embeddings.specs.Shut.{is_shut}
 use Rattle.cs_embeddings.specs.United.{unites, united}
 
-abbrev pub is_some_place : Option ℕ → Bool
-is_some_place None = false
-is_some_place (Some o) = true
-
-abbrev pub is_plain : Brought → Bool
-is_plain d = not (is_some_place (holds d.value))
-
--- the definition that an expression is a reference to
-abbrev pub referred : Tree → Option (List ℕ)
-referred (reference s o) = Some s
-referred (atom a) = None
-referred (named t o) = None
-referred (conjunction es) = None
-referred (disjunction es) = None
-referred (paren e) = None
-referred (struct o fs b) = None
-referred (list es end) = None
-referred (wide w) = None
-
--- both refer to one definition
+-- both refer to one definition, in parentheses or not
 abbrev pub are_same : Option (List ℕ) → Option (List ℕ) → Bool
 are_same None n = false
 are_same (Some s) None = false
@@ -51,7 +32,7 @@ differ c d = (is_every c.mark || (is_every d.mark || bytes_eq c.label.text d.lab
 -- the declarations that aren't plain
 abbrev pub held : List Brought → List Brought
 held [] = []
-held (d ∷ ds) = if is_plain d then held ds else d ∷ held ds
+held (d ∷ ds) = if is_plain d.value then held ds else d ∷ held ds
 
 -- where it is, or the place of the reference that brought it
 abbrev pub place_in : Option ℕ → Option ℕ → List ℕ
@@ -76,12 +57,17 @@ module _ (ds : List DefinitionTree) (value : Option ℕ → Tree → List ℕ) w
   abbrev pub clashes_of : Bool → Alternative → List ℕ
   clashes_of embeds a = clashes_if embeds a ++ flat_map (λ d. value d.place d.value) (gathered ds a.declarations)
 
+  -- those of operands that are put together
+  abbrev pub clashes_together : Option ℕ → Trees → List ℕ
+  clashes_together p es = flat_map (clashes_of false) (united ds p es)
+
   abbrev mutual
     pub clashes_with : Option ℕ → Tree → List ℕ
     clashes_with p (atom a) = []
     clashes_with p (named s o) = []
     clashes_with p (reference s o) = []
-    clashes_with p (conjunction es) = if unites ds es then flat_map (clashes_of false) (united ds p es) else clashes_each p es
+    clashes_with p (conjunction es) = if unites ds es then clashes_together p es else
+        (let held = holding es in if unites ds held then clashes_together p held else clashes_each p es)
     clashes_with p (disjunction es) = clashes_each p es
     clashes_with p (paren e) = clashes_with p e
     clashes_with p (struct o fs b) = clashes_of false (own p fs b)
@@ -103,7 +89,3 @@ module _ (ds : List DefinitionTree) (value : Option ℕ → Tree → List ℕ) w
 unfoldable pub clashes_value : List DefinitionTree → ℕ → Option ℕ → Tree → List ℕ
 clashes_value ds zero p e = []
 clashes_value ds (suc n) p e = clashes_with ds (clashes_value ds n) p e
-
--- those of a body, as they are met where it is joined
-abbrev pub clashes : List DefinitionTree → Tree → List ℕ
-clashes ds e = clashes_value ds (suc most_height) None e

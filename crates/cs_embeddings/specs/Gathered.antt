@@ -1,13 +1,14 @@
 -- Which declarations of a literal are put together (CUE, structs: what is declared several times has all its values; where it is done is an own
--- rule): those of one label whose values `&` would put together. One is left of them, at the place of the first.
-use Rattle.std.specs.Prelude.{ℕ, Bool, true, false, ◌&&◌, not, List, [], ◌∷◌, ◌++◌, length, filter, nat_le, if◌then◌else◌, Option, None}
+-- rule): those of one label whose values `&` would put together, but for the plain ones, which stay. One is left of the others, at the place of the
+-- first.
+use Rattle.std.specs.Prelude.{ℕ, Bool, true, false, ◌&&◌, ◌||◌, not, List, [], ◌∷◌, ◌++◌, length, filter, nat_le, if◌then◌else◌, Option, None}
 use Rattle.std.specs.List.{list_all, list_any}
 use Rattle.std.specs.Str.{bytes_eq}
 use Rattle.cs_grammar.specs.declared.ast.FieldMark.{FieldMark}
 use Rattle.cs_grammar.specs.declared.ast.FieldMark.TheVariants.{Regular, Optional, Required, Every}
 use Rattle.cs_grammar.specs.Tree.{Trees, none, more, conjunction, DefinitionTree}
 use Rattle.cs_embeddings.specs.Alternatives.{Brought}
-use Rattle.cs_embeddings.specs.Held.{or_else}
+use Rattle.cs_embeddings.specs.Held.{or_else, is_plain}
 use Rattle.cs_embeddings.specs.United.{unites}
 
 abbrev pub is_every : FieldMark → Bool
@@ -16,9 +17,13 @@ is_every Optional = false
 is_every Required = false
 is_every (Every o) = true
 
--- a declaration of the label; `[string]` is none
+-- `[string]`, and a declaration with a plain value, is put together with no other
+abbrev pub stays_alone : Brought → Bool
+stays_alone d = is_every d.mark || is_plain d.value
+
+-- one of the label that may be
 abbrev pub is_of : List ℕ → Brought → Bool
-is_of s d = not (is_every d.mark) && bytes_eq d.label.text s
+is_of s d = not (stays_alone d) && bytes_eq d.label.text s
 
 abbrev pub those_of : List ℕ → List Brought → List Brought
 those_of s bs = filter (is_of s) bs
@@ -31,13 +36,13 @@ values_of (d ∷ bs) = more d.value (values_of bs)
 abbrev pub most_gathered : ℕ
 most_gathered = 64
 
--- whether all declarations of a label are put together
+-- whether all these declarations of a label are put together
 abbrev pub gathers : List DefinitionTree → List Brought → Bool
 gathers ds bs = nat_le (length bs) most_gathered && unites ds (values_of bs)
 
 -- the declaration is one of those
 abbrev pub is_gathered : List DefinitionTree → List Brought → Brought → Bool
-is_gathered ds all d = not (is_every d.mark) && gathers ds (those_of d.label.text all)
+is_gathered ds all d = not (stays_alone d) && gathers ds (those_of d.label.text all)
 
 -- optional where all are, or else as the first that isn't
 abbrev pub mark_or : FieldMark → FieldMark → FieldMark

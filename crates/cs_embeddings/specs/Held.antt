@@ -1,5 +1,5 @@
--- Where the first struct literal or reference of an expression is.
-use Rattle.std.specs.Prelude.{ℕ, Option, Some, None, unwrap_or}
+-- Where the first struct literal or reference of an expression is, and which expressions are plain.
+use Rattle.std.specs.Prelude.{ℕ, Bool, not, if◌then◌else◌, Option, Some, None, is_some, unwrap_or}
 use Rattle.cs_grammar.specs.Tree.{Tree, atom, named, reference, conjunction, disjunction, paren, struct, list, wide, marked, merged, shut, Trees, none, more, End, closed, any, each}
 
 -- where the first struct literal or reference of an expression is, at any depth; a value without one is plain
@@ -29,6 +29,15 @@ abbrev mutual
   end_holds closed = None
   end_holds any = None
   end_holds (each e) = holds e
+
+-- nothing in it is a struct literal or a reference
+abbrev pub is_plain : Tree → Bool
+is_plain e = not (is_some (holds e))
+
+-- the operands that aren't plain
+abbrev pub holding : Trees → Trees
+holding none = none
+holding (more e es) = if is_plain e then holding es else more e (holding es)
 
 -- where the literal stands that operands are put together to
 abbrev pub first_place : Trees → ℕ

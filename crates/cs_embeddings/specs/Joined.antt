@@ -1,14 +1,13 @@
 -- What an expression stands for without embeddings: each literal with embeddings for the disjunction of its alternatives, or for its only one, and
--- so operands of `&` that are put together, where the declarations of one label may be put together in the same way. What a reference brought has
--- the place of that reference.
-use Rattle.std.specs.Prelude.{ℕ, zero, suc, Bool, true, false, List, [], ◌∷◌, map, if◌then◌else◌, Option, Some, None, unwrap_or}
+-- so operands of `&` that are put together, beside those that are plain, where the declarations of one label may be put together in the same way. What
+-- a reference brought has the place of that reference.
+use Rattle.std.specs.Prelude.{ℕ, zero, suc, Bool, true, false, List, [], ◌∷◌, if◌then◌else◌, Option, Some, None}
 use Rattle.cs_grammar.specs.declared.ast.FieldMark.{FieldMark}
 use Rattle.cs_grammar.specs.declared.ast.FieldMark.TheVariants.{Regular, Optional, Required, Every}
-use Rattle.cs_grammar.specs.Limits.{most_height}
-use Rattle.cs_grammar.specs.Tree.{Tree, atom, bottom, named, reference, conjunction, disjunction, paren, struct, list, wide, marked, merged, shut, Trees, none, more, Fields, no_field, field, End, closed, any, each, DefinitionTree, definition, FileTree, file, package_name, definitions}
+use Rattle.cs_grammar.specs.Tree.{Tree, atom, bottom, named, reference, conjunction, disjunction, paren, struct, list, wide, marked, merged, shut, Trees, none, more, Fields, no_field, field, End, closed, any, each, DefinitionTree}
 use Rattle.cs_embeddings.specs.Alternatives.{Brought, Alternative, nothing, with_fields, opened_if, at, alternatives_of}
 use Rattle.cs_embeddings.specs.Gathered.{gathered}
-use Rattle.cs_embeddings.specs.Held.{first_place}
+use Rattle.cs_embeddings.specs.Held.{is_plain, holding, first_place}
 use Rattle.cs_embeddings.specs.United.{unites, united}
 
 abbrev pub placed : Option ℕ → FieldMark → FieldMark
@@ -25,6 +24,16 @@ parted false es = paren (disjunction es)
 -- a literal without embeddings, as an alternative
 abbrev pub own : Option ℕ → Fields → Bool → Alternative
 own p fs b = opened_if b (with_fields p fs nothing)
+
+abbrev pub put : Option Tree → Trees → Trees
+put None es = es
+put (Some t) es = more t es
+
+-- of operands that are plain, each stands for its own, and t for the others, where the first of them is
+abbrev pub beside : Option Tree → Trees → Trees → Trees
+beside t none meant = none
+beside t (more e es) none = none
+beside t (more e es) (more m meant) = if is_plain e then more m (beside t es meant) else put t (beside None es meant)
 
 -- `value p e`: what the value e of a declaration stands for, which a reference at p brought
 module _ (ds : List DefinitionTree) (value : Option ℕ → Tree → Tree) where
@@ -45,13 +54,17 @@ module _ (ds : List DefinitionTree) (value : Option ℕ → Tree → Tree) where
   one_of whole o (a ∷ []) = literal_of o a
   one_of whole o (a ∷ b ∷ xs) = parted whole (literals_of o (a ∷ b ∷ xs))
 
+  -- what operands that are put together stand for
+  abbrev pub together_of : Bool → Option ℕ → Trees → Tree
+  together_of whole p es = one_of whole (at p (first_place es)) (united ds p es)
+
   abbrev mutual
     pub joined_with : Bool → Option ℕ → Tree → Tree
     joined_with whole p (atom a) = atom a
     joined_with whole p (named s o) = named s (at p o)
     joined_with whole p (reference s o) = reference s (at p o)
-    joined_with whole p (conjunction es) = if unites ds es then one_of whole (at p (first_place es)) (united ds p es)
-        else conjunction (joined_each false p es)
+    joined_with whole p (conjunction es) = if unites ds es then together_of whole p es else conjunction
+        (let meant = joined_each false p es in let held = holding es in if unites ds held then beside (Some (together_of false p held)) es meant else meant)
     joined_with whole p (disjunction es) = disjunction (joined_each false p es)
     joined_with whole p (paren e) = paren (joined_with true p e)
     joined_with whole p (struct o fs b) = literal_of (at p o) (own p fs b)
@@ -74,27 +87,3 @@ module _ (ds : List DefinitionTree) (value : Option ℕ → Tree → Tree) where
 unfoldable pub joined_value : List DefinitionTree → ℕ → Option ℕ → Tree → Tree
 joined_value ds zero p e = atom bottom
 joined_value ds (suc n) p e = joined_with ds (joined_value ds n) true p e
-
--- a body; one that has more literals inside one another is too high
-abbrev pub joined : List DefinitionTree → Tree → Tree
-joined ds e = joined_value ds (suc most_height) None e
-
-abbrev pub joined_definition : List DefinitionTree → DefinitionTree → DefinitionTree
-joined_definition ds (definition s o e) = definition s o (joined ds e)
-
--- a definition as a declaration of its name, where it is, and such a declaration as a definition
-abbrev pub as_declared : DefinitionTree → Brought
-as_declared (definition s o e) = record { label = record { text = s; quotes = false }; mark = Regular; value = e; place = Some o }
-
-abbrev pub as_definition : Brought → DefinitionTree
-as_definition d = definition d.label.text (unwrap_or d.place 0) d.value
-
--- the definitions of a file, the bodies of one put together as the values of a label are
-abbrev pub gathered_definitions : List DefinitionTree → List DefinitionTree → List DefinitionTree
-gathered_definitions ds es = map as_definition (gathered ds (map as_declared es))
-
-abbrev pub gathered_file : List DefinitionTree → FileTree → FileTree
-gathered_file ds f = file (package_name f) (gathered_definitions ds (definitions f))
-
-abbrev pub joined_file : List DefinitionTree → FileTree → FileTree
-joined_file ds f = file (package_name f) (map (joined_definition ds) (gathered_definitions ds (definitions f)))

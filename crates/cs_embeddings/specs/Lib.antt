@@ -8,6 +8,7 @@ pub mod United
 pub mod Gathered
 pub mod Joined
 pub mod Clashes
+pub mod Bodies
 pub mod Flaws
 pub mod Size
 pub mod Without
@@ -17,3 +18,4 @@ pub mod Checks
 pub mod Made
 pub mod ClashTable
 pub mod GatheredTable
+pub mod Standing

@@ -8,15 +8,15 @@ use Rattle.cs_grammar.specs.declared.ast.Expr.{Expr}
 use Rattle.cs_grammar.specs.declared.ast.File.{File}
 use Rattle.cs_grammar.specs.Height.{height, height_definitions, file_height}
 use Rattle.cs_grammar.specs.Limits.{most_height, most_nodes}
-use Rattle.cs_grammar.specs.Tree.{Tree, wide, marked, DefinitionTree, body, FileTree}
+use Rattle.cs_grammar.specs.Tree.{Tree, wide, marked, DefinitionTree, FileTree}
 use Rattle.cs_grammar.specs.View.{expr_view, definition_view, file_view, Seen}
 use Rattle.cs_embeddings.specs.Alternatives.{Brought, Alternative, at, most_steps}
-use Rattle.cs_embeddings.specs.Clashes.{clashes}
+use Rattle.cs_embeddings.specs.Bodies.{Body, Left, joined_body, joined_left, body_clashes}
 use Rattle.cs_embeddings.specs.Embedded.{can_be_embedded, embeds_well}
 use Rattle.cs_embeddings.specs.Flaws.{Flaw, unknown, no_struct}
-use Rattle.cs_embeddings.specs.Joined.{placed, joined_definition, gathered_file, joined_file}
+use Rattle.cs_embeddings.specs.Joined.{placed}
 use Rattle.cs_embeddings.specs.Size.{size, size_of_definitions, size_of_files}
-use Rattle.cs_embeddings.specs.Without.{found_from, IsWithin}
+use Rattle.cs_embeddings.specs.Without.{clashes_from, IsWithin}
 use Rattle.cs_embeddings.specs.declared.fault.EmbeddingFault.{EmbeddingFault}
 use Rattle.cs_embeddings.specs.declared.fault.EmbeddingFault.TheVariants.{OutOfMemory, UnknownName, NoStruct, Reopened, TooHigh, TooLarge}
 use Rattle.cs_embeddings.specs.declared.joined.Room.{Room}
@@ -112,32 +112,35 @@ abbrev pub FindsFlaw : {Y : Type 0} → Result Y EmbeddingFault → List (ℕ ×
 FindsFlaw (Ok y) found = found ≡ []
 FindsFlaw (Err e) found = IsFlaw e found
 
--- what these bodies embed can be embedded
-abbrev pub AreBodiesWell : List DefinitionTree → List DefinitionTree → Type 0
-AreBodiesWell ds es = AllByRecursion (λ d. embeds_well (can_be_embedded ds most_steps) (body d) ≡ true) es
+-- what a body embeds can be embedded
+abbrev pub IsBodyWell : List DefinitionTree → Body → Type 0
+IsBodyWell ds b = embeds_well (can_be_embedded ds most_steps) b.declared.value ≡ true
 
--- definitions are made of those with these bodies, as they are meant, or there is a reason
-abbrev pub MakesDefinitions : Result (Vec Definition Global) EmbeddingFault → ℕ → ℕ → ℕ → List DefinitionTree → List DefinitionTree → Type 0
-MakesDefinitions result file nodes rest ds es =
-    let meant = map (joined_definition ds) es in
+abbrev pub AreLeftWell : List DefinitionTree → Left → Type 0
+AreLeftWell ds l = AllByRecursion (IsBodyWell ds) l.bodies
+
+-- definitions are made of those that are left, as they are meant, or there is a reason
+abbrev pub MakesDefinitions : Result (Vec Definition Global) EmbeddingFault → ℕ → ℕ → ℕ → List DefinitionTree → List Body → Type 0
+MakesDefinitions result file nodes rest ds bs =
+    let meant = map (joined_body ds) bs in
     MakesPart (λ v. map definition_view v.items) result file most_height nodes rest (height_definitions meant) (size_of_definitions meant) meant
-    (flat_map (λ d. clashes ds (body d)) es)
+    (flat_map (body_clashes ds) bs)
 
--- why files aren't made
-abbrev pub IsNoRoomForFiles : EmbeddingFault → List DefinitionTree → List FileTree → Type 0
-IsNoRoomForFiles OutOfMemory ds fs = Unit {0}
-IsNoRoomForFiles (Reopened i o) ds fs = slice_get (found_from (clashes ds) 0 (map (gathered_file ds) fs)) 0 ≡ Some (i, o)
-IsNoRoomForFiles (TooHigh i) ds fs = (f : FileTree) × (slice_get (map (joined_file ds) fs) i ≡ Some f) × (most_height < file_height f)
-IsNoRoomForFiles TooLarge ds fs = most_nodes < size_of_files (map (joined_file ds) fs)
-IsNoRoomForFiles (UnknownName i o) ds fs = ⊥
-IsNoRoomForFiles (NoStruct i o) ds fs = ⊥
+-- why files aren't made of those with what is left in them
+abbrev pub IsNoRoomForFiles : EmbeddingFault → List DefinitionTree → List Left → Type 0
+IsNoRoomForFiles OutOfMemory ds ls = Unit {0}
+IsNoRoomForFiles (Reopened i o) ds ls = slice_get (clashes_from ds 0 ls) 0 ≡ Some (i, o)
+IsNoRoomForFiles (TooHigh i) ds ls = (f : FileTree) × (slice_get (map (joined_left ds) ls) i ≡ Some f) × (most_height < file_height f)
+IsNoRoomForFiles TooLarge ds ls = most_nodes < size_of_files (map (joined_left ds) ls)
+IsNoRoomForFiles (UnknownName i o) ds ls = ⊥
+IsNoRoomForFiles (NoStruct i o) ds ls = ⊥
 
 -- files are made as they are meant, within the limits, and nothing would be opened
-pub record AreFilesMade (ds : List DefinitionTree) (fs gs : List FileTree) : Type 0 where
-  pub made : gs ≡ map (joined_file ds) fs
+pub record AreFilesMade (ds : List DefinitionTree) (ls : List Left) (gs : List FileTree) : Type 0 where
+  pub made : gs ≡ map (joined_left ds) ls
   pub within : IsWithin gs
-  pub apart : found_from (clashes ds) 0 (map (gathered_file ds) fs) ≡ []
+  pub apart : clashes_from ds 0 ls ≡ []
 
-abbrev pub MakesFiles : Result (Vec File Global) EmbeddingFault → List DefinitionTree → List FileTree → Type 0
-MakesFiles (Ok v) ds fs = AreFilesMade ds fs (map file_view v.items)
-MakesFiles (Err e) ds fs = IsNoRoomForFiles e ds fs
+abbrev pub MakesFiles : Result (Vec File Global) EmbeddingFault → List DefinitionTree → List Left → Type 0
+MakesFiles (Ok v) ds ls = AreFilesMade ds ls (map file_view v.items)
+MakesFiles (Err e) ds ls = IsNoRoomForFiles e ds ls

@@ -4,9 +4,8 @@ use Rattle.std.specs.List.{flat_map}
 use Rattle.cs_grammar.specs.Height.{file_height, height_definitions}
 use Rattle.cs_grammar.specs.Limits.{most_height, most_nodes}
 use Rattle.cs_grammar.specs.Tree.{Tree, body, DefinitionTree, FileTree, definitions}
-use Rattle.cs_embeddings.specs.Clashes.{clashes}
+use Rattle.cs_embeddings.specs.Bodies.{Left, left_in, joined_left, body_clashes}
 use Rattle.cs_embeddings.specs.Flaws.{Flaw, unknown, no_struct, flaws}
-use Rattle.cs_embeddings.specs.Joined.{gathered_file, joined_file}
 use Rattle.cs_embeddings.specs.Size.{size_of_files}
 use Rattle.cs_embeddings.specs.declared.fault.EmbeddingFault.{EmbeddingFault}
 use Rattle.cs_embeddings.specs.declared.fault.EmbeddingFault.TheVariants.{OutOfMemory, UnknownName, NoStruct, Reopened, TooHigh, TooLarge}
@@ -22,11 +21,16 @@ all_definitions fs = flat_map definitions fs
 abbrev pub flaws_of_files : List FileTree → List (ℕ × Flaw)
 flaws_of_files fs = found_from (flaws (all_definitions fs)) 0 fs
 
+-- what would be opened in files, which count from i
+abbrev pub clashes_from : List DefinitionTree → ℕ → List Left → List (ℕ × ℕ)
+clashes_from ds i [] = []
+clashes_from ds i (l ∷ ls) = map (λ o. (i, o)) (flat_map (body_clashes ds) l.bodies) ++ clashes_from ds (suc i) ls
+
 abbrev pub clashes_of_files : List FileTree → List (ℕ × ℕ)
-clashes_of_files fs = found_from (clashes (all_definitions fs)) 0 (map (gathered_file (all_definitions fs)) fs)
+clashes_of_files fs = clashes_from (all_definitions fs) 0 (left_in fs)
 
 abbrev pub joined_files : List FileTree → List FileTree
-joined_files fs = map (joined_file (all_definitions fs)) fs
+joined_files fs = map (joined_left (all_definitions fs)) (left_in fs)
 
 -- nothing is at fault, and the files gs are what the files fs stand for
 pub record IsJoined (fs gs : List FileTree) : Type 0 where

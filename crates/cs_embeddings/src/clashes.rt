@@ -1,7 +1,9 @@
 // What an embedding would open.
 ghost use Rattle.std.specs.Prelude.{◌≡◌, false, List, [], ◌∷◌, ◌++◌, map, IfOk, OnOk, slice_get};
 ghost use Rattle.std.specs.List.{list_any};
+ghost use Rattle.std.specs.Option.{option_map};
 ghost use Rattle.cs_grammar.specs.View.{expr_view};
+ghost use Rattle.cs_resolve.specs.Refinement.{referred};
 ghost use Rattle.cs_embeddings.specs.Alternatives as Alternatives;
 ghost use Rattle.cs_embeddings.specs.ClashTable.{TellsSeen, TellsValues, is_apart};
 ghost use Rattle.cs_embeddings.specs.Views.{brought_view};
@@ -15,13 +17,25 @@ use cs_grammar::{Expr, FieldMark};
 use std::alloc::{AllocError, Global};
 use std::collections::BTreeMap;
 
+/// The name of the definition that an expression refers to, in parentheses or not.
+fn referred(expr: &Expr) -> Option<&str>
+    ensures { option_map (λ n. n.now) result ≡ referred (expr_view expr.now) }
+{
+    match expr {
+        Expr::Reference { text, .. } => Some(text.as_str()),
+        Expr::Paren(inside) => referred(inside),
+        // The others are no references.
+        _ => None,
+    }
+}
+
 /// Whether both refer to one definition.
 fn is_same_reference(first: &Expr, second: &Expr) -> bool
     ensures { result ≡ Spec.is_same_reference (expr_view first.now) (expr_view second.now) }
 {
-    match (first, second) {
-        (Expr::Reference { text, .. }, Expr::Reference { text: other, .. }) => text == other,
-        _ => false,
+    match (referred(first), referred(second)) {
+        (Some(name), Some(other)) => name == other,
+        (Some(_) | None, _) => false,
     }
 }
 

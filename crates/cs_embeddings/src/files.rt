@@ -5,14 +5,11 @@ ghost use Rattle.cs_grammar.specs.Height.{height, file_height};
 ghost use Rattle.cs_grammar.specs.Limits.{most_height};
 ghost use Rattle.cs_grammar.specs.Tree.{DefinitionTree, body, definitions};
 ghost use Rattle.cs_grammar.specs.View.{definition_view, file_view};
-ghost use Rattle.cs_embeddings.specs.Alternatives.{most_steps};
 ghost use Rattle.cs_embeddings.specs.Checks.{TellsTables, TellsEmbeddable, AreWell, Finds, flaw_view};
-ghost use Rattle.cs_embeddings.specs.Clashes.{clashes};
-ghost use Rattle.cs_embeddings.specs.Embedded.{can_be_embedded, embeds_well};
+ghost use Rattle.cs_embeddings.specs.Bodies.{joined_body, joined_left, body_clashes};
 ghost use Rattle.cs_embeddings.specs.Flaws as Spec;
-ghost use Rattle.cs_embeddings.specs.GatheredTable.{IsSound, gathered_view};
-ghost use Rattle.cs_embeddings.specs.Joined as Joined;
-ghost use Rattle.cs_embeddings.specs.Made.{AreBodiesWell, FindsFlaw, MakesPart, MakesDefinitions, MakesFiles};
+ghost use Rattle.cs_embeddings.specs.GatheredTable.{AreSound, IsSound, body_view, left_view};
+ghost use Rattle.cs_embeddings.specs.Made.{AreLeftWell, IsBodyWell, FindsFlaw, MakesPart, MakesDefinitions, MakesFiles};
 ghost use Rattle.cs_embeddings.specs.Size.{size, size_of_definitions};
 ghost use Rattle.cs_embeddings.specs.Without.{IsJoined, IsWithin, IsRefusal, found_from, flaws_of_files, clashes_of_files, joined_files};
 
@@ -20,8 +17,8 @@ use crate::EmbeddingFault;
 use crate::definitions::Bodies;
 use crate::embedded::Embeddable;
 use crate::flaws::{Flaw, Flaws};
-use crate::gathered::{Gathered, declared_definitions, gather};
 use crate::joined::{Joiner, Room};
+use crate::kept::{Kept, KeptFile, kept_files};
 use cs_grammar::{Definition, File};
 use std::alloc::Global;
 
@@ -32,8 +29,8 @@ const MOST_HEIGHT: usize = 28;
 const MOST_NODES: usize = 50_000;
 
 /// The files that files of the wide profile stand for, each at its place: each struct literal with embeddings is the disjunction of what it
-/// can be, or the only one (CUE, structs: embedding), and so are the bodies of a definition in one file that are put together. Marks of
-/// defaults stay.
+/// can be, or the only one (CUE, structs: embedding), and so are the bodies of a definition that are put together, where the first of
+/// them is. Marks of defaults stay.
 ///
 /// # Errors
 /// `UnknownName` or `NoStruct` with the first embedding at fault, by file and then by text. Where there is none: `Reopened` with the first
@@ -53,7 +50,8 @@ pub fn without_embeddings(alloc: Global, files: &[File]) -> Result<Vec<File>, Em
         embeddable: &embeddable,
     };
     check_files(&flaws, files)?;
-    joined_files(alloc, &embeddable, files)
+    let kept = kept_files(alloc, &embeddable, files)?;
+    joined_files(alloc, &embeddable, &kept)
 }
 
 /// Looks for the first flaw.
@@ -86,24 +84,24 @@ fn check_bodies(flaws: &Flaws<'_, '_, '_>, definitions: &[Definition]) -> Result
     Ok(())
 }
 
-/// The files that are meant.
+/// The files that are meant by what is left in each.
 fn joined_files<'a>(
     alloc: Global,
     embeddable: &Embeddable<'_, 'a>,
-    files: &'a [File],
+    files: &[KeptFile<'a>],
 ) -> Result<Vec<File>, EmbeddingFault>
-    ensures { (ds : List DefinitionTree) → TellsTables embeddable.now ds → AreWell ds
-        → AllByRecursion (λ f. AreBodiesWell ds (definitions f)) (map file_view files.now) → MakesFiles result ds (map file_view files.now) }
+    ensures { (ds : List DefinitionTree) → TellsTables embeddable.now ds → AreWell ds → AllByRecursion (AreSound ds) files.now
+        → AllByRecursion (AreLeftWell ds) (map left_view files.now) → MakesFiles result ds (map left_view files.now) }
 {
     let mut joined = Vec::with_capacity(alloc, files.len())?;
     let mut nodes = MOST_NODES;
-    for (file, parsed) in files.iter().enumerate() {
+    for (file, kept) in files.iter().enumerate() {
         let joiner = Joiner {
             alloc,
             embeddable,
             file,
         };
-        joined.push(joined_file(joiner, parsed, &mut nodes)?)?;
+        joined.push(joined_file(joiner, kept, &mut nodes)?)?;
     }
     Ok(joined)
 }
@@ -111,16 +109,16 @@ fn joined_files<'a>(
 /// The file that is meant. `nodes` counts those that are left of what there may be.
 fn joined_file<'a>(
     joiner: Joiner<'_, 'a>,
-    file: &'a File,
+    file: &KeptFile<'a>,
     nodes: &mut usize,
 ) -> Result<File, EmbeddingFault>
-    ensures { (ds : List DefinitionTree) → TellsTables joiner.entry.embeddable.now ds → AreWell ds → AreBodiesWell ds (definitions (file_view file.now))
-        → let meant = Joined.joined_file ds (file_view file.now) in
+    ensures { (ds : List DefinitionTree) → TellsTables joiner.entry.embeddable.now ds → AreWell ds → AreSound ds file.now → AreLeftWell ds (left_view file.now)
+        → let meant = joined_left ds (left_view file.now) in
         MakesPart file_view result joiner.entry.file most_height nodes.old nodes.new (file_height meant) (size_of_definitions (definitions meant)) meant
-        (flat_map (λ d. clashes ds (body d)) (definitions (Joined.gathered_file ds (file_view file.now)))) }
+        (flat_map (body_clashes ds) (left_view file.now).bodies) }
 {
-    let definitions = joined_definitions(joiner, &file.definitions, nodes)?;
-    let package = match &file.package {
+    let definitions = joined_definitions(joiner, &file.bodies, nodes)?;
+    let package = match file.package {
         Some(name) => Some(name.clone()?),
         None => None,
     };
@@ -130,21 +128,19 @@ fn joined_file<'a>(
     })
 }
 
-/// The definitions that are meant: one for those of a name whose bodies are put together.
+/// The definitions that are meant.
 fn joined_definitions<'a>(
     joiner: Joiner<'_, 'a>,
-    definitions: &'a [Definition],
+    bodies: &[Kept<'a>],
     nodes: &mut usize,
 ) -> Result<Vec<Definition>, EmbeddingFault>
-    ensures { (ds : List DefinitionTree) → TellsTables joiner.entry.embeddable.now ds → AreWell ds
-        → AreBodiesWell ds (map definition_view definitions.now)
-        → MakesDefinitions result joiner.entry.file nodes.old nodes.new ds (Joined.gathered_definitions ds (map definition_view definitions.now)) }
+    ensures { (ds : List DefinitionTree) → TellsTables joiner.entry.embeddable.now ds → AreWell ds → AllByRecursion (λ k. IsSound ds k.standing) bodies.now
+        → AllByRecursion (IsBodyWell ds) (map body_view bodies.now)
+        → MakesDefinitions result joiner.entry.file nodes.old nodes.new ds (map body_view bodies.now) }
 {
-    let declared = declared_definitions(joiner.alloc, definitions)?;
-    let standing = gather(joiner.alloc, joiner.embeddable, &declared)?;
-    let mut joined = Vec::with_capacity(joiner.alloc, standing.len())?;
-    for definition in &standing {
-        joined.push(joined_definition(joiner, definition, nodes)?)?;
+    let mut joined = Vec::with_capacity(joiner.alloc, bodies.len())?;
+    for body in bodies {
+        joined.push(joined_definition(joiner, body, nodes)?)?;
     }
     Ok(joined)
 }
@@ -152,22 +148,22 @@ fn joined_definitions<'a>(
 /// The definition that is meant.
 fn joined_definition<'a>(
     joiner: Joiner<'_, 'a>,
-    definition: &Gathered<'a>,
+    kept: &Kept<'a>,
     nodes: &mut usize,
 ) -> Result<Definition, EmbeddingFault>
-    ensures { (ds : List DefinitionTree) → TellsTables joiner.entry.embeddable.now ds → AreWell ds → IsSound ds definition.now
-        → let d = gathered_view definition.now in embeds_well (can_be_embedded ds most_steps) d.value ≡ true
-        → let meant = Joined.joined ds d.value in
-        MakesPart definition_view result joiner.entry.file most_height nodes.old nodes.new (height meant) (size meant)
-        (Joined.joined_definition ds (Joined.as_definition d)) (clashes ds d.value) }
+    ensures { (ds : List DefinitionTree) → TellsTables joiner.entry.embeddable.now ds → AreWell ds → IsSound ds kept.now.standing
+        → IsBodyWell ds (body_view kept.now) → let meant = joined_body ds (body_view kept.now) in
+        MakesPart definition_view result joiner.entry.file most_height nodes.old nodes.new (height (body meant)) (size (body meant)) meant
+        (body_clashes ds (body_view kept.now)) }
 {
     let room = Room {
-        place: None,
+        place: kept.place,
         is_whole: true,
         levels: MOST_HEIGHT,
     };
-    let body = joiner.joined_standing(definition, room, nodes)?;
-    let name = String::from_str(joiner.alloc, definition.label())?;
-    let at = definition.place().unwrap_or(0);
+    let standing = &kept.standing;
+    let body = joiner.joined_standing(standing, room, nodes)?;
+    let name = String::from_str(joiner.alloc, standing.label())?;
+    let at = standing.place().unwrap_or(0);
     Ok(Definition { name, at, body })
 }

@@ -1,5 +1,5 @@
 // Declarations of one label that are put together.
-ghost use Rattle.std.specs.Prelude.{◌≡◌, ℕ, false, List, [], ◌∷◌, ◌++◌, map, IfOk, OnOk};
+ghost use Rattle.std.specs.Prelude.{◌≡◌, ℕ, false, List, [], ◌∷◌, ◌++◌, map, length, Some, IfOk, OnOk};
 ghost use Rattle.std.specs.List.{AllByRecursion};
 ghost use Rattle.cs_grammar.specs.Tree.{DefinitionTree};
 ghost use Rattle.cs_grammar.specs.View.{definition_view};
@@ -8,11 +8,12 @@ ghost use Rattle.cs_embeddings.specs.Checks.{TellsTables};
 ghost use Rattle.cs_embeddings.specs.GatheredTable.{IsTogether, TellsLabel, TellsLabels, Stands, MeetsLabel, IsSound, declared_view, gathered_view};
 ghost use Rattle.cs_embeddings.specs.Views.{brought_view};
 ghost use Rattle.cs_embeddings.specs.Gathered as Spec;
-ghost use Rattle.cs_embeddings.specs.Joined.{as_declared};
+ghost use Rattle.cs_embeddings.specs.Bodies.{as_declared};
 
 use crate::alternatives::Brought;
 use crate::clashes::is_every;
 use crate::embedded::Embeddable;
+use crate::held::is_plain;
 use cs_grammar::{Definition, Expr, FieldMark};
 use std::alloc::{AllocError, Global};
 use std::collections::BTreeMap;
@@ -55,7 +56,14 @@ impl<'a> Declared<'a> {
         }
     }
 
-    fn of_definition(definition: &'a Definition) -> Declared<'a>
+    /// Whether it is put together with no other: it is `[string]`, or its value is plain.
+    fn stays_alone(self) -> bool
+        ensures { result ≡ Spec.stays_alone (declared_view self.entry) }
+    {
+        is_every(self.mark) || is_plain(self.value)
+    }
+
+    pub(crate) fn of_definition(definition: &'a Definition) -> Declared<'a>
         ensures { declared_view result ≡ as_declared (definition_view definition.now) }
     {
         Declared {
@@ -82,21 +90,7 @@ pub(crate) fn declared_of<'a>(
     Ok(all)
 }
 
-/// Definitions, as declarations of their names.
-pub(crate) fn declared_definitions(
-    alloc: Global,
-    definitions: &[Definition],
-) -> Result<Vec<Declared<'_>>, AllocError>
-    ensures { IfOk result (λ v. map declared_view v.items ≡ map as_declared (map definition_view definitions.now)) }
-{
-    let mut all = Vec::with_capacity(alloc, definitions.len())?;
-    for definition in definitions {
-        all.push(Declared::of_definition(definition))?;
-    }
-    Ok(all)
-}
-
-/// All declarations of a label.
+/// All declarations of a label that may be put together.
 #[derive(Drop)]
 pub(crate) struct Together<'a> {
     pub(crate) label: &'a str,
@@ -190,7 +184,7 @@ impl<'a> Gathered<'a> {
     }
 }
 
-/// What is known of a label: all its declarations, or, once one of them was met, whether they are put together.
+/// What is known of a label: all its declarations that may be put together, or, once one of them was met, whether they are put together.
 #[derive(Drop)]
 enum Label<'a> {
     Unmet(Together<'a>),
@@ -209,13 +203,24 @@ impl<'a> Label<'a> {
         }
     }
 
+    /// How many declarations are known, where none was met.
+    fn count(&self) -> usize
+        ensures { (ds : List DefinitionTree) (s : List ℕ) (all : List Alternatives.Brought) → TellsLabel (Some self.now) ds s all []
+            → result ≡ length (Spec.those_of s all) }
+    {
+        match self {
+            Label::Unmet(together) => together.values.len(),
+            Label::Met { .. } => 0,
+        }
+    }
+
     /// Whether the declarations of its label are put together, and what stands for a declaration where that is known of the label.
     fn standing(
         known: Option<Label<'a>>,
         embeddable: &Embeddable<'_, 'a>,
         declared: Declared<'a>,
     ) -> (bool, Option<Gathered<'a>>)
-        requires { Spec.is_every declared.mark ≡ false }
+        requires { Spec.stays_alone (declared_view declared) ≡ false }
         ensures { (ds : List DefinitionTree) (all before : List Alternatives.Brought) → TellsTables embeddable.now ds
             → TellsLabel known.entry ds (declared_view declared.entry).label.text all before
             → Stands result.0 result.1 ds all before (declared_view declared.entry) }
@@ -238,20 +243,20 @@ impl<'a> Label<'a> {
 
 /// The labels of declarations.
 #[derive(Drop)]
-struct Labels<'a> {
+pub(crate) struct Labels<'a> {
     by_text: BTreeMap<&'a str, Label<'a>>,
 }
 
 impl<'a> Labels<'a> {
     /// Those of the declarations, none of which was met.
-    fn of(alloc: Global, declarations: &[Declared<'a>]) -> Result<Labels<'a>, AllocError>
+    pub(crate) fn of(alloc: Global, declarations: &[Declared<'a>]) -> Result<Labels<'a>, AllocError>
         ensures { IfOk result (λ l. (ds : List DefinitionTree) → TellsLabels l ds (map declared_view declarations.now) []) }
     {
         let mut labels = Labels {
             by_text: BTreeMap::new(alloc),
         };
         for declared in declarations {
-            if !is_every(declared.mark) {
+            if !declared.stays_alone() {
                 labels.add(alloc, *declared)?;
             }
         }
@@ -260,7 +265,7 @@ impl<'a> Labels<'a> {
 
     /// Adds a declaration to those of its label, of which none was met.
     fn add(&mut self, alloc: Global, declared: Declared<'a>) -> Result<(), AllocError>
-        requires { Spec.is_every declared.mark ≡ false }
+        requires { Spec.stays_alone (declared_view declared) ≡ false }
         ensures { OnOk result ((ds : List DefinitionTree) (bs : List Alternatives.Brought) → TellsLabels self.old ds bs []
             → TellsLabels self.new ds (bs ++ declared_view declared.entry ∷ []) []) }
     {
@@ -272,8 +277,19 @@ impl<'a> Labels<'a> {
         Ok(())
     }
 
+    /// How many declarations of a label may be put together, where none was met.
+    pub(crate) fn count(&self, label: &str) -> usize
+        ensures { (ds : List DefinitionTree) (all : List Alternatives.Brought) → TellsLabels self.now ds all []
+            → result ≡ length (Spec.those_of label.now all) }
+    {
+        match self.by_text.get(label) {
+            Some(known) => known.count(),
+            None => 0,
+        }
+    }
+
     /// What stands for a declaration: itself, all of its label at the first of these, or nothing at the others.
-    fn meet(
+    pub(crate) fn meet(
         &mut self,
         embeddable: &Embeddable<'_, 'a>,
         declared: Declared<'a>,
@@ -281,7 +297,7 @@ impl<'a> Labels<'a> {
         ensures { (ds : List DefinitionTree) (all before : List Alternatives.Brought) → TellsTables embeddable.now ds → TellsLabels self.old ds all before
             → MeetsLabel result self.new ds all before (declared_view declared.entry) }
     {
-        if is_every(declared.mark) {
+        if declared.stays_alone() {
             return Ok(Some(Gathered::One(declared)));
         }
         let label = declared.label;

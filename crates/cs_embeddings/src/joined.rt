@@ -1,5 +1,5 @@
 // Expressions without embeddings.
-ghost use Rattle.std.specs.Prelude.{◌≡◌, ℕ, ◌≤◌, true, false, List, [], IfOk};
+ghost use Rattle.std.specs.Prelude.{◌≡◌, ℕ, ◌≤◌, true, false, List, [], Some, IfOk};
 ghost use Rattle.std.specs.List.{AllByRecursion, flat_map};
 ghost use Rattle.cs_grammar.specs.Height.{height, height_all, height_end};
 ghost use Rattle.cs_grammar.specs.Tree as Tree;
@@ -13,6 +13,8 @@ ghost use Rattle.cs_embeddings.specs.Joined as Spec;
 ghost use Rattle.cs_embeddings.specs.Made as Made;
 ghost use Rattle.cs_embeddings.specs.Made.{FindsClash, GoesBelow, GoesInside, IsWell, Makes, MakesPart};
 ghost use Rattle.cs_embeddings.specs.GatheredTable.{IsSound, gathered_view};
+ghost use Rattle.cs_embeddings.specs.Held as Held;
+ghost use Rattle.cs_embeddings.specs.Standing.{operand_view, standing_tree};
 ghost use Rattle.cs_embeddings.specs.Size.{size, sizes, size_end};
 ghost use Rattle.cs_embeddings.specs.United.{unites};
 ghost use Rattle.cs_embeddings.specs.Views.{alternative_view, alternatives_view};
@@ -23,7 +25,7 @@ use crate::clashes::first_clash;
 use crate::embedded::Embeddable;
 use crate::found::Found;
 use crate::gathered::{Gathered, declared_of, gather};
-use crate::held::first_place;
+use crate::held::{Operand, first_place, holding, standing};
 use crate::joining::Joining;
 use cs_grammar::{Declaration, Expr, Field, FieldMark, ListEnd, Wide};
 use std::alloc::{AllocError, Global};
@@ -312,7 +314,7 @@ impl<'b, 'a> Joiner<'b, 'a> {
         }
     }
 
-    /// A conjunction of operands, or what they are where they are put together.
+    /// A conjunction of operands, those that aren't plain put together where they can be; or what they are where all are put together.
     #[cycle(joined)]
     fn joined_conjunction(
         self,
@@ -331,7 +333,58 @@ impl<'b, 'a> Joiner<'b, 'a> {
             return self.joined_together(&borrowed, room, nodes);
         }
         let inside = self.inside(room, nodes)?.is_whole(false);
+        let held = holding(self.alloc, operands)?;
+        if self.embeddable.unites(&held) {
+            return Ok(Expr::And(self.joined_beside(operands, &held, inside, nodes)?));
+        }
         Ok(Expr::And(self.joined_each(operands, inside, nodes)?))
+    }
+
+    /// What plain operands stand for, and beside them what the others are put together to.
+    #[cycle(joined)]
+    fn joined_beside(
+        self,
+        operands: &'a [Expr],
+        held: &[&'a Expr],
+        room: Room,
+        nodes: &mut usize,
+    ) -> Result<Vec<Expr>, EmbeddingFault>
+        ensures { (ds : List DefinitionTree) (n : ℕ) → TellsTables self.entry.embeddable.now ds → AreWell ds
+            → embed_well (can_be_embedded ds most_steps) (exprs_view operands.now) ≡ true
+            → trees_of (bodies_view held.now) ≡ Held.holding (exprs_view operands.now) → unites ds (trees_of (bodies_view held.now)) ≡ true → room.levels ≤ n
+            → let es = exprs_view operands.now in let V = Spec.joined_value ds n in
+            let together = Spec.joined_with ds V room.is_whole room.place (Tree.conjunction (Held.holding es)) in
+            let meant = Spec.beside (Some together) es (Spec.joined_each ds V room.is_whole room.place es) in
+            MakesPart (λ v. exprs_view v.items) result self.entry.file room.levels nodes.old nodes.new (height_all meant) (sizes meant) meant
+            (clashes_with ds (clashes_value ds n) room.place (Tree.conjunction (Held.holding es))) }
+    {
+        let standing = standing(self.alloc, operands)?;
+        let mut joined = Vec::with_capacity(self.alloc, standing.len())?;
+        for operand in &standing {
+            joined.push(self.joined_operand(*operand, held, room, nodes)?)?;
+        }
+        Ok(joined)
+    }
+
+    /// What a plain operand stands for, or what the others are put together to.
+    #[cycle(joined)]
+    fn joined_operand(
+        self,
+        operand: Operand<'a>,
+        held: &[&'a Expr],
+        room: Room,
+        nodes: &mut usize,
+    ) -> Result<Expr, EmbeddingFault>
+        ensures { (ds : List DefinitionTree) (n : ℕ) → TellsTables self.entry.embeddable.now ds → AreWell ds
+            → let e = standing_tree (Tree.conjunction (trees_of (bodies_view held.now))) (operand_view operand.entry) in
+            embeds_well (can_be_embedded ds most_steps) e ≡ true → unites ds (trees_of (bodies_view held.now)) ≡ true → room.levels ≤ n
+            → Makes result self.entry.file room.levels nodes.old nodes.new
+            (Spec.joined_with ds (Spec.joined_value ds n) room.is_whole room.place e) (clashes_with ds (clashes_value ds n) room.place e) }
+    {
+        match operand {
+            Operand::Plain(expr) => self.joined(expr, room, nodes),
+            Operand::Together => self.joined_together(held, room, nodes),
+        }
     }
 
     /// Each of them, borrowed.

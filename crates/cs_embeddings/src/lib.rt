@@ -14,6 +14,7 @@ mod gathered;
 mod held;
 mod joined;
 mod joining;
+mod kept;
 mod laws;
 mod shut;
 

@@ -157,7 +157,7 @@ impl<'t> Words<'t> for Definitions<'t> {
                 node.part(self.package, &mut self.places, *place, path)
             }
             InstanceCause::Alternative { place, .. } => {
-                Ok(node.operand(&self.places, Separator::Bar, *place))
+                node.operand(&mut self.places, Separator::Bar, *place)
             }
             InstanceCause::Member { declaration, .. } => {
                 node.member(&mut self.places, *declaration, path)

@@ -1,6 +1,6 @@
 // Where the fields of struct literals stand in the sources, also of literals that are put together.
 use cs_package::{FieldMark, Part};
-use cs_sources::{Alternative, Brought, Declared, Part as SourcePart, is_mark};
+use cs_sources::{Alternative, Brought, Declared, Part as SourcePart, Separator, is_mark};
 use std::alloc::{AllocError, Global};
 
 /// What an expression stands for in the sources.
@@ -83,6 +83,22 @@ impl<'t> Field<'t> {
         Field {
             declaration,
             value: Origin::of(value_of(declaration)),
+        }
+    }
+
+    /// An operand of `&`, which no declaration holds.
+    fn operand(operand: Brought<'t, 't>) -> Field<'t> {
+        Field {
+            declaration: operand,
+            value: Origin::Value(operand),
+        }
+    }
+
+    /// Whether its value is plain, so that it stays beside what is put together.
+    fn is_plain(self) -> bool {
+        match self.value {
+            Origin::Value(value) => value.part.is_plain(),
+            Origin::Unknown | Origin::Together { .. } => false,
         }
     }
 }
@@ -176,6 +192,21 @@ impl<'t> Labels<'t> {
     fn place(&self, before: usize) -> Option<usize> {
         Some(self.sorted.get(before)?.1)
     }
+
+    /// Puts what is left of the declarations of a label, of which so many labels are before, to the places of these.
+    fn spread<'s>(
+        &self,
+        first: usize,
+        left: &[Option<Field<'s>>],
+        fields: &mut [Option<Field<'s>>],
+    ) {
+        for (before, field) in left.iter().enumerate() {
+            let at = self.place(first.saturating_add(before));
+            if let Some(place) = at.and_then(|at| fields.get_mut(at)) {
+                *place = *field;
+            }
+        }
+    }
 }
 
 impl<'t> Places<'t> {
@@ -203,7 +234,7 @@ impl<'t> Places<'t> {
         self.sources.embeds(value.part)
     }
 
-    /// The body at a place of a definition that has so many in the package. Its only one is all those of the sources, where these are more.
+    /// The body at a place of a definition that has so many in the package. Where those of the sources are more, some are put together.
     pub(crate) fn body(
         &mut self,
         definition: usize,
@@ -214,21 +245,97 @@ impl<'t> Places<'t> {
         if self.sources.times(name) == count {
             return Ok(Origin::of(self.declared_body(name, place)));
         }
-        if count != 1 {
-            return Ok(Origin::Unknown);
-        }
         let key = ((0, 2, definition), (0, 0), (0, 0));
-        let bodies = match self.kept(key) {
-            Some(first) => self.field_at(first),
-            None => {
-                let bodies = self.all_bodies(name)?;
-                let first = self.fields.len();
-                self.fields.push(bodies)?;
-                self.keep(key, first)?;
-                bodies
-            }
+        if let Some(first) = self.kept(key) {
+            return Ok(self.value_at(first, place));
+        }
+        let bodies = self.all_bodies(name)?;
+        let first = self.keep_left(key, &bodies, count)?;
+        Ok(self.value_at(first, place))
+    }
+
+    /// What the operand of `&` at a place stands for, where so many are left of those in the sources.
+    pub(crate) fn operand(
+        &mut self,
+        whole: Brought<'t, 't>,
+        place: usize,
+        count: usize,
+    ) -> Result<Origin<'t>, AllocError> {
+        let all = whole.part.operands();
+        if all == count {
+            return Ok(match whole.part.operand(Separator::Amp, place) {
+                Some(part) => Origin::Value(whole.inner(part)),
+                None => Origin::Unknown,
+            });
+        }
+        let none = Alternative {
+            number: usize::MAX,
+            count: 0,
         };
-        Ok(bodies.map_or(Origin::Unknown, |field| field.value))
+        let key = Origin::Value(whole).key(none);
+        if let Some(first) = self.kept(key) {
+            return Ok(self.value_at(first, place));
+        }
+        let mut operands = Vec::new(self.alloc);
+        for at in 0..all {
+            if let Some(part) = whole.part.operand(Separator::Amp, at) {
+                operands.push(Field::operand(whole.inner(part)))?;
+            }
+        }
+        let first = self.keep_left(key, &operands, count)?;
+        Ok(self.value_at(first, place))
+    }
+
+    /// Keeps what is left of values, so many, some of which are put together: where they begin.
+    fn keep_left(
+        &mut self,
+        key: Key,
+        values: &[Field<'t>],
+        count: usize,
+    ) -> Result<usize, AllocError> {
+        let left = self.left(values)?;
+        let first = self.fields.len();
+        for place in 0..count {
+            let field = if left.len() == count {
+                left.get(place).copied().flatten()
+            } else {
+                None
+            };
+            self.fields.push(field)?;
+        }
+        self.keep(key, first)?;
+        Ok(first)
+    }
+
+    /// What the field at a place behind a first one stands for.
+    fn value_at(&self, first: usize, place: usize) -> Origin<'t> {
+        let field = self.field_at(first.saturating_add(place));
+        field.map_or(Origin::Unknown, |field| field.value)
+    }
+
+    /// What is left of values of which those that aren't plain are put together, where the first of them is.
+    fn left(&mut self, values: &[Field<'t>]) -> Result<Vec<Option<Field<'t>>>, AllocError> {
+        let mut left = Vec::new(self.alloc);
+        let mut held = Vec::new(self.alloc);
+        let mut first = 0;
+        for value in values {
+            if value.is_plain() {
+                left.push(Some(*value))?;
+                continue;
+            }
+            if held.is_empty() {
+                first = left.len();
+                left.push(None)?;
+            }
+            held.push(*value)?;
+        }
+        let together = self.together(&held)?;
+        if let Some(place) = left.get_mut(first)
+            && !held.is_empty()
+        {
+            *place = together;
+        }
+        Ok(left)
     }
 
     /// The body of a declaration of a definition.
@@ -237,15 +344,15 @@ impl<'t> Places<'t> {
         Some(Brought::itself(declaration.part().declared()?))
     }
 
-    /// All bodies of a definition, put together.
-    fn all_bodies(&mut self, name: &str) -> Result<Option<Field<'t>>, AllocError> {
+    /// All bodies of a definition.
+    fn all_bodies(&self, name: &str) -> Result<Vec<Field<'t>>, AllocError> {
         let mut bodies = Vec::new(self.alloc);
         for before in 0..self.sources.times(name) {
             if let Some(label) = self.sources.nth(name, before) {
-                bodies.push(Brought::itself(label.part()))?;
+                bodies.push(Field::once(Brought::itself(label.part())))?;
             }
         }
-        self.together(&bodies)
+        Ok(bodies)
     }
 
     /// How many literals come before one.
@@ -348,35 +455,57 @@ impl<'t> Places<'t> {
         let Some(labels) = Labels::of_declarations(self.alloc, declarations)? else {
             return Ok(());
         };
-        for (place, part) in parts.iter().enumerate() {
-            let label = label_of(part);
-            let (first, times) = own.alike(label);
-            let before = own.rank(label, place).saturating_sub(first);
-            let (from, count) = labels.alike(label);
-            let field = if count == times && (is_known || count == 1) {
-                let at = labels.place(from.saturating_add(before));
-                let declaration = at.and_then(|at| declarations.get(at).copied());
-                declaration.map(Field::once)
-            } else if is_known && times == 1 {
-                let alike = labels.among(self.alloc, label, declarations)?;
-                self.together(&alike)?
-            } else {
-                None
-            };
+        let mut fields = Vec::with_capacity(self.alloc, parts.len())?;
+        for _ in parts {
+            fields.push(None)?;
+        }
+        for (before, (label, _)) in own.sorted.iter().enumerate() {
+            let (first, times) = own.alike(*label);
+            let (_, count) = labels.alike(*label);
+            if before == first && (is_known || count == 1) {
+                let left = self.left_of(*label, times, &labels, declarations)?;
+                own.spread(first, &left, &mut fields);
+            }
+        }
+        for field in fields {
             self.fields.push(field)?;
         }
         Ok(())
     }
 
-    /// The field that declarations of a label are together. It stands at the first one that isn't optional.
-    fn together(
+    /// What is left of the declarations of a label, so many; nothing where these aren't as many.
+    fn left_of(
         &mut self,
+        label: Label<'_>,
+        times: usize,
+        labels: &Labels<'t>,
         declarations: &[Brought<'t, 't>],
-    ) -> Result<Option<Field<'t>>, AllocError> {
+    ) -> Result<Vec<Option<Field<'t>>>, AllocError> {
+        let mut alike = Vec::new(self.alloc);
+        for declaration in labels.among(self.alloc, label, declarations)? {
+            alike.push(Field::once(declaration))?;
+        }
+        if alike.len() != times {
+            let left = self.left(&alike)?;
+            return Ok(if left.len() == times {
+                left
+            } else {
+                Vec::new(self.alloc)
+            });
+        }
+        let mut left = Vec::with_capacity(self.alloc, times)?;
+        for field in alike {
+            left.push(Some(field))?;
+        }
+        Ok(left)
+    }
+
+    /// The field that declarations of a label are together. It stands at the first one that isn't optional.
+    fn together(&mut self, declarations: &[Field<'t>]) -> Result<Option<Field<'t>>, AllocError> {
         let from = self.values.len();
         let mut first: Option<Brought<'t, 't>> = None;
-        for declaration in declarations {
-            let Some(value) = value_of(*declaration) else {
+        for Field { declaration, value } in declarations {
+            let Origin::Value(value) = *value else {
                 return Ok(None);
             };
             self.values.push(value)?;

@@ -130,7 +130,7 @@ impl<'t> Node<'t> {
                 Ok(self.to(bodies.get(place), body))
             }
             Some(Shape::Definition(definition)) => Node::of(package, *definition, path),
-            Some(_) => Ok(self.operand(places, Separator::Amp, place)),
+            Some(_) => self.operand(places, Separator::Amp, place),
         }
     }
 
@@ -155,29 +155,34 @@ impl<'t> Node<'t> {
         }
     }
 
-    /// The operand at a place. All alternatives of what is put together are that whole expression.
+    /// The operand at a place. All alternatives of what is put together are that whole expression; of `&` those are one operand that stand beside
+    /// plain ones.
     pub(crate) fn operand(
         self,
-        places: &Places<'t>,
+        places: &mut Places<'t>,
         separator: Separator,
         place: usize,
-    ) -> Node<'t> {
+    ) -> Result<Node<'t>, AllocError> {
         let shape = self.operands().get(place);
         if self.is_united(places) {
             let alternative = Alternative {
                 number: place,
                 count: self.operands().len(),
             };
-            return Node {
+            return Ok(Node {
                 shape,
                 alternative,
                 ..self
-            };
+            });
         }
-        let operand = self
-            .value()
-            .and_then(|found| found.part.operand(separator, place));
-        self.to(shape, Origin::of(self.inner(operand)))
+        let origin = match (self.value(), separator) {
+            (Some(found), Separator::Amp) => {
+                places.operand(found, place, self.operands().len())?
+            }
+            (Some(found), _) => Origin::of(self.inner(found.part.operand(separator, place))),
+            (None, _) => Origin::Unknown,
+        };
+        Ok(self.to(shape, origin))
     }
 
     /// The declarations of a struct literal.

@@ -121,6 +121,21 @@ impl<'s, 'a> Part<'s, 'a> {
         whole.count(Separator::Bar) == 0 && whole.count(Separator::Amp) > 0
     }
 
+    /// Whether nothing in it is a struct literal or a reference, so that it stays beside what is put together.
+    pub fn is_plain(self) -> bool {
+        (self.from..self.to).all(|place| {
+            let token = self.source.token(place);
+            // A colon is that of a short form, which is a struct.
+            let is_struct = is_mark(token, "{") || is_mark(token, ":");
+            token.sort != Sort::Definition && !is_struct
+        })
+    }
+
+    /// How many operands of `&` it is.
+    pub fn operands(self) -> usize {
+        self.bare().count(Separator::Amp).saturating_add(1)
+    }
+
     /// The first reference in it that closes what it stands for: one that is no value of a field, or that stands anywhere in what a literal
     /// embeds.
     pub fn closed_by(self) -> Option<Near<'s, 'a>> {

@@ -1,6 +1,7 @@
 -- What the default profile accepts stands for itself in the wide one: nothing is embedded in it, no operands of `&`, no declarations of one label and
 -- no bodies of a definition are put together, and it is as high as a body may be.
-use Rattle.std.proofs.Common.{◌≡◌, ℕ, zero, suc, ◌≤◌, Bool, true, false, ◌||◌, cond, List, [], ◌∷◌, ◌++◌, Option, None, append_assoc, append-nil, map, refl, sym, ap, ap₂, ◌∙◌, arith}
+use Rattle.std.proofs.Common.{◌≡◌, ℕ, zero, suc, ◌≤◌, Bool, true, false, ◌||◌, ◌&&◌, not, cond, nat_le, length, List, [], ◌∷◌, ◌++◌, Option, None, append_assoc, append-nil, map, refl, sym, ap, ap₂, ◌∙◌, arith}
+use Rattle.std.proofs.lemmas.Bool.{cond-false}
 use Rattle.std.specs.List.{AllByRecursion, flat_map}
 use Rattle.cs_grammar.specs.DefaultForms.{IsDefault, AreDefault, AreDefaultFields, IsDefaultEnd, IsDefaultFile}
 use Rattle.cs_grammar.specs.Height.{height, height_all, height_fields, height_end, height_definitions}
@@ -14,13 +15,14 @@ use Rattle.cs_resolve.specs.Opening.{joined, conjunctions, conjunctions_all, con
 use Rattle.cs_resolve.specs.Refinement.{Refinements, IsRefinement}
 use Rattle.cs_resolve.specs.Resolved.{IsPackage}
 use Rattle.cs_embeddings.specs.Alternatives.{Brought, Alternative, nothing, with_fields, with_declaration}
-use Rattle.cs_embeddings.specs.Clashes.{clashes, clashes_with, clashes_each, clashes_end, clashes_of, clashes_value}
+use Rattle.cs_embeddings.specs.Bodies.{Body, as_declared, bodies_behind, left_behind, joined_body, joined_left, body_clashes}
+use Rattle.cs_embeddings.specs.Clashes.{clashes_with, clashes_each, clashes_end, clashes_value}
 use Rattle.cs_embeddings.specs.Flaws.{flaws, flaws_each, flaws_fields, flaws_end}
-use Rattle.cs_embeddings.specs.Gathered.{is_gathered, gathered_behind, gathered}
-use Rattle.cs_embeddings.specs.Held.{first_place}
-use Rattle.cs_embeddings.specs.Joined.{placed, fields_of_brought, one_of, joined_with, joined_each, joined_end, joined_value, joined_definition, as_declared, as_definition, gathered_definitions, gathered_file, joined_file}
-use Rattle.cs_embeddings.specs.United.{unites, united}
-use Rattle.cs_embeddings.specs.Without.{found_from, all_definitions, IsJoined}
+use Rattle.cs_embeddings.specs.Gathered.{those_of, is_gathered, gathered_behind, gathered}
+use Rattle.cs_embeddings.specs.Held.{holding}
+use Rattle.cs_embeddings.specs.Joined.{placed, fields_of_brought, joined_with, joined_each, joined_end, joined_value}
+use Rattle.cs_embeddings.specs.United.{unites}
+use Rattle.cs_embeddings.specs.Without.{found_from, clashes_from, all_definitions, IsJoined}
 use Rattle.cs_widen.proofs.DefaultRule.{both, not_united, declarations_of, not_gathered, no_bodies_gathered}
 use Rattle.cs_widen.proofs.Printed.{low_parts}
 
@@ -56,20 +58,26 @@ module _ (ds : List DefinitionTree) where
   own_left : (fs : Fields) → AreApart (declarations_of fs) (declarations_of fs) → gathered ds (with_fields None fs nothing).declarations ≡ declarations_of fs
   own_left fs h = ap (gathered ds) (own_declarations fs nothing) ∙ each_left (declarations_of fs) [] (declarations_of fs) h
 
-  -- so each body, where none of a file are
-  same_definitions : (es : List DefinitionTree) → map as_definition (map as_declared es) ≡ es
-  same_definitions [] = refl
-  same_definitions (definition s o e ∷ es) = ap (λ gs. definition s o e ∷ gs) (same_definitions es)
+  -- so is each body, at its own place
+  abbrev alone : DefinitionTree → Body
+  alone d = record { declared = as_declared d; place = None }
 
-  abbrev AreBodiesApart : FileTree → Type 0
-  AreBodiesApart f = AreApart (map as_declared (definitions f)) (map as_declared (definitions f))
+  -- whether a file has all bodies of a name
+  abbrev has_all : List Brought → DefinitionTree → Bool
+  has_all here e = let s = (as_declared e).label.text in nat_le (length (those_of s (map as_declared ds))) (length (those_of s here))
 
-  bodies_left : (es : List DefinitionTree) → AreBodiesApart (file None es) → gathered_definitions ds es ≡ es
-  bodies_left es h = ap (map as_definition) (each_left (map as_declared es) [] (map as_declared es) h) ∙ same_definitions es
-
-  files_left : (fs : List FileTree) → AllByRecursion AreBodiesApart fs → map (gathered_file ds) fs ≡ fs
-  files_left [] h = refl
-  files_left (file p es ∷ fs) h = ap₂ (λ gs hs. file p gs ∷ hs) (bodies_left es h.0) (files_left fs h.1)
+  bodies_left : (here before : List Brought) (es : List DefinitionTree) → AreApart (map as_declared ds) (map as_declared es)
+      → bodies_behind ds here before (map as_declared es) ≡ map alone es
+  bodies_left here before [] h = refl
+  bodies_left here before (e ∷ es) h =
+      by (is_gathered ds (map as_declared ds) (as_declared e)) _ h.0 ∙ ap (λ bs. alone e ∷ bs) (bodies_left here (before ++ as_declared e ∷ []) es h.1)
+    where
+      by : (b : Bool) (xs : List Brought) → b ≡ false
+          → map (λ (left : Brought). let body : Body = record { declared = left; place = cond (b && not (has_all here e)) left.place None } in body) (cond b xs (as_declared e ∷ []))
+          ++ bodies_behind ds here (before ++ as_declared e ∷ []) (map as_declared es)
+          ≡ alone e ∷ bodies_behind ds here (before ++ as_declared e ∷ []) (map as_declared es)
+      by true xs h = cc
+      by false xs h = refl
 
 -- ---- nothing is embedded, and no operands or declarations are put together
 
@@ -79,7 +87,7 @@ module _ (ds : List DefinitionTree) where
     IsKept (atom a) = Unit {0}
     IsKept (named s o) = Unit {0}
     IsKept (reference s o) = Unit {0}
-    IsKept (conjunction es) = (unites ds es ≡ false) × AreKept es
+    IsKept (conjunction es) = ((unites ds es ≡ false) × (unites ds (holding es) ≡ false)) × AreKept es
     IsKept (disjunction es) = AreKept es
     IsKept (paren e) = IsKept e
     IsKept (struct o fs b) = AreApart ds (declarations_of fs) (declarations_of fs) × AreKeptFields fs
@@ -163,6 +171,11 @@ module _ (ds : List DefinitionTree) where
 -- ---- such files stand for themselves
 
 module _ (ds : List DefinitionTree) where
+  apart_parts : (xs ys : List DefinitionTree) → AreApart ds (map as_declared ds) (map as_declared (xs ++ ys))
+      → AreApart ds (map as_declared ds) (map as_declared xs) × AreApart ds (map as_declared ds) (map as_declared ys)
+  apart_parts [] ys h = (tt, h)
+  apart_parts (x ∷ xs) ys h = let rest = apart_parts xs ys h.1 in ((h.0, rest.0), rest.1)
+
   mutual
     no_flaw : (e : Tree) → IsKept ds e → flaws ds e ≡ []
     no_flaw (atom a) h = refl
@@ -196,7 +209,7 @@ module _ (ds : List DefinitionTree) where
       no_clash (named s o) h = refl
       no_clash (reference s o) h = refl
       no_clash (conjunction es) h =
-          ap (λ b. cond b (flat_map (clashes_of ds inner false) (united ds None es)) (clashes_each ds inner None es)) h.0 ∙ no_clash_each es h.1
+          cond-false (unites ds es) _ _ h.0.0 ∙ cond-false (unites ds (holding es)) _ _ h.0.1 ∙ no_clash_each es h.1
       no_clash (disjunction es) h = no_clash_each es h
       no_clash (paren e) h = no_clash e h
       no_clash (struct o fs b) h = ap (flat_map (λ d. inner d.place d.value)) (own_left ds fs h.0) ∙ no_clash_fields fs h.1
@@ -239,7 +252,7 @@ module _ (ds : List DefinitionTree) where
       stays whole (named s o) h low = refl
       stays whole (reference s o) h low = refl
       stays whole (conjunction es) h low =
-          ap (λ b. cond b (one_of ds value whole (first_place es) (united ds None es)) (conjunction (joined_each ds value false None es))) h.0
+          cond-false (unites ds es) _ _ h.0.0 ∙ ap conjunction (cond-false (unites ds (holding es)) _ _ h.0.1)
           ∙ ap conjunction (each_stays false es h.1 (omega arith))
       stays whole (disjunction es) h low = ap disjunction (each_stays false es h (omega arith))
       stays whole (paren e) h low = ap paren (stays true e h (omega arith))
@@ -281,21 +294,39 @@ module _ (ds : List DefinitionTree) where
   no_clash_inside zero e h = refl
   no_clash_inside (suc n) e h = no_clash (clashes_value ds n) (no_clash_inside n) e h
 
-  definitions_stay : (es : List DefinitionTree) → AllByRecursion (IsKeptBody ds) es → height_definitions es ≤ most_height → map (joined_definition ds) es ≡ es
+  definitions_stay : (es : List DefinitionTree) → AllByRecursion (IsKeptBody ds) es → height_definitions es ≤ most_height
+      → map (joined_body ds) (map (alone ds) es) ≡ es
   definitions_stay [] h low = refl
   definitions_stay (definition s o e ∷ es) h low =
       let here : height e ≤ suc most_height = omega arith in
       let behind : height_definitions es ≤ most_height = omega arith in
       ap₂ (λ d gs. definition s o d ∷ gs) (value_stays (suc most_height) e h.0 here) (definitions_stay es h.1 behind)
 
-  files_stay : (fs : List FileTree) → AllByRecursion (IsKeptFile ds) fs → AllByRecursion (AreBodiesApart ds) fs
-      → height_definitions (all_definitions fs) ≤ most_height → map (joined_file ds) fs ≡ fs
-  files_stay [] h a low = refl
-  files_stay (file p es ∷ fs) h a low =
+  files_stay : (before : List Brought) (fs : List FileTree) → AllByRecursion (IsKeptFile ds) fs → AreApart ds (map as_declared ds) (map as_declared (all_definitions fs))
+      → height_definitions (all_definitions fs) ≤ most_height → map (joined_left ds) (left_behind ds before fs) ≡ fs
+  files_stay before [] h a low = refl
+  files_stay before (file p es ∷ fs) h a low =
       let parts = low_parts es (all_definitions fs) most_height low in
+      let apart = apart_parts es (all_definitions fs) a in
+      let here = map as_declared es in
       ap₂ (λ gs hs. file p gs ∷ hs)
-      (ap (map (joined_definition ds)) (bodies_left ds es a.0) ∙ definitions_stay es h.0 parts.0)
-      (files_stay fs h.1 a.1 parts.1)
+      (ap (map (joined_body ds)) (bodies_left ds here before es apart.0) ∙ definitions_stay es h.0 parts.0)
+      (files_stay (before ++ here) fs h.1 apart.1 parts.1)
+
+  no_body_clashes : (es : List DefinitionTree) → AllByRecursion (IsKeptBody ds) es → flat_map (body_clashes ds) (map (alone ds) es) ≡ []
+  no_body_clashes [] h = refl
+  no_body_clashes (definition s o e ∷ es) h =
+      none_of_both (clashes_value ds (suc most_height) None e) (flat_map (body_clashes ds) (map (alone ds) es)) (no_clash_inside (suc most_height) e h.0) (no_body_clashes es h.1)
+
+  no_clashes_from : (i : ℕ) (before : List Brought) (fs : List FileTree) → AllByRecursion (IsKeptFile ds) fs
+      → AreApart ds (map as_declared ds) (map as_declared (all_definitions fs)) → clashes_from ds i (left_behind ds before fs) ≡ []
+  no_clashes_from i before [] h a = refl
+  no_clashes_from i before (file p es ∷ fs) h a =
+      let apart = apart_parts es (all_definitions fs) a in
+      let here = map as_declared es in
+      none_of_both (map (λ o. (i, o)) (flat_map (body_clashes ds) (bodies_behind ds here before here))) (clashes_from ds (suc i) (left_behind ds (before ++ here) fs))
+      (ap (map {B = ℕ × ℕ} (λ o. (i, o))) (ap (flat_map (body_clashes ds)) (bodies_left ds here before es apart.0) ∙ no_body_clashes es h.0))
+      (no_clashes_from (suc i) (before ++ here) fs h.1 apart.1)
 
 module _ (all : List DefinitionTree) {A : Type 0} (found : Tree → List A) (nowhere_found : (e : Tree) → IsKept all e → found e ≡ []) where
   none_in : (ds : List DefinitionTree) → AllByRecursion (IsKeptBody all) ds → flat_map (λ d. found (body d)) ds ≡ []
@@ -308,14 +339,14 @@ module _ (all : List DefinitionTree) {A : Type 0} (found : Tree → List A) (now
       none_of_both (map (λ x. (i, x)) (flat_map (λ d. found (body d)) (definitions f))) (found_from found (suc i) fs)
       (ap (map {B = ℕ × A} (λ x. (i, x))) (none_in (definitions f) h.0)) (none_from (suc i) fs h.1)
 
-files_stand : (fs : List FileTree) → AllByRecursion (IsKeptFile (all_definitions fs)) fs → AllByRecursion (AreBodiesApart (all_definitions fs)) fs
-    → height_definitions (all_definitions fs) ≤ most_height → IsJoined fs fs
+files_stand : (fs : List FileTree) → let ds = all_definitions fs in AllByRecursion (IsKeptFile ds) fs → AreApart ds (map as_declared ds) (map as_declared ds)
+    → height_definitions ds ≤ most_height → IsJoined fs fs
 files_stand fs h a low =
     let ds = all_definitions fs in
     record {
       flawless = none_from ds (flaws ds) (no_flaw ds) 0 fs h;
-      apart = ap (found_from (clashes ds) 0) (files_left ds fs a) ∙ none_from ds (clashes ds) (no_clash_inside ds (suc most_height)) 0 fs h;
-      joined = sym (files_stay ds fs h a low);
+      apart = no_clashes_from ds 0 [] fs h a;
+      joined = sym (files_stay ds [] fs h a low);
     }
 
 -- a package of files that can be written down, without forms of the wide profile, and whose bodies aren't too high
@@ -325,4 +356,4 @@ package_stands fs E d w low h =
     let ds = all_definitions fs in
     let rs = h.refinements in
     let ruled = both KeepsRule (values_of_each (named_bodies ds)) (inside ds rs (λ es r. (h.are_refinements es).0 r) ds) h.opened in
-    files_stand fs (kept_files ds rs (λ es r. (h.are_refinements es).0 r) fs d w ruled.1) (no_bodies_gathered ds fs d w ruled.0) low
+    files_stand fs (kept_files ds rs (λ es r. (h.are_refinements es).0 r) fs d w ruled.1) (no_bodies_gathered fs d w ruled.0) low

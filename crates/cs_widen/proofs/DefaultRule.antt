@@ -1,23 +1,25 @@
 -- In what the default profile accepts no operands of `&`, no declarations of one label and no bodies of a definition are put together: the opening
 -- rule asks that all literals in them end with `...`.
 use Rattle.std.proofs.Common.{◌≡◌, ℕ, zero, suc, ◌≤◌, Bool, true, false, ◌&&◌, ◌||◌, not, cond, List, [], ◌∷◌, ◌++◌, Option, Some, None, map, length, refl, sym, ◌∙◌, inl, inr, arith}
-use Rattle.std.proofs.lemmas.Bool.{and_parts, and_from, and_right, or_left, or_right, not-true}
+use Rattle.std.proofs.lemmas.Bool.{cond_both, and_parts, and_from, and_right, or_left, or_right, not-true}
 use Rattle.std.proofs.lemmas.List.Sums.{sum_by-cons}
 use Rattle.std.specs.Prelude.{count_by, nat_le}
 use Rattle.std.specs.List.{AllByRecursion, flat_map}
 use Rattle.std.specs.Str.{bytes_eq}
 use Rattle.cs_grammar.specs.DefaultForms.{IsDefault, AreDefault, AreDefaultFields, IsDefaultEnd, IsDefaultFile}
-use Rattle.cs_grammar.specs.Written.{Place, by_itself, of_bar, of_amp, IsWritten, AreWritten, AreWrittenFields, AreTwo, IsWrittenFile}
+use Rattle.cs_grammar.specs.Written.{Place, by_itself, of_bar, of_amp, IsWritten, AreWritten, AreWrittenFields, AreTwo, IsWrittenDefinition, IsWrittenFile}
 use Rattle.cs_grammar.specs.declared.ast.FieldMark.{FieldMark}
 use Rattle.cs_grammar.specs.declared.ast.FieldMark.TheVariants.{Regular, Optional, Required, Every}
-use Rattle.cs_grammar.specs.Tree.{Tree, atom, named, reference, conjunction, disjunction, paren, struct, list, wide, Trees, none, more, Fields, no_field, field, End, closed, any, each, DefinitionTree, definition, FileTree, file, definitions}
+use Rattle.cs_grammar.specs.Tree.{Tree, atom, named, reference, conjunction, disjunction, paren, struct, list, wide, Trees, none, more, Fields, no_field, field, End, closed, any, each, DefinitionTree, definition, body, FileTree, file}
 use Rattle.cs_resolve.specs.Opening.{Literal, literals, literals_all, literals_fields, literals_end, operands, joined, one, declared_for, Named, named_fields, named_bodies, values, values_of_each, KeepsRule}
 use Rattle.cs_resolve.specs.Plain.{has_literal_or_reference, has_literal_or_reference_some}
 use Rattle.cs_resolve.specs.Refinement.{Refinements, IsRefinement, Narrowing, narrowing, narrowing_of, or_else, referred, closed_literal}
 use Rattle.cs_embeddings.specs.Alternatives.{Brought, most_steps}
 use Rattle.cs_embeddings.specs.Embedded.{all_embedded, can_be_embedded}
 use Rattle.cs_embeddings.specs.Gathered.{those_of, values_of, most_gathered, gathers, is_gathered}
-use Rattle.cs_embeddings.specs.Joined.{as_declared}
+use Rattle.cs_embeddings.proofs.Plain.{held_written}
+use Rattle.cs_embeddings.specs.Held.{is_plain, holding}
+use Rattle.cs_embeddings.specs.Bodies.{as_declared}
 use Rattle.cs_embeddings.specs.Narrowed.{may_join}
 use Rattle.cs_embeddings.specs.Shut.{is_shut, some_shut, is_open, are_open, fields_open, end_open}
 use Rattle.cs_embeddings.specs.United.{are_several, unites}
@@ -144,6 +146,55 @@ narrowing_shut (more e (more f none)) b h = by (referred e) (referred f) refl re
     by None None p q k = cc
 narrowing_shut (more e (more f (more g es))) b h = cc
 
+-- the operands that aren't plain
+referred_held : (e : Tree) (n : List ℕ) → referred e ≡ Some n → is_plain e ≡ false
+referred_held (atom a) n h = cc
+referred_held (named s o) n h = cc
+referred_held (reference s o) n h = refl
+referred_held (conjunction es) n h = cc
+referred_held (disjunction es) n h = cc
+referred_held (paren e) n h = referred_held e n h
+referred_held (struct o fs b) n h = cc
+referred_held (list es end) n h = cc
+referred_held (wide w) n h = cc
+
+narrowing_held : (es : Trees) (b : Narrowing) → narrowing es ≡ Some b → some_shut false (holding es) ≡ true
+narrowing_held none b h = cc
+narrowing_held (more e none) b h = cc
+narrowing_held (more e (more f none)) b h = by (referred e) (referred f) refl refl h
+  where
+    beside : (c : Bool) → is_shut false f ≡ true → some_shut false (cond c (more f none) (more e (more f none))) ≡ true
+    beside true k = or_left (is_shut false f) false k
+    beside false k = or_right (is_shut false e) (is_shut false f || false) (or_left (is_shut false f) false k)
+
+    by : (m n : Option (List ℕ)) → referred e ≡ m → referred f ≡ n → or_else (narrowing_of m (closed_literal f)) (narrowing_of n (closed_literal e)) ≡ Some b
+        → some_shut false (holding (more e (more f none))) ≡ true
+    by (Some s) n p q k =
+        rw (referred_held e s p) (or_left (is_shut false e) (some_shut false (cond (is_plain f) none (more f none))) (referred_shut e s p))
+    by None (Some s) p q k = rw (referred_held f s q) (beside (is_plain e) (referred_shut f s q))
+    by None None p q k = cc
+narrowing_held (more e (more f (more g es))) b h = cc
+
+held_default : (es : Trees) → AreDefault es → AreDefault (holding es)
+held_default none d = tt
+held_default (more e es) d = cond_both (is_plain e) (holding es) (more e (holding es)) AreDefault (λ is. held_default es d.1) (λ no. (d.0, held_default es d.1))
+
+held_open : (es : Trees) → are_open es ≡ true → are_open (holding es) ≡ true
+held_open none h = refl
+held_open (more e es) h =
+    let parts = and_parts (is_open e) (are_open es) h in
+    cond_both (is_plain e) (holding es) (more e (holding es)) (λ hs. are_open hs ≡ true) (λ is. held_open es parts.1)
+    (λ no. and_from (is_open e) (are_open (holding es)) parts.0 (held_open es parts.1))
+
+held_fewer : (es : Trees) → count_by has_literal_or_reference (operands (holding es)) ≤ count_by has_literal_or_reference (operands es)
+held_fewer none = omega arith
+held_fewer (more e es) = by (is_plain e) (held_fewer es)
+  where
+    by : (b : Bool) → count_by has_literal_or_reference (operands (holding es)) ≤ count_by has_literal_or_reference (operands es)
+        → count_by has_literal_or_reference (operands (cond b (holding es) (more e (holding es)))) ≤ count_by has_literal_or_reference (operands (more e es))
+    by true less = rw (sum_by-cons held_once e (operands es)) (omega (arith, less))
+    by false less = rw (sum_by-cons held_once e (operands es), sum_by-cons held_once e (operands (holding es))) (omega (arith, less))
+
 -- ---- what keeps the opening rule isn't put together
 
 are_two : (es : Trees) → are_several es ≡ true → AreTwo es
@@ -194,14 +245,28 @@ module _ (ds : List DefinitionTree) where
       by u (inl few) = absurd (let two = two_held ds u.steps q es d u.two w u.embedded in omega (arith, two, few))
       by u (inr opened) = sym (operands_open es d opened) ∙ u.closed
 
+  held_by_rule : (q : Place) (es : Trees) → AreDefault es → AreWritten q es → KeepsRule (operands es) → unites ds (holding es) ≡ false
+  held_by_rule q es d w keeps = refuted (holding es) (λ u. by u keeps)
+    where
+      by : AreUnited (holding es) → KeepsRule (operands es) → true ≡ false
+      by u (inl few) =
+          absurd (let two = two_held ds u.steps q (holding es) (held_default es d) u.two (held_written q es w) u.embedded in
+          let less = held_fewer es in omega (arith, two, few, less))
+      by u (inr opened) = sym (held_open es (operands_open es d opened)) ∙ u.closed
+
   -- operands of `&`, where these are the plain refinements
   module _ (rs : Refinements) (refine : (es : Trees) → rs es ≡ true → IsRefinement ds es) where
-    pub not_united : (es : Trees) → AreDefault es → AreWritten of_amp es → AllByRecursion KeepsRule (joined rs es) → unites ds es ≡ false
+    pub not_united : (es : Trees) → AreDefault es → AreWritten of_amp es → AllByRecursion KeepsRule (joined rs es)
+        → (unites ds es ≡ false) × (unites ds (holding es) ≡ false)
     not_united es d w keeps = by (rs es) refl keeps
       where
-        by : (b : Bool) → rs es ≡ b → AllByRecursion KeepsRule (cond b [] (operands es ∷ [])) → unites ds es ≡ false
-        by true is k = let r = refine es is in refuted es (λ u. sym (narrowing_shut es (r.base, r.fields) r.joins) ∙ u.free)
-        by false is k = apart_by_rule of_amp es d w k.0
+        by : (b : Bool) → rs es ≡ b → AllByRecursion KeepsRule (cond b [] (operands es ∷ [])) → (unites ds es ≡ false) × (unites ds (holding es) ≡ false)
+        by true is k =
+            let r = refine es is in let b : Narrowing = (r.base, r.fields) in (
+              refuted es (λ u. sym (narrowing_shut es b r.joins) ∙ u.free),
+              refuted (holding es) (λ u. sym (narrowing_held es b r.joins) ∙ u.free),
+            )
+        by false is k = (apart_by_rule of_amp es d w k.0, held_by_rule of_amp es d w k.0)
 
 -- ---- nor are the declarations of a label
 
@@ -241,17 +306,19 @@ kept_by es xs h (inr opened) = inr (h.opened opened)
 
 module _ (s : List ℕ) where
   here : (c : Brought) (cs : List Brought) (n : Named) (ns : List Named) → IsDefault c.value → IsWritten by_itself c.value → n.value ≡ c.value
-      → AreAmong (values_of cs) (map (λ (n : Named). n.value) ns) → (b : Bool)
-      → AreAmong (values_of (cond b (c ∷ cs) cs)) (map (λ (n : Named). n.value) (cond b (n ∷ ns) ns))
-  here c cs n ns d w same h true =
+      → AreAmong (values_of cs) (map (λ (n : Named). n.value) ns) → (plain b : Bool)
+      → AreAmong (values_of (cond (not plain && b) (c ∷ cs) cs)) (map (λ (n : Named). n.value) (cond b (n ∷ ns) ns))
+  here c cs n ns d w same h false true =
       rw same (one_of_both c.value (values_of cs) (map (λ (n : Named). n.value) ns) d w h)
-  here c cs n ns d w same h false = h
+  here c cs n ns d w same h true true = one_more n.value (values_of cs) (map (λ (n : Named). n.value) ns) h
+  here c cs n ns d w same h false false = h
+  here c cs n ns d w same h true false = h
 
   values_among : (fs : Fields) → AreDefaultFields fs → AreWrittenFields fs → AreAmong (values_of (those_of s (declarations_of fs))) (values (one s) (named_fields fs))
   values_among no_field d w = record { default = tt; written = tt; fewer = omega arith; opened = λ o. o }
-  values_among (field l Regular e fs) d w = here _ _ _ _ d.0 w.1 refl (values_among fs d.1 w.2) (bytes_eq l.text s)
-  values_among (field l Optional e fs) d w = here _ _ _ _ d.0 w.1 refl (values_among fs d.1 w.2) (bytes_eq l.text s)
-  values_among (field l Required e fs) d w = here _ _ _ _ d.0 w.1 refl (values_among fs d.1 w.2) (bytes_eq l.text s)
+  values_among (field l Regular e fs) d w = here _ _ _ _ d.0 w.1 refl (values_among fs d.1 w.2) (is_plain e) (bytes_eq l.text s)
+  values_among (field l Optional e fs) d w = here _ _ _ _ d.0 w.1 refl (values_among fs d.1 w.2) (is_plain e) (bytes_eq l.text s)
+  values_among (field l Required e fs) d w = here _ _ _ _ d.0 w.1 refl (values_among fs d.1 w.2) (is_plain e) (bytes_eq l.text s)
   values_among (field l (Every o) e fs) d w = one_more e _ _ (values_among fs d.1 w.2)
 
 module _ (ds : List DefinitionTree) (fs : Fields) (d : AreDefaultFields fs) (w : AreWrittenFields fs) where
@@ -262,6 +329,9 @@ module _ (ds : List DefinitionTree) (fs : Fields) (d : AreDefaultFields fs) (w :
       and_right (nat_le (length (those_of s (declarations_of fs))) most_gathered) (unites ds es)
       (apart_by_rule ds by_itself es among.default among.written (kept_by es (values (one s) (named_fields fs)) among k))
 
+  held_apart : (s : List ℕ) (e : Tree) → KeepsRule (values (one s) (named_fields fs)) → (not (is_plain e) && gathers ds (those_of s (declarations_of fs))) ≡ false
+  held_apart s e k = and_right (not (is_plain e)) (gathers ds (those_of s (declarations_of fs))) (label_apart s k)
+
   pub not_gathered : (gs : Fields) → AllByRecursion KeepsRule (map (λ n. values n.name (named_fields fs)) (named_fields gs))
       → AllByRecursion (λ c. is_gathered ds (declarations_of fs) c ≡ false) (declarations_of gs)
   not_gathered no_field k = tt
@@ -269,9 +339,9 @@ module _ (ds : List DefinitionTree) (fs : Fields) (d : AreDefaultFields fs) (w :
     where
       by : (m : FieldMark) → KeepsRule (values (declared_for l m) (named_fields fs))
           → is_gathered ds (declarations_of fs) (record { label = l; mark = m; value = e; place = None }) ≡ false
-      by Regular k = label_apart l.text k
-      by Optional k = label_apart l.text k
-      by Required k = label_apart l.text k
+      by Regular k = held_apart l.text e k
+      by Optional k = held_apart l.text e k
+      by Required k = held_apart l.text e k
       by (Every o) k = refl
 
 -- ---- nor are the bodies of a definition
@@ -280,57 +350,37 @@ module _ (s : List ℕ) where
   abbrev bodies_named : List DefinitionTree → List Tree
   bodies_named ds = values (one s) (named_bodies ds)
 
-  -- the bodies of a name in a file are among those of that name in it and in the files behind it
-  bodies_among : (es rest : List DefinitionTree) → IsDefaultFile (file None es) → IsWrittenFile (file None es)
-      → AreAmong (values_of (those_of s (map as_declared es))) (bodies_named (es ++ rest))
-  bodies_among [] rest d w = record { default = tt; written = tt; fewer = omega arith; opened = λ o. tt }
-  bodies_among (definition t o e ∷ es) rest d w =
-      here s _ _ _ _ d.0 w.1.0.1 refl (bodies_among es rest d.1 (tt, w.1.1)) (bytes_eq t s)
+  -- the bodies of a name are among those of which the rule speaks
+  bodies_among : (es : List DefinitionTree) → IsDefaultFile (file None es) → IsWrittenFile (file None es)
+      → AreAmong (values_of (those_of s (map as_declared es))) (bodies_named es)
+  bodies_among [] d w = record { default = tt; written = tt; fewer = omega arith; opened = λ o. o }
+  bodies_among (definition t o e ∷ es) d w =
+      here s _ _ _ _ d.0 w.1.0.1 refl (bodies_among es d.1 (tt, w.1.1)) (is_plain e) (bytes_eq t s)
 
-  -- and so in the files before it
-  among_more : (bs ds : List DefinitionTree) (es : Trees) → AreAmong es (bodies_named ds) → AreAmong es (bodies_named (bs ++ ds))
-  among_more [] ds es h = h
-  among_more (definition t o e ∷ bs) ds es h = by (bytes_eq t s) _ (among_more bs ds es h)
-    where
-      by : (b : Bool) (ns : List Named) → AreAmong es (map (λ (n : Named). n.value) ns)
-          → AreAmong es (map (λ (n : Named). n.value) (cond b (record { name = one t; value = e } ∷ ns) ns))
-      by true ns h = one_more e es _ h
-      by false ns h = h
+-- those of all files
+default_together : (fs : List FileTree) → AllByRecursion IsDefaultFile fs → IsDefaultFile (file None (all_definitions fs))
+default_together [] d = tt
+default_together (file p es ∷ fs) d = together (λ (x : DefinitionTree). IsDefault (body x)) es (all_definitions fs) d.0 (default_together fs d.1)
 
-module _ (ds all : List DefinitionTree) where
-  abbrev AreRuled : List DefinitionTree → Type 0
-  AreRuled es = AllByRecursion KeepsRule (map (λ (n : Named). values n.name (named_bodies all)) (named_bodies es))
+written_together : (fs : List FileTree) → AllByRecursion IsWrittenFile fs → IsWrittenFile (file None (all_definitions fs))
+written_together [] w = (tt, tt)
+written_together (file p es ∷ fs) w = (tt, together IsWrittenDefinition es (all_definitions fs) w.0.1 (written_together fs w.1).1)
 
-  abbrev AreBodiesApart : List DefinitionTree → List DefinitionTree → Type 0
-  AreBodiesApart es cs = AllByRecursion (λ c. is_gathered ds (map as_declared es) c ≡ false) (map as_declared cs)
+module _ (ds : List DefinitionTree) (d : IsDefaultFile (file None ds)) (w : IsWrittenFile (file None ds)) where
+  name_apart : (s : List ℕ) → KeepsRule (bodies_named s ds) → gathers ds (those_of s (map as_declared ds)) ≡ false
+  name_apart s k =
+      let among = bodies_among s ds d w in
+      let ts = values_of (those_of s (map as_declared ds)) in
+      and_right (nat_le (length (those_of s (map as_declared ds))) most_gathered) (unites ds ts)
+      (apart_by_rule ds by_itself ts among.default among.written (kept_by ts (bodies_named s ds) among k))
 
-  name_apart : (es : List DefinitionTree) → IsDefaultFile (file None es) → IsWrittenFile (file None es) → (s : List ℕ)
-      → AreAmong (values_of (those_of s (map as_declared es))) (bodies_named s all) → KeepsRule (bodies_named s all)
-      → gathers ds (those_of s (map as_declared es)) ≡ false
-  name_apart es d w s among k =
-      let ts = values_of (those_of s (map as_declared es)) in
-      and_right (nat_le (length (those_of s (map as_declared es))) most_gathered) (unites ds ts)
-      (apart_by_rule ds by_itself ts among.default among.written (kept_by ts (bodies_named s all) among k))
+  names_apart : (es : List DefinitionTree) → AllByRecursion KeepsRule (map (λ (n : Named). values n.name (named_bodies ds)) (named_bodies es))
+      → AllByRecursion (λ c. is_gathered ds (map as_declared ds) c ≡ false) (map as_declared es)
+  names_apart [] k = tt
+  names_apart (definition s o e ∷ es) k =
+      (and_right (not (is_plain e)) (gathers ds (those_of s (map as_declared ds))) (name_apart s k.0), names_apart es k.1)
 
-  -- those of a file, before the definitions of others
-  file_apart : (es cs rest : List DefinitionTree) → ((s : List ℕ) → KeepsRule (bodies_named s all) → gathers ds (those_of s (map as_declared es)) ≡ false)
-      → AreRuled (cs ++ rest) → AreBodiesApart es cs × AreRuled rest
-  file_apart es [] rest apart k = (tt, k)
-  file_apart es (definition s o e ∷ cs) rest apart k =
-      let behind = file_apart es cs rest apart k.1 in
-      ((apart s k.0, behind.0), behind.1)
-
-  files_apart : (fs : List FileTree) → AllByRecursion IsDefaultFile fs → AllByRecursion IsWrittenFile fs
-      → ((s : List ℕ) (es : Trees) → AreAmong es (bodies_named s (all_definitions fs)) → AreAmong es (bodies_named s all))
-      → AreRuled (all_definitions fs) → AllByRecursion (λ f. AreBodiesApart (definitions f) (definitions f)) fs
-  files_apart [] d w among k = tt
-  files_apart (file p es ∷ fs) d w among k =
-      let rest = all_definitions fs in
-      let here = λ (s : List ℕ). among s (values_of (those_of s (map as_declared es))) (bodies_among s es rest d.0 (tt, w.0.1)) in
-      let parts = file_apart es es rest (λ s. name_apart es d.0 (tt, w.0.1) s (here s)) k in
-      (parts.0, files_apart fs d.1 w.1 (λ s ts h. among s ts (among_more s es rest ts h)) parts.1)
-
-pub no_bodies_gathered : (ds : List DefinitionTree) (fs : List FileTree) → AllByRecursion IsDefaultFile fs → AllByRecursion IsWrittenFile fs
-    → AllByRecursion KeepsRule (values_of_each (named_bodies (all_definitions fs)))
-    → AllByRecursion (λ f. AllByRecursion (λ c. is_gathered ds (map as_declared (definitions f)) c ≡ false) (map as_declared (definitions f))) fs
-no_bodies_gathered ds fs d w k = files_apart ds (all_definitions fs) fs d w (λ s es h. h) k
+pub no_bodies_gathered : (fs : List FileTree) → AllByRecursion IsDefaultFile fs → AllByRecursion IsWrittenFile fs
+    → let ds = all_definitions fs in AllByRecursion KeepsRule (values_of_each (named_bodies ds))
+    → AllByRecursion (λ c. is_gathered ds (map as_declared ds) c ≡ false) (map as_declared ds)
+no_bodies_gathered fs d w k = let ds = all_definitions fs in names_apart ds (default_together fs d) (written_together fs w) ds k

@@ -17,8 +17,8 @@ use Rattle.cs_defaults.specs.Leading.{nowhere, leading, first_mark, has_default}
 use Rattle.cs_defaults.specs.Unmarked.{unmarked, unmarked_each}
 use Rattle.cs_embeddings.specs.Alternatives.{Brought, Alternative, at, alternatives_of}
 use Rattle.cs_embeddings.specs.Gathered.{is_every, gathered}
-use Rattle.cs_embeddings.specs.Held.{first_place}
-use Rattle.cs_embeddings.specs.Joined.{placed, own, fields_of_brought, literal_of, literals_of, one_of, joined_with, joined_each, joined_value}
+use Rattle.cs_embeddings.specs.Held.{holding, first_place}
+use Rattle.cs_embeddings.specs.Joined.{placed, own, beside, fields_of_brought, literal_of, literals_of, one_of, together_of, joined_with, joined_each, joined_value}
 use Rattle.cs_embeddings.specs.United.{unites, united}
 use Rattle.cs_widen.specs.Direct.{declaration_reads, field_reads, fields_read, is_allowed}
 use Rattle.cs_widen.specs.Embedding.{is_declared, declarations_read, alternative_reads, AreEmbeddingsReadDirectly, AreUnionsReadDirectly, AreLiteralsReadDirectly}
@@ -46,17 +46,22 @@ module _ (ds : List DefinitionTree) (v : Option ℕ → Tree → Tree) where
 
   -- whether its operands are put together or not
   module _ (p : Option ℕ) (es : Trees) where
+    abbrev kept : Trees
+    kept =
+        let each = joined_each ds v false p es in
+        cond (unites ds (holding es)) (beside (Some (together_of ds v false p (holding es))) es each) each
+
     behind_conjunction : (fs : Trees) → first_mark (more (joined_with ds v false p (conjunction es)) fs) ≡ first_mark fs
     behind_conjunction fs = by (unites ds es)
       where
-        by : (b : Bool) → first_mark (more (cond b (one_of ds v false (at p (first_place es)) (united ds p es)) (conjunction (joined_each ds v false p es))) fs) ≡ first_mark fs
+        by : (b : Bool) → first_mark (more (cond b (together_of ds v false p es) (conjunction kept)) fs) ≡ first_mark fs
         by true = behind_literals (at p (first_place es)) fs (united ds p es)
         by false = refl
 
     conjunction_leads_nowhere : leading (joined_with ds v true p (conjunction es)) ≡ nowhere
     conjunction_leads_nowhere = by (unites ds es)
       where
-        by : (b : Bool) → leading (cond b (one_of ds v true (at p (first_place es)) (united ds p es)) (conjunction (joined_each ds v false p es))) ≡ nowhere
+        by : (b : Bool) → leading (cond b (together_of ds v true p es) (conjunction kept)) ≡ nowhere
         by true = literals_lead_nowhere true (at p (first_place es)) (united ds p es)
         by false = refl
 
@@ -171,7 +176,7 @@ pub unions_read_directly : (E : Environment) (I : Rule → Document → Bool) �
 unions_read_directly E I is rs has ds n whole p es ms unite =
     let V = joined_value ds (suc n) in let o = at p (first_place es) in
     ap (λ t. I (node (resolved rs (unmarked has t))) (object ms))
-    (cond-true (unites ds es) (one_of ds V whole o (united ds p es)) (conjunction (joined_each ds V false p es)) unite)
+    (cond-true (unites ds es) _ _ unite)
     ∙ of_one E I is rs has ds V (default_stays has ds n) whole o (united ds p es) ms
 
 pub literals_read_directly : (E : Environment) (I : Rule → Document → Bool) → IsInstance E I → AreLiteralsReadDirectly I

@@ -1,6 +1,6 @@
 -- Declarations of one label that are put together allow the same keys.
 use Rattle.std.proofs.Common.{◌≡◌, ℕ, Bool, true, false, ◌⊎◌, cond, List, [], ◌∷◌, ◌++◌, refl, sym, ◌∙◌, inl, inr}
-use Rattle.std.proofs.lemmas.Bool.{and_parts, or_left, or_right, not-true}
+use Rattle.std.proofs.lemmas.Bool.{and_parts, or_left, or_right}
 use Rattle.std.proofs.lemmas.List.Folds.{list_any-append}
 use Rattle.std.proofs.lemmas.Slice.Eq.{bytes_eq-Decides}
 use Rattle.std.specs.Prelude.{◌&&◌, ◌||◌, not}
@@ -10,10 +10,15 @@ use Rattle.cs_grammar.specs.declared.ast.FieldMark.{FieldMark}
 use Rattle.cs_grammar.specs.declared.ast.FieldMark.TheVariants.{Regular, Optional, Required, Every}
 use Rattle.cs_grammar.specs.Tree.{DefinitionTree}
 use Rattle.cs_embeddings.specs.Alternatives.{Brought}
-use Rattle.cs_embeddings.specs.Gathered.{is_every, is_of, those_of, is_gathered, gathers, mark_or, mark_of, together, gathered_at, gathered_behind, gathered}
+use Rattle.cs_embeddings.specs.Gathered.{is_every, stays_alone, is_of, those_of, is_gathered, gathers, mark_or, mark_of, together, gathered_at, gathered_behind, gathered}
+use Rattle.cs_embeddings.specs.Held.{is_plain}
 use Rattle.cs_widen.specs.Embedding.{is_declared}
 
 -- ---- what is left of the declarations of a label isn't `[string]`
+
+not_first : (a b : Bool) → not (a || b) ≡ true → a ≡ false
+not_first true b h = cc
+not_first false b h = refl
 
 regular_or : (m n : FieldMark) → is_every m ≡ false → is_every n ≡ false → is_every (mark_or m n) ≡ false
 regular_or Regular n p q = refl
@@ -23,13 +28,14 @@ regular_or (Every o) n p q = cc
 
 not_every : (s : List ℕ) (bs : List Brought) → is_every (mark_of (those_of s bs)) ≡ false
 not_every s [] = refl
-not_every s (d ∷ bs) = by (is_every d.mark) (bytes_eq d.label.text s) refl (not_every s bs)
+not_every s (d ∷ bs) = by (is_every d.mark) (is_plain d.value) (bytes_eq d.label.text s) refl (not_every s bs)
   where
-    by : (b c : Bool) → is_every d.mark ≡ b → is_every (mark_of (those_of s bs)) ≡ false
-        → is_every (mark_of (cond (not b && c) (d ∷ those_of s bs) (those_of s bs))) ≡ false
-    by true c is behind = behind
-    by false true is behind = regular_or d.mark (mark_of (those_of s bs)) is behind
-    by false false is behind = behind
+    by : (b p c : Bool) → is_every d.mark ≡ b → is_every (mark_of (those_of s bs)) ≡ false
+        → is_every (mark_of (cond (not (b || p) && c) (d ∷ those_of s bs) (those_of s bs))) ≡ false
+    by true p c is behind = behind
+    by false true c is behind = behind
+    by false false true is behind = regular_or d.mark (mark_of (those_of s bs)) is behind
+    by false false false is behind = behind
 
 -- ---- the keys
 
@@ -48,7 +54,7 @@ module _ (k : List ℕ) where
       by : (b : Bool) → is_of s d ≡ b → (b || list_any (is_of s) bs) ≡ true → (list_any (is_of s) bs ≡ true → is_declared k bs ≡ true)
           → is_declared k (d ∷ bs) ≡ true
       by true is g behind =
-          let text = (and_parts (not (is_every d.mark)) (bytes_eq d.label.text s) is).1 in
+          let text = (and_parts (not (stays_alone d)) (bytes_eq d.label.text s) is).1 in
           or_left (declares d) (is_declared k bs) (or_right (is_every d.mark) (bytes_eq k d.label.text) (same_text k s d.label.text same text))
       by false is g behind = or_right (declares d) (is_declared k bs) (behind g)
 
@@ -77,7 +83,7 @@ module _ (k : List ℕ) where
             → DeclareAlike (is_declared k before)
             (is_declared k (cond b (cond (list_any (is_of d.label.text) before) [] (together d.label.text (those_of d.label.text all) ∷ [])) (d ∷ []))) (declares d)
         by true is =
-            let regular = not-true (is_every d.mark) (and_parts (not (is_every d.mark)) (gathers ds (those_of d.label.text all)) is).0 in
+            let regular = not_first (is_every d.mark) (is_plain d.value) (and_parts (not (stays_alone d)) (gathers ds (those_of d.label.text all)) is).0 in
             first regular (list_any (is_of d.label.text) before) refl
         by false is = inl refl
 

@@ -10,10 +10,11 @@ mod Default
 mod Refusals
 mod Judged
 pub mod Judgements
--- a literal with defaults, one with embeddings and one without, read as they are written
+-- a literal with defaults, one with embeddings and one without, and operands that are plain, read as they are written
 mod Direct
 mod GatheredKeys
 mod Embedding
+mod PlainOperands
 -- offsets change nothing of trees, of closed bases, of which names are at fault, of the opening rule, and so of packages
 mod UnplacedTrees
 mod UnplacedBases

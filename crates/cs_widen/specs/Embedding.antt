@@ -1,17 +1,18 @@
 -- Struct literals, with embeddings and without, and operands of `&` that are put together, read as they are written (CUE, structs: embedding and
 -- unification): by an alternative of each expression that is embedded, or of each operand, and no file without embeddings is made of them here.
 -- Laws say that this is what they stand for.
-use Rattle.std.specs.Prelude.{◌≡◌, ℕ, suc, Bool, true, ◌&&◌, ◌||◌, List, Option}
+use Rattle.std.specs.Prelude.{◌≡◌, ℕ, suc, Bool, true, false, ◌&&◌, ◌||◌, not, List, Option}
 use Rattle.std.specs.List.{list_all, list_any}
 use Rattle.std.specs.Str.{bytes_eq}
 use Rattle.cs_document.specs.Document.{Document, object, Entry, Members, entries}
-use Rattle.cs_grammar.specs.Tree.{Tree, Trees, conjunction, struct, Fields, wide, merged, Declarations, DefinitionTree}
+use Rattle.cs_grammar.specs.Tree.{Tree, Trees, none, more, conjunction, struct, Fields, wide, merged, Declarations, DefinitionTree}
 use Rattle.cs_instance.specs.Instance.{Rule, node}
-use Rattle.cs_resolve.specs.Refinement.{Refinements}
+use Rattle.cs_resolve.specs.Refinement.{Refinements, AreRefinements}
 use Rattle.cs_resolve.specs.Resolved.{resolved}
 use Rattle.cs_defaults.specs.Unmarked.{unmarked}
 use Rattle.cs_embeddings.specs.Alternatives.{Brought, Alternative, alternatives_of}
 use Rattle.cs_embeddings.specs.Gathered.{is_every, gathered}
+use Rattle.cs_embeddings.specs.Held.{is_plain, holding}
 use Rattle.cs_embeddings.specs.Joined.{own, joined_with, joined_value}
 use Rattle.cs_embeddings.specs.United.{unites, united}
 use Rattle.cs_widen.specs.Direct.{declaration_reads}
@@ -47,6 +48,21 @@ AreUnionsReadDirectly I =
     → unites ds es ≡ true → I (node (resolved rs (unmarked has (joined_with ds (joined_value ds (suc n)) whole p (conjunction es))))) (object ms)
     ≡ list_any (λ a. alternative_reads has (λ q y e. I (node (resolved rs (unmarked has (joined_value ds (suc n) q e)))) y) ds a (entries ms))
     (united ds p es)
+
+-- each operand that is plain is met; `met e` says whether e is
+abbrev pub plain_met : (Tree → Bool) → Trees → Bool
+plain_met met none = true
+plain_met met (more e es) = (not (is_plain e) || met e) && plain_met met es
+
+-- where some operands are plain and the others are put together, a document is an instance of them exactly where it is one of what the others are
+-- put together to, and of each plain one
+abbrev pub ArePlainReadDirectly : (Rule → Document → Bool) → Type 0
+ArePlainReadDirectly I =
+    (rs : Refinements) (all : List DefinitionTree) → AreRefinements all rs
+    → (has : List ℕ → Bool) (ds : List DefinitionTree) (n : ℕ) (whole : Bool) (p : Option ℕ) (es : Trees) (y : Document)
+    → unites ds es ≡ false → unites ds (holding es) ≡ true
+    → let met : Bool → Tree → Bool = λ b e. I (node (resolved rs (unmarked has (joined_with ds (joined_value ds (suc n)) b p e)))) y in
+    met whole (conjunction es) ≡ (met false (conjunction (holding es)) && plain_met (met false) es)
 
 -- and so is a map an instance of what a struct literal without embeddings stands for, where there is nothing to choose
 abbrev pub AreLiteralsReadDirectly : (Rule → Document → Bool) → Type 0

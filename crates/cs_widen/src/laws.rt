@@ -9,7 +9,7 @@ ghost use Rattle.cs_resolve.specs.Resolved.{IsPackage};
 ghost use Rattle.cs_tool.specs.Accepted.{AreFiles, IsAccepted};
 ghost use Rattle.cs_widen.specs.Accepted.{IsAcceptedIn};
 ghost use Rattle.cs_widen.specs.Direct.{AreReadDirectly};
-ghost use Rattle.cs_widen.specs.Embedding.{AreEmbeddingsReadDirectly, AreLiteralsReadDirectly, AreUnionsReadDirectly};
+ghost use Rattle.cs_widen.specs.Embedding.{AreEmbeddingsReadDirectly, AreLiteralsReadDirectly, ArePlainReadDirectly, AreUnionsReadDirectly};
 ghost use Rattle.cs_widen.specs.Stands.{AreMeant};
 
 /// A law: a map is an instance of what a struct literal with defaults stands for exactly where each key that is missing is that of a field
@@ -30,6 +30,12 @@ pub fn embeddings_are_read_directly()
 /// are put together are one declaration, whose value is such operands.
 pub fn unions_are_read_directly()
     ensures { (E : Environment) (I : Rule → Document → Bool) → IsInstance E I → AreUnionsReadDirectly I }
+{}
+
+/// A law: where some operands of `&` are plain and the others are put together, a document is an instance of them exactly where it is one of
+/// what the others are put together to, and of each plain one.
+pub fn plain_operands_are_read_directly()
+    ensures { (E : Environment) (I : Rule → Document → Bool) → IsInstance E I → ArePlainReadDirectly I }
 {}
 
 /// A law: a map is an instance of what a struct literal without embeddings stands for exactly where each declaration is met, as it is written,

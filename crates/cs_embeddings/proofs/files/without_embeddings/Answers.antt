@@ -1,12 +1,12 @@
-use Rattle.std.proofs.Common.{◌≡◌, true, map, sym, subst}
-use Rattle.cs_grammar.specs.Tree.{body}
+use Rattle.std.proofs.Common.{map, sym, ap, ◌∙◌, subst}
 use Rattle.cs_grammar.specs.View.{file_view}
 use Rattle.cs_embeddings.proofs.FileAnswers.{found_of, within_of, refused_of, only_of}
-use Rattle.cs_embeddings.proofs.FileParts.{bodies_of_files}
+use Rattle.cs_embeddings.proofs.LeftParts.{left_well}
 use Rattle.cs_embeddings.proofs.Flawless.{flawless_files}
-use Rattle.cs_embeddings.specs.Alternatives.{most_steps}
-use Rattle.cs_embeddings.specs.Checks.{TellsBodies}
-use Rattle.cs_embeddings.specs.Embedded.{can_be_embedded, embeds_well}
+use Rattle.std.specs.List.{AllByRecursion}
+use Rattle.cs_embeddings.specs.Checks.{TellsBodies, TellsTables}
+use Rattle.cs_embeddings.specs.GatheredTable.{AreSound, left_view}
+use Rattle.cs_embeddings.specs.Made.{AreLeftWell, MakesFiles}
 use Rattle.cs_embeddings.specs.Without.{all_definitions}
 use Rattle.cs_embeddings.proofs.files.without_embeddings.Goals as goal
 
@@ -18,7 +18,13 @@ returns c =
     let same = subst (λ b. TellsBodies b ds) (sym c.in_ok-embeddable.ensures.same) tells in
     let flawless = c.in_ok-check_files.ensures ds (record { bodies = tells; steps = steps; same = same }) in
     let well = flawless_files fs flawless in
-    let made = c.joined_files.ensures ds (record { bodies = same; steps = steps }) well (bodies_of_files (λ d. embeds_well (can_be_embedded ds most_steps) (body d) ≡ true) fs well) in
+    let tables : TellsTables c.in_ok-embeddable.embeddable ds = record { bodies = same; steps = steps } in
+    let lent = c.deref.ensures.value in
+    let left = ap (map left_view) lent ∙ c.in_ok-kept.ensures.found tables in
+    let sound = subst (AllByRecursion (AreSound ds)) (sym lent) (c.in_ok-kept.ensures.sound tables) in
+    let made =
+    subst (MakesFiles c.joined_files.result ds) left
+    (c.joined_files.ensures ds tables well sound (subst (AllByRecursion (AreLeftWell ds)) (sym left) (left_well fs well))) in
     let r = c.joined_files.result in
     record {
       found = found_of fs flawless r made;

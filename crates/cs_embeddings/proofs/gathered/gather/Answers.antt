@@ -1,7 +1,8 @@
 use Rattle.std.proofs.Common.{◌≡◌, None, ◌+◌, map, take, drop, sym, ap, ◌∙◌, subst}
-use Rattle.cs_embeddings.specs.Gathered.{gathered_at}
+use Rattle.cs_embeddings.specs.Gathered.{is_gathered, gathered_at}
 use Rattle.cs_embeddings.specs.GatheredTable.{declared_view, TellsLabels, standing_view, StandsFor}
 use Rattle.cs_embeddings.proofs.Gathering.{GathersSoFar, declared_more, one_stands, nothing_stands, all_gathered}
+use Rattle.cs_embeddings.proofs.Keeping.{sound_of}
 use Rattle.cs_embeddings.proofs.gathered.gather.Goals as goal
 use Rattle.cs_embeddings.proofs.gathered.gather.Goals.{in-Some+in_ok-push, in_default}
 
@@ -18,7 +19,7 @@ loop-declared-preserved c ds tables =
     elim c.match-branch-4.branch [
       | in-Some+in_ok-push w ↦
           let stands = subst (λ o. standing_view o ≡ gathered_at ds all before (declared_view x)) w.in-Some.is met.0 in
-          let sound = subst (λ o. StandsFor o ds) w.in-Some.is met.1 in (
+          let sound = sound_of ds (is_gathered ds all (declared_view x)) all (declared_view x) w.in-Some.standing (subst (λ o. StandsFor o (is_gathered ds all (declared_view x)) ds all (declared_view x)) w.in-Some.is met.1) in (
             labels,
             one_stands ds xs i x c.loop-declared-test.true c.declared-item.is c.loop-declared.gathered.items w.in-Some.standing c.match-branch-4.gathered.items
                 (ap (λ v. v.items) w.gathered-is ∙ w.in_ok-push.ensures.items) stands sound told.1,

@@ -1,4 +1,4 @@
-use Rattle.std.proofs.Common.{rules, ◌≡◌, suc, ◌≤◌, false, ◌&&◌, not, refl, sym, ap, ◌∙◌, arith}
+use Rattle.std.proofs.Common.{rules, ◌≡◌, suc, ◌≤◌, false, ◌&&◌, refl, sym, ap, ◌∙◌, arith}
 use Rattle.cs_grammar.specs.declared.ast.Expr as Exprs
 use Rattle.cs_grammar.specs.View.{expr_view, exprs_view, fields_view, declarations_view, end_view}
 use Rattle.cs_grammar.proofs.Views.{view-List}

@@ -1,8 +1,8 @@
-use Rattle.std.proofs.Common.{rules, ◌≡◌, ℕ, ◌≤◌, true, false, [], ◌++◌, map, refl, sym, ap, ap₂, ◌∙◌, subst}
+use Rattle.std.proofs.Common.{rules, ◌≡◌, ℕ, ◌≤◌, true, false, [], ◌++◌, Some, map, refl, sym, ap, ap₂, ◌∙◌, subst}
 use Rattle.std.proofs.lemmas.Result.{err_from_is_err_and}
 use Rattle.std.specs.List.{flat_map, AllByRecursion}
 use Rattle.cs_grammar.proofs.Views.{view-And, view-Or, view-Paren, view-Struct, view-List, view-Wide, view-Merged, view-Marked}
-use Rattle.cs_grammar.specs.Height.{height, height_fields}
+use Rattle.cs_grammar.specs.Height.{height, height_all, height_fields}
 use Rattle.cs_grammar.specs.Tree as T
 use Rattle.cs_grammar.specs.Tree.{Tree}
 use Rattle.cs_grammar.specs.View.{expr_view, exprs_view, field_view, fields_view, end_view, wide_view, declarations_view, trees_of}
@@ -10,8 +10,8 @@ use Rattle.cs_grammar.specs.declared.ast.Expr as Exprs
 use Rattle.cs_grammar.specs.declared.ast.Wide as Wides
 use Rattle.cs_embeddings.proofs.WellAlternatives.{alternatives_embed_well, united_embed_well}
 use Rattle.cs_embeddings.proofs.BroughtValues.{brought_unmade_one, brought_made_one, value_well, gathered_as, same_field}
-use Rattle.cs_embeddings.proofs.JoinedForms.{inner, IsUnmade, IsMadeOf, united_can, united_unmade, united_makes, and_unmade, or_unmade, and_made, or_made, front_unmade, end_unmade, list_made, marked_unmade, marked_made}
-use Rattle.cs_embeddings.proofs.JoinedParts.{IsWellExpr, exprs_well, of_map, own, own_clashes, each_made, each_unmade, brought_seen, brought_clashes, brought_made, brought_unmade, own_literal, literal_clashes, literals_made, literals_unmade}
+use Rattle.cs_embeddings.proofs.JoinedForms.{inner, IsUnmade, IsMadeOf, united_can, united_unmade, united_makes, and_unmade, or_unmade, and_made, or_made, beside_unmade, beside_made, front_unmade, end_unmade, list_made, marked_unmade, marked_made}
+use Rattle.cs_embeddings.proofs.JoinedParts.{standing_well, own_operand, operand_clashes, operands_made, operands_unmade, IsWellExpr, exprs_well, of_map, own, own_clashes, each_made, each_unmade, brought_seen, brought_clashes, brought_made, brought_unmade, own_literal, literal_clashes, literals_made, literals_unmade}
 use Rattle.cs_embeddings.proofs.Literals.{bottom_view, too_much, MakesLiteral, no_alternative, sole, whole_several, kept_too_high, kept_unmade, kept_made}
 use Rattle.cs_embeddings.proofs.Marked.{no_mark, falls}
 use Rattle.cs_embeddings.proofs.OwnLiterals.{own_well, is_own}
@@ -21,11 +21,13 @@ use Rattle.cs_embeddings.specs.Held.{first_place}
 use Rattle.cs_embeddings.specs.GatheredTable.{IsSound, gathered_view}
 use Rattle.cs_embeddings.specs.United.{unites, united}
 use Rattle.cs_embeddings.specs.Clashes.{clashes_with, clashes_of, clashes_value}
-use Rattle.cs_embeddings.specs.Embedded.{embeds_well}
-use Rattle.cs_embeddings.specs.Joined.{joined_with, joined_value, one_of, literal_of, fields_of_brought, placed}
+use Rattle.cs_embeddings.proofs.Plain.{some_held, held_well}
+use Rattle.cs_embeddings.specs.Embedded.{has_operand, embeds_well, embed_well}
+use Rattle.cs_embeddings.specs.Joined.{beside, joined_with, joined_each, joined_value, one_of, literal_of, fields_of_brought, placed}
 use Rattle.cs_embeddings.specs.Joined as J
 use Rattle.cs_embeddings.specs.Made.{IsNoRoom, IsMade, IsWell, Makes, behind_marks, with_marks, count_mark}
-use Rattle.cs_embeddings.specs.Size.{size, size_fields}
+use Rattle.cs_embeddings.specs.Size.{size, sizes, size_fields}
+use Rattle.cs_embeddings.specs.Standing.{operand_view}
 use Rattle.cs_embeddings.specs.Checks.{TellsBodies, bodies_view}
 use Rattle.cs_embeddings.specs.Views.{alternative_view, alternatives_view, IsTooMuch}
 use Rattle.cs_embeddings.specs.declared.joined.Room.{Room}
@@ -331,25 +333,104 @@ joined_conjunction-returns-then-unites t c ds n tells well embeds deep =
     subst (λ us. Makes r file room.levels nodes rest (joined_with ds V room.is_whole room.place (T.conjunction us)) (clashes_with ds C room.place (T.conjunction us))) is
     (c.joined_together.ensures ds n tells well unite deep)
 
+pub joined_conjunction-returns-in_err-joined_beside : goal.joined_conjunction-returns-in_err-joined_beside
+joined_conjunction-returns-in_err-joined_beside t c ds n tells well embeds deep =
+    let p = err_from_is_err_and c.from_residual-in_err-joined_beside.result c.from_residual-in_err-joined_beside.ensures.1 in
+    let es = exprs_view c.args.operands.now in
+    let is = ap (λ vs. trees_of (bodies_view vs)) c.deref.ensures.value ∙ c.in_ok-borrowed.ensures in
+    let stay = ap (unites ds) (sym is) ∙ sym (c.unites.ensures ds tells.bodies tells.steps) ∙ c.if-unites.false in
+    let held = ap (λ vs. trees_of (bodies_view vs)) c.deref-then-unites-2.ensures.value ∙ c.in_ok-held.ensures in
+    let asked = ap (λ vs. trees_of (bodies_view vs)) c.deref-2.ensures.value ∙ c.in_ok-held.ensures in
+    let unite = ap (unites ds) (sym asked) ∙ sym (c.unites-2.ensures ds tells.bodies tells.steps) ∙ c.if-unites-2.true in
+    let both = ap (unites ds) held ∙ unite in
+    rw (p.1, p.2)
+    (beside_unmade ds n c.args.room c.in_ok-inside.field-0 c.args.nodes.now c.inside.new.nodes c.in_ok-inside.ensures deep
+    es stay unite c.is_whole-inside.result c.is_whole-inside.ensures
+    c.in_err-joined_beside.field-0.0 c.args.self.file (c.in_err-joined_beside.ensures ds n tells well embeds held both))
+
+pub joined_conjunction-returns-then-unites-2 : goal.joined_conjunction-returns-then-unites-2
+joined_conjunction-returns-then-unites-2 t c ds n tells well embeds deep =
+    let v = c.in_ok-joined_beside.field-0 in let es = exprs_view c.args.operands.now in
+    let is = ap (λ vs. trees_of (bodies_view vs)) c.deref.ensures.value ∙ c.in_ok-borrowed.ensures in
+    let stay = ap (unites ds) (sym is) ∙ sym (c.unites.ensures ds tells.bodies tells.steps) ∙ c.if-unites.false in
+    let held = ap (λ vs. trees_of (bodies_view vs)) c.deref-then-unites-2.ensures.value ∙ c.in_ok-held.ensures in
+    let asked = ap (λ vs. trees_of (bodies_view vs)) c.deref-2.ensures.value ∙ c.in_ok-held.ensures in
+    let unite = ap (unites ds) (sym asked) ∙ sym (c.unites-2.ensures ds tells.bodies tells.steps) ∙ c.if-unites-2.true in
+    let both = ap (unites ds) held ∙ unite in
+    beside_made ds n c.args.room c.in_ok-inside.field-0 c.args.nodes.now c.inside.new.nodes c.in_ok-inside.ensures deep
+    es stay unite c.is_whole-inside.result c.is_whole-inside.ensures
+    c.joined_beside.new.nodes (exprs_view v.items) (expr_view (Exprs.And v)) (view-And v) (c.in_ok-joined_beside.ensures ds n tells well embeds held both)
+
 pub joined_conjunction-returns-in_err-joined_each : goal.joined_conjunction-returns-in_err-joined_each
 joined_conjunction-returns-in_err-joined_each t c ds n tells well embeds deep =
     let p = err_from_is_err_and c.from_residual-in_err-joined_each.result c.from_residual-in_err-joined_each.ensures.1 in
     let es = exprs_view c.args.operands.now in
     let is = ap (λ vs. trees_of (bodies_view vs)) c.deref.ensures.value ∙ c.in_ok-borrowed.ensures in
     let stay = ap (unites ds) (sym is) ∙ sym (c.unites.ensures ds tells.bodies tells.steps) ∙ c.if-unites.false in
+    let held = ap (λ vs. trees_of (bodies_view vs)) c.deref-2.ensures.value ∙ c.in_ok-held.ensures in
+    let apart = ap (unites ds) (sym held) ∙ sym (c.unites-2.ensures ds tells.bodies tells.steps) ∙ c.if-unites-2.false in
     rw (p.1, p.2)
     (and_unmade ds n c.args.room c.in_ok-inside.field-0 c.args.nodes.now c.inside.new.nodes c.in_ok-inside.ensures deep
     (T.conjunction es) es embeds c.is_whole-inside.result c.is_whole-inside.ensures
-    c.in_err-joined_each.field-0.0 c.args.self.file (c.in_err-joined_each.ensures ds n tells well) refl stay)
+    c.in_err-joined_each.field-0.0 c.args.self.file (c.in_err-joined_each.ensures ds n tells well) refl stay apart)
 
 pub joined_conjunction-returns : goal.joined_conjunction-returns
 joined_conjunction-returns t c ds n tells well embeds deep =
     let v = c.in_ok-joined_each.field-0 in let es = exprs_view c.args.operands.now in
     let is = ap (λ vs. trees_of (bodies_view vs)) c.deref.ensures.value ∙ c.in_ok-borrowed.ensures in
     let stay = ap (unites ds) (sym is) ∙ sym (c.unites.ensures ds tells.bodies tells.steps) ∙ c.if-unites.false in
+    let held = ap (λ vs. trees_of (bodies_view vs)) c.deref-2.ensures.value ∙ c.in_ok-held.ensures in
+    let apart = ap (unites ds) (sym held) ∙ sym (c.unites-2.ensures ds tells.bodies tells.steps) ∙ c.if-unites-2.false in
     and_made ds n c.args.room c.in_ok-inside.field-0 c.args.nodes.now c.inside.new.nodes c.in_ok-inside.ensures deep
     (T.conjunction es) es embeds c.is_whole-inside.result c.is_whole-inside.ensures
-    c.joined_each.new.nodes (exprs_view v.items) (expr_view (Exprs.And v)) (c.in_ok-joined_each.ensures ds n tells well) refl stay (view-And v)
+    c.joined_each.new.nodes (exprs_view v.items) (expr_view (Exprs.And v)) (c.in_ok-joined_each.ensures ds n tells well) refl stay apart (view-And v)
+
+pub joined_beside-returns-in_err-joined_operand : goal.joined_beside-returns-in_err-joined_operand
+joined_beside-returns-in_err-joined_operand t c ds n tells well embeds held unite deep =
+    let p = err_from_is_err_and c.from_residual-in_err-joined_operand.result c.from_residual-in_err-joined_operand.ensures.1 in
+    let room = c.args.room in let ts = map expr_view c.args.operands.now in let hs = T.conjunction (trees_of (bodies_view c.args.held.now)) in
+    let os = c.deref-operand-items.result.now in let i = c.loop-operand.operand-index in let o = c.operand-item.result in
+    let V = joined_value ds n in let C = clashes_value ds n in let e = c.in_err-joined_operand.field-0.0 in let file = c.args.self.file in
+    let seen = ap (map operand_view) c.deref-operand-items.ensures.value ∙ c.in_ok-standing.ensures in
+    let some = subst (λ us. has_operand us ≡ true) held (some_held ds (trees_of (bodies_view c.args.held.now)) unite) in
+    let kept = subst (λ us. embed_well (inner ds n) us ≡ true) (sym held) (held_well (inner ds n) (exprs_view c.args.operands.now) embeds) in
+    rw (p.1, p.2)
+    (subst (λ us. let m = beside (Some (joined_with ds V room.is_whole room.place (T.conjunction us))) (exprs_view c.args.operands.now)
+    (joined_each ds V room.is_whole room.place (exprs_view c.args.operands.now)) in
+    IsNoRoom e file room.levels c.args.nodes.now (height_all m) (sizes m) (clashes_with ds C room.place (T.conjunction us))) held
+    (operands_unmade ds V C room.is_whole room.place hs ts os seen some room.levels c.args.nodes.now e file
+    (none_more expr_view (own_operand ds V C room.is_whole room.place hs) _ _ (operand_clashes ds V C room.is_whole room.place hs) room.levels c.args.nodes.now
+    os i o c.loop-operand-test.true c.operand-item.is c.loop-operand.nodes c.loop-operand.joined.items
+    (c.loop-operand.invariant ds n tells well embeds held unite deep) e file
+    (c.in_err-joined_operand.ensures ds n tells well
+    (standing_well (inner ds n) ts hs os i o seen c.loop-operand-test.true c.operand-item.is embeds kept) unite deep))))
+
+pub joined_beside-loop-operand-preserved : goal.joined_beside-loop-operand-preserved
+joined_beside-loop-operand-preserved t c ds n tells well embeds held unite deep =
+    let room = c.args.room in let ts = map expr_view c.args.operands.now in let hs = T.conjunction (trees_of (bodies_view c.args.held.now)) in
+    let os = c.deref-operand-items.result.now in let i = c.loop-operand.operand-index in let o = c.operand-item.result in
+    let V = joined_value ds n in let C = clashes_value ds n in
+    let seen = ap (map operand_view) c.deref-operand-items.ensures.value ∙ c.in_ok-standing.ensures in
+    let kept = subst (λ us. embed_well (inner ds n) us ≡ true) (sym held) (held_well (inner ds n) (exprs_view c.args.operands.now) embeds) in
+    one_made expr_view (own_operand ds V C room.is_whole room.place hs) _ _ (operand_clashes ds V C room.is_whole room.place hs) room.levels c.args.nodes.now
+    os i o c.loop-operand-test.true c.operand-item.is c.loop-operand.nodes c.joined_operand.new.nodes c.loop-operand.joined.items _
+    c.in_ok-joined_operand.field-0 c.in_ok-push.ensures.items (c.loop-operand.invariant ds n tells well embeds held unite deep)
+    (c.in_ok-joined_operand.ensures ds n tells well
+    (standing_well (inner ds n) ts hs os i o seen c.loop-operand-test.true c.operand-item.is embeds kept) unite deep)
+
+pub joined_beside-returns : goal.joined_beside-returns
+joined_beside-returns t c ds n tells well embeds held unite deep =
+    let room = c.args.room in let ts = map expr_view c.args.operands.now in let hs = T.conjunction (trees_of (bodies_view c.args.held.now)) in
+    let os = c.deref-operand-items.result.now in let i = c.loop-operand.operand-index in let es = exprs_view c.args.operands.now in
+    let V = joined_value ds n in let C = clashes_value ds n in
+    let seen = ap (map operand_view) c.deref-operand-items.ensures.value ∙ c.in_ok-standing.ensures in
+    let some = subst (λ us. has_operand us ≡ true) held (some_held ds (trees_of (bodies_view c.args.held.now)) unite) in
+    subst (λ us. let m = beside (Some (joined_with ds V room.is_whole room.place (T.conjunction us))) es (joined_each ds V room.is_whole room.place es) in
+    IsMade room.levels c.args.nodes.now c.loop-operand.nodes (height_all m) (sizes m) (exprs_view c.loop-operand.joined.items) m
+    (clashes_with ds C room.place (T.conjunction us))) held
+    (operands_made ds V C room.is_whole room.place hs ts os seen some room.levels c.args.nodes.now c.loop-operand.nodes c.loop-operand.joined.items
+    (all_made expr_view (own_operand ds V C room.is_whole room.place hs) _ _ (operand_clashes ds V C room.is_whole room.place hs) room.levels c.args.nodes.now
+    os i c.loop-operand-test.false c.loop-operand.nodes c.loop-operand.joined.items (c.loop-operand.invariant ds n tells well embeds held unite deep)))
 
 pub joined_together-returns-in_err-found : goal.joined_together-returns-in_err-found
 joined_together-returns-in_err-found t c ds n tells well unite deep =
