@@ -811,6 +811,41 @@ try 'wide: a circle of 1,000 embeddings: widen' 0 'error 11 at 6' 'widen --profi
 try 'wide: a circle of 1,000 embeddings: widen --why' 0 'told error 11 at 6' 'widen --profile=wide --why wide.cue'
 embeds 60 '{#A%d, #A%d}' > wide.cue
 try 'wide: 60 doublings that stand once: widen' 0 'shows #A0: {' 'widen --profile=wide wide.cue'
+{ embeds 60 '{#A%d, #A%d}'; printf '#P: {#A0 & {z: 1}}\n'; } > wide.cue
+try 'wide: 60 doublings narrowed: widen' 0 'shows #P: {' 'widen --profile=wide wide.cue'
+{ embeds 60 '{#A%d, #A%d}'; printf '#P: {#A0 & {y: 1}}\n'; } > wide.cue
+try 'wide: 60 doublings without a label: widen' 0 'error 11 at 1132' 'widen --profile=wide wide.cue'
+{ embeds 60 '#A%d | #A%d'; printf '#P: {#A0 & {z: 1}}\n'; } > wide.cue
+try 'wide: 60 doublings of names narrowed: widen' 1000000 'error 14' 'widen --profile=wide wide.cue'
+{ embeds 60 '#A%d | #A%d'; printf '#P: {#A0 & {y: 1}}\n'; } > wide.cue
+try 'wide: 60 doublings of names without a label: widen' 0 'error 11 at 1072' 'widen --profile=wide wide.cue'
+{
+    printf '#B: {'; listed 12000 'a%d: int' ', '; printf '}\n#C: {#B, c: int}\n'
+    printf '#P: {#C & {'; listed 12000 'a%d: 1' ', '; printf '}}\n'
+} > wide.cue
+try 'wide: 12,000 labels narrowed: widen' 0 'shows a11999: 1' 'widen --profile=wide wide.cue'
+# Of each definition it is known which labels it declares, so these are pairs of both.
+{
+    awk 'BEGIN { for (i = 0; i < 200; i++) printf "#A%d: {}\n", i; printf "#B: {"; for (i = 0; i < 200; i++) printf "#A%d, ", i; print "b: int}" }'
+    listed 200 '#P%d: {#B & {b: 1}}' '\n'
+} > wide.cue
+# Each definition that is embedded is looked for among those before it.
+try 'wide: 200 definitions narrow one that embeds 200: widen' 4000000 'shows #P199: {' 'widen --profile=wide wide.cue'
+{
+    awk 'BEGIN { for (i = 0; i < 480; i++) printf "#A%d: {}\n", i; printf "#B: {"; for (i = 0; i < 480; i++) printf "#A%d, ", i; print "b: int}" }'
+    listed 500 '#P%d: #B & {c: 1}' '\n'; printf '\n#P: {#P0 | #P499}\n'
+} > wide.cue
+try 'wide: 500 definitions add to one that embeds 480: widen' 240000 'error 11 at 17348' 'widen --profile=wide wide.cue'
+{
+    printf '#B: {'; listed 9000 'a%d: int' ', '; printf '}\n'; listed 900 '#D%d: {#B, d: int}' '\n'; printf '\n#A: '; listed 900 '#D%d' ' | '
+    printf '\n#P: {#A & {'; listed 9000 'a%d: 1' ', '; printf '}}\n'
+} > wide.cue
+try 'wide: 9,000 labels of 900 alternatives narrowed: widen' 8100000 'error 14' 'widen --profile=wide wide.cue'
+{
+    printf '#B: {'; listed 9000 'a%d: int' ', '; printf '}\n'; listed 900 '#D%d: {#B, d: int}' '\n'; printf '\n#A: '; listed 900 '#D%d' ' | '
+    printf '\n#P: {'; listed 9000 '{#A & {a%d: 1}}' ', '; printf '}\n'
+} > wide.cue
+try 'wide: 900 alternatives narrowed 9,000 times: widen' 8100000 'error 14' 'widen --profile=wide wide.cue'
 embeds 40 '{#A%d | #A%d}' > wide.cue
 try 'wide: 40 doublings of alternatives: widen' 1000000 'error 14' 'widen --profile=wide wide.cue'
 embeds 24 '{x: {#A%d}, y: {#A%d}}' > wide.cue
@@ -860,6 +895,14 @@ try 'wide: 25,000 literals and a kind in one: widen --why' 0 'told error 11 at' 
 try 'wide: 25,000 literals of one label: widen' 0 'shows a: >0' 'widen --profile=wide wide.cue'
 { printf '#A: {'; many 12000 '{a: #B}, {a: #C}, '; printf '}\n#B: int\n#C: int\n'; } > wide.cue
 try 'wide: 24,000 references of one label: widen' 0 'error 11 at 18' 'widen --profile=wide wide.cue'
+{ printf '#X: {a?: int}\n#A: {'; listed 12000 '{x: #X}' ', '; printf '}\n'; } > wide.cue
+try 'wide: 12,000 literals with one reference: widen' 0 'shows x: #X' 'widen --profile=wide wide.cue'
+{ printf '#X: {a?: int}\n#B: {'; listed 12000 'x: {...}' ', '; printf ', x: #X}\n#A: {#B, y: int}\n'; } > wide.cue
+try 'wide: 12,000 structs and a reference from one definition: widen' 0 'shows x: #X' 'widen --profile=wide wide.cue'
+{ printf '#X: {a?: int}\n#A: {'; listed 12000 '{x: {...}}' ', '; printf ', x: #X}\n'; } > wide.cue
+try 'wide: 12,000 literals and a reference beside them: widen' 0 'shows x: #X' 'widen --profile=wide wide.cue'
+{ printf '#X: {a?: int}\n#A: {'; listed 12000 '{x: {...}}' ', '; printf ', {x: #X}}\n'; } > wide.cue
+try 'wide: 12,000 literals and one with a reference: widen' 0 'error 11 at 144023' 'widen --profile=wide wide.cue'
 { printf '#A: {'; many 20000 '{a: {}}, '; printf '}\n'; } > wide.cue
 try 'wide: 20,000 structs of one label: widen' 0 'error 11 at 9' 'widen --profile=wide wide.cue'
 { printf '#A: {'; listed 20000 '{a%d: {}}' ', '; printf '}\n'; } > wide.cue
@@ -928,8 +971,7 @@ try 'wide: 900 definitions in two files: widen' 0 'shows b: int' 'widen --profil
 { printf '#B: {'; listed 10000 'a%d: int' ', '; printf '}\n#A: {#B & {'; listed 10000 'a%d: >0' ', '; printf '}, z: int}\n'; } > wide.cue
 try 'wide: 10,000 labels narrowed: widen' 0 'shows z: int' 'widen --profile=wide wide.cue'
 { printf '#B: {'; listed 20000 'a%d: int' ', '; printf '}\n#A: {'; many 20000 '#B & {a0: 1}, '; printf 'z: int, int}\n'; } > wide.cue
-# Each of 128 rounds asks it again.
-try 'wide: 20,000 labels narrowed 20,000 times beside a kind: widen' 2560000 'error 11 at 528908' 'widen --profile=wide wide.cue'
+try 'wide: 20,000 labels narrowed 20,000 times beside a kind: widen' 20000 'error 11 at 528908' 'widen --profile=wide wide.cue'
 { printf '#B: {a: int}\n'; awk 'BEGIN { for (i = 0; i < 998; i++) printf "#A%d: {#B & {a: >%d}, b%d: int}\n", i, i, i }'; } > wide.cue
 try 'wide: a definition narrowed by 998: widen' 0 'shows b997: int' 'widen --profile=wide wide.cue'
 # Attributes, each as long and as deep as it may be, and such as have no end.

@@ -110,7 +110,7 @@ def faults_of(ask: Callable[[], Iterator[str]]) -> list[str]:
 def main(program: str, path: Path) -> int:
     judges = found_judges()
     passed = failed = 0
-    for row in (row for row in rows(path) if not row.refusal() and not row.so_far):
+    for row in (row for row in rows(path) if not row.refusal()):
         with tempfile.TemporaryDirectory() as room:
             for asked, ask in Asked(program, Path(room), row, judges).questions().items():
                 faults = faults_of(ask)

@@ -265,7 +265,7 @@ def add_rows(report: Report, program: str) -> None:
 def add_model_rows(report: Report, program: str, path: Path) -> None:
     """The rows of a file as tools/widening.rows that the program takes."""
     for row in widened.rows(path):
-        if row.refusal() or row.so_far:
+        if row.refusal():
             continue
         docs = {verdict: [json.dumps(doc) for doc, given in row.documents if given == verdict] for verdict in ("valid", "invalid")}
         with tempfile.TemporaryDirectory(prefix="row-") as room:

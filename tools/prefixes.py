@@ -115,7 +115,7 @@ def of_widened(path: Path) -> list[Rules]:
 
 def of_model() -> list[Rules]:
     """The rows of tools/widening.rows that the program takes."""
-    taken = [row for row in widened.rows() if not row.refusal() and not row.so_far]
+    taken = [row for row in widened.rows() if not row.refusal()]
     return [Rules(str(row), [json.dumps(doc) for doc, _verdict in row.documents], [row.source], "#P", profile=WIDE) for row in taken]
 
 

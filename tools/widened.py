@@ -9,14 +9,12 @@
 - Random packages, 200 where no number is given: each document has to be an instance by a direct reading of the source exactly where it is
   one of the package that is meant. By that reading a document is an instance of a literal with embedded expressions when, for some choice
   of an alternative for each, one for a name, every declared field is as all of them ask, and every other key is allowed by one of them.
-- With a program: the rows, by `widen --profile wide` and `vet --profile wide`; where the program doesn't take a form so far, `so far`
-  says how it refuses that. Then random packages with defaults and embeddings, every third one without embeddings, every fifth one in a
-  file for each declaration, and every tenth one in two files. Where the model refuses, the program has to. Where it doesn't,
-  `widen --profile wide` has to say of the package what `widen` says of the one that the model means: the number of the same refusal, or a text that is read as the same package;
-  `export` writes the same schemas, to the byte, and `vet` judges documents as the model does. The program has to refuse by 11 where the
-  model uses a rule that it doesn't take: `&` with a reference in what is embedded, where that isn't the name of one closed literal, what is
-  shut in one of two values of a label that an embedding brings together, and more than 64 values that are joined. `check` has to tell the
-  same number first.
+- With a program: the rows, by `widen --profile wide` and `vet --profile wide`. Then random packages with defaults and embeddings, every
+  third one without embeddings, every fifth one in a file for each declaration, and every tenth one in two files. Where the model refuses,
+  the program has to. Where it doesn't, `widen --profile wide` has to say of the package what `widen` says of the one that the model means:
+  the number of the same refusal, or a text that is read as the same package; `export` writes the same schemas, to the byte, and `vet`
+  judges documents as the model does. More than 64 values of a label, or bodies of a definition, aren't joined. `check` has to tell the same
+  number first.
 
 Numbers are compared in the order of the program's conditions: what can't be embedded (9, 11), then what an embedding brings together
 (11) or too many nodes with it (14), then marks (5), then the package that is meant, where 9 and 10 come before 11. They aren't told
@@ -39,7 +37,7 @@ from pathlib import Path
 
 sys.path.insert(0, str(Path(__file__).resolve().parent))
 from profile_of_cue import Package, admits, is_instance, parsed, text  # noqa: E402
-from widening import MOST_NODES, Alternative, Declaration, Quoted, Refused, Widening, WideReader, asks_joining, breaks_opening, holds_shut, is_plain, is_shut, parts, spelled, together, widened  # noqa: E402
+from widening import MOST_NODES, Alternative, Declaration, Quoted, Refused, Widening, WideReader, asks_joining, breaks_opening, is_plain, is_shut, parts, spelled, together, widened  # noqa: E402
 
 ROWS = Path(__file__).resolve().parent / "widening.rows"
 LABELS = ["a", "b", "c"]
@@ -51,12 +49,10 @@ DOCUMENTS = 60
 
 @dataclass
 class Row:
-    """A row of the file: a source, the lines that say what it stands for or how it is refused, how the program refuses it so far, if it
-    does, and documents with what they are."""
+    """A row of the file: a source, the lines that say what it stands for or how it is refused, and documents with what they are."""
 
     source: str
     wanted: list[str] = field(default_factory=list)
-    so_far: str = ""
     documents: list[tuple[object, str]] = field(default_factory=list)
 
     def __str__(self) -> str:
@@ -78,8 +74,6 @@ def row_of(lines: list[str]) -> Row:
         word, _, rest = line.partition(" ")
         if word == "=>":
             row.wanted.append(rest)
-        elif word == "so":
-            row.so_far = rest.removeprefix("far ")
         elif word in ("valid", "invalid"):
             row.documents += [(it, word) for it in read_all(rest)]
     return row
@@ -366,7 +360,7 @@ class Sources:
         return " & ".join(operands)
 
     def embedded(self, depth: int) -> str:
-        """A definition, a literal, a disjunction or parentheses; a few that can't be embedded, or can't be so far."""
+        """A definition, a literal, a disjunction or parentheses; a few that can't be embedded."""
         form = self.chance.random()
         if depth <= 0 or form < 0.45:
             return self.narrowing() if form > 0.4 else self.name()
@@ -474,49 +468,27 @@ class Reading(WideReader):
         self.has_wrong_mark = True
 
 
-# What the model has and the program doesn't take yet. It refuses these by 11 before it looks at marks.
-EMBEDDED_CONJUNCTION = "`&` with a reference that is embedded, where that isn't the name of one closed literal, or the other operand isn't one"
-TWO_VALUES = "two values of a label that an embedding brings together"
 # So many values of a label, or bodies in a file, are joined at most.
 MOST_GATHERED = 64
 
 
 class Taken(Widening):
-    """The model, which notes what of it the program doesn't take yet, and leaves what can't be joined as it is: whether literals are
-    opened, and which names name fields, is asked of the package that is meant."""
+    """The model, which leaves what can't be joined as it is: whether literals are opened, and which names name fields, is asked of the package
+    that is meant."""
 
-    def __init__(self, package: Package) -> None:
-        super().__init__(package)
-        self.beyond: set[str] = set()
-
-    def stands_for(self, it: tuple, copied: frozenset = frozenset(), brought: tuple = ()) -> tuple:
-        if it[0] == "struct" and any(mark == "embed" for _label, mark, _value in it[1]):
-            found = self.of_literal(it, copied, Alternative((), False, frozenset()), (), brought)
-            if any(brings_together(one) for one in found or []):
-                self.beyond.add(TWO_VALUES)
-        return super().stands_for(it, copied, brought)
-
-    def alternatives(self, it: tuple, copied: frozenset, before: Alternative, reaching: tuple, embedded: bool, brought: tuple = ()) -> list[Alternative] | None:
-        found = super().alternatives(it, copied, before, reaching, embedded, brought)
-        if found is not None and embedded and it[0] == "and" and any(is_shut(part) for part in it[1]) and not self.is_narrowing(it[1]):
-            self.beyond.add(EMBEDDED_CONJUNCTION)
-        return found
-
-    def is_narrowing(self, operands: list[tuple]) -> bool:
-        """One of two operands is a definition whose one body is a closed literal, and the other is such a literal."""
-        orders = (operands, operands[::-1]) if len(operands) == 2 else ()
-        bases = [(self.package.get(one[1], []), other) for one, other in orders if one[0] == "ref"]
-        return any(len(bodies) == 1 and is_closed_literal(bodies[0]) and is_closed_literal(other) for bodies, other in bases)
-
-    def conjunction(self, operands: list[tuple], copied: frozenset, brought: tuple) -> tuple:
+    def conjunction(self, operands: list[tuple], copied: frozenset) -> tuple:
         if self.is_taken(operands, copied):
-            return self.joined([(it, copied, brought) for it in operands], [self.stands_for(it, copied, brought) if is_plain(it) else it for it in operands])
-        return ("and", [self.stands_for(it, copied, brought) for it in operands])
+            return self.joined([(it, copied) for it in operands], [self.stands_for(it, copied) if is_plain(it) else it for it in operands])
+        return ("and", [self.stands_for(it, copied) for it in operands])
 
-    def together(self, same: list[Declaration], every: list[Declaration]) -> tuple | None:
+    def of_name(self, name: str, copied: frozenset, before: Alternative, reaching: tuple, brought: tuple) -> list[Alternative] | None:
+        """A name that isn't declared is at fault where it is embedded, and behind a definition it brings nothing, and is found later."""
+        return [before] if reaching and name not in self.package else super().of_name(name, copied, before, reaching, brought)
+
+    def together(self, same: list[Declaration]) -> tuple | None:
         values = [it.value for it in same]
         if len(values) <= MOST_GATHERED and self.is_taken(values, frozenset().union(*(it.copied for it in same))):
-            return self.joined([(it.value, it.copied, it.brought) for it in same], [])
+            return self.joined([(it.value, it.copied) for it in same], [])
         return None
 
     def of_definition(self, bodies: list[tuple]) -> Iterator[tuple]:
@@ -531,7 +503,7 @@ class Taken(Widening):
                 yield self.stands_for(body)
             elif not is_met:
                 is_met = True
-                yield self.joined([(it, frozenset(), ()) for it in held], [])
+                yield self.joined([(it, frozenset()) for it in held], [])
 
     def is_taken(self, operands: list[tuple], copied: frozenset) -> bool:
         """The program joins operands of `&`, values of a label and bodies of a definition, all that aren't plain."""
@@ -541,22 +513,6 @@ class Taken(Widening):
 
     def refuse_names(self, one: Alternative) -> None:
         pass
-
-
-def brings_together(one: Alternative) -> bool:
-    """Two declarations of one label, as `[string]` is of each, hold literals or references, and one a reference that isn't the same in both."""
-    held = [it for it in one.declarations if not is_plain(it.value)]
-    for place, it in enumerate(held):
-        for other in held[:place]:
-            is_apart = (holds_shut(it.value) or holds_shut(other.value)) and not (it.value[0] == "ref" and it.value == other.value)
-            if is_apart and ("[string]" in (it.mark, other.mark) or it.label == other.label):
-                return True
-    return False
-
-
-def is_closed_literal(it: tuple) -> bool:
-    """A literal without embeddings, `...` and `[string]`."""
-    return it[0] == "struct" and not it[2] and all(mark not in ("embed", "[string]") for _label, mark, _value in it[1])
 
 
 def references(it: tuple) -> set[str]:
@@ -571,22 +527,10 @@ def size(it: tuple) -> int:
 
 @dataclass
 class Meaning:
-    """What the model says of a source: the numbers that it may be refused by, in place of which the meant package says why, and what it
-    needs that the program doesn't take yet."""
+    """What the model says of a source: the numbers that it may be refused by, or the package that is meant, which says why."""
 
     numbers: set[int] = field(default_factory=set)
-    beyond: set[str] = field(default_factory=set)
     package: Package = field(default_factory=dict)
-
-    def wanted(self, of_package: str, has_marks: bool) -> set[str]:
-        """The answers that are right, where this is how the meant package is refused."""
-        if self.numbers:
-            return {f"error {it}" for it in self.numbers}
-        if not self.beyond:
-            return {of_package}
-        # Names are looked at before literals that have to be opened, and marks before both.
-        ahead = {of_package} & {"error 9", "error 10"}
-        return {"error 11", *ahead, *(["error 5"] if has_marks else [])}
 
 
 def meaning_of(sources: list[str]) -> Meaning:
@@ -595,14 +539,12 @@ def meaning_of(sources: list[str]) -> Meaning:
     files = [reader.package() for reader in readers]
     package = together(files)
     taken = Taken(package)
-    meaning, meant = Meaning(beyond=taken.beyond), {name: [] for name in package}
+    meaning, meant = Meaning(), {name: [] for name in package}
     for name, bodies in package.items():
         try:
             meant[name] += taken.of_definition(bodies)
         except Refused as why:
             meaning.numbers.add(why.number)
-    if taken.beyond:
-        meaning.numbers.add(11)
     if sum(size(body) for bodies in meant.values() for body in bodies) > MOST_NODES:
         meaning.numbers.add(14)
     if meaning.numbers:
@@ -674,12 +616,11 @@ class Tried:
         """How the package is answered, and then what differs."""
         printed, refusal = self.widen(sources)
         meaning = meaning_of(sources)
-        of_package = "" if meaning.numbers else self.run(["widen"], [as_written(meaning.package)])[1]
-        wanted = meaning.wanted(of_package, any("*" in source for source in sources))
-        yield f"{refusal or 'accepted'}{' for what is not taken yet' if refusal == 'error 11' and meaning.beyond else ''}"
+        wanted = {f"error {it}" for it in meaning.numbers} or {self.run(["widen"], [as_written(meaning.package)])[1]}
+        yield refusal or "accepted"
         said = f"the program says {refusal!r} {printed}"
         if refusal not in wanted:
-            yield f"wanted {sorted(wanted)} {sorted(meaning.beyond)} {as_written(meaning.package)}and {said}"
+            yield f"wanted {sorted(wanted)} {as_written(meaning.package)}and {said}"
         if is_refused(sources) and not refusal:
             yield f"is refused by the model, and {said}"
         if refusal:
@@ -716,8 +657,8 @@ class Tried:
     def faults_of_row(self, row: Row) -> Iterator[str]:
         """How the program differs from a row."""
         printed, refusal = self.widen([row.source])
-        if refusal != (row.so_far or row.refusal()):
-            yield f"wanted {row.so_far or row.refusal()!r}, and the program says {refusal!r} {printed}"
+        if refusal != row.refusal():
+            yield f"wanted {row.refusal()!r}, and the program says {refusal!r} {printed}"
         elif not refusal:
             if row.differs(parsed(printed)):
                 yield f"is written as {printed}"
@@ -760,7 +701,7 @@ def on_program(words: argparse.Namespace) -> int:
     for it in (it for some in faults for it in some):
         print(it)
     told = Counter(answer for answer, _faults in answers)
-    print(f"{len(of_rows)} rows, {sum(bool(row.so_far) for row in rows())} of them of what isn't taken yet")
+    print(f"{len(of_rows)} rows")
     print(", ".join(f"{many} {said}" for said, many in told.most_common()))
     failed = sum(bool(it) for it in faults)
     print(f"{len(faults) - failed} passed, {failed} failed")

@@ -10,7 +10,7 @@ are tried before code stands on them.
   first place.
 - Where the opening rule refuses a conjunction, the values of a label or the bodies of a definition, the operands are joined in the same
   way, if each that isn't plain is put together from literals that nothing has closed: no reference and no `close`. What is plain stays
-  beside them. Of a conjunction this is asked as it is written, where a literal that embeds something doesn't end with `...`.
+  beside them. This is asked as they are written, where a literal that embeds something doesn't end with `...`.
 - A field may be missing where its value has a default, which is one marked operand of its disjunction. Such a disjunction is a value, and
   not what a literal is put together from.
 - Refused are: by 5 a mark elsewhere, a second one, and a default beside another declaration that may be absent; by 10 a name that would
@@ -272,8 +272,9 @@ def joined_by(mark: str, operands: list[tuple]) -> tuple:
 
 @dataclass(frozen=True)
 class Declaration:
-    """A declaration in a join: what it says, the names that it was copied from, the embedding that brought it (none where it stands in the
-    literal itself), and the labels of the literal that it was written in."""
+    """A declaration in a join: what it says, the names that it was copied from, the embeddings, one inside of the other, that brought it (none
+    where it stands in the literal itself; those of a definition that is embedded are one with its own embedding), and the labels of the
+    literal that it was written in."""
 
     label: str
     mark: str
@@ -329,7 +330,7 @@ class Widening:
                 continue
             further: list[Alternative] = []
             for state in states:
-                found = self.alternatives(value, copied, state, reaching, True, (*brought, place))
+                found = self.alternatives(value, copied, state, reaching, True, brought if reaching else (*brought, place))
                 if found is None:
                     return None
                 further += found
@@ -394,35 +395,35 @@ class Widening:
 
     # What expressions stand for.
 
-    def stands_for(self, it: tuple, copied: frozenset = frozenset(), brought: tuple = ()) -> tuple:
+    def stands_for(self, it: tuple, copied: frozenset = frozenset()) -> tuple:
         form = it[0]
         self.count += 1
         if self.count > 40 * MOST_NODES:
             raise Refused(14, "too large")
         if form == "close":
-            return self.stands_for(it[1], copied, brought)
+            return self.stands_for(it[1], copied)
         if form == "marked":
-            return ("marked", self.stands_for(it[1], copied, brought))
+            return ("marked", self.stands_for(it[1], copied))
         if form == "or":
-            return ("or", [self.stands_for(part, copied, brought) for part in it[1]])
+            return ("or", [self.stands_for(part, copied) for part in it[1]])
         if form == "and":
-            return self.conjunction(it[1], copied, brought)
+            return self.conjunction(it[1], copied)
         if form == "list":
-            return ("list", [self.stands_for(part, copied, brought) for part in it[1]], it[2] and self.stands_for(it[2], copied, brought))
+            return ("list", [self.stands_for(part, copied) for part in it[1]], it[2] and self.stands_for(it[2], copied))
         if form == "struct":
-            found = self.of_literal(it, copied, Alternative((), False, frozenset()), (), brought)
+            found = self.of_literal(it, copied, Alternative((), False, frozenset()), (), ())
             if found is None:
                 raise Refused(11, "an embedding without alternatives")
             return joined_by("or", [self.literal(one) for one in found])
         return it
 
-    def conjunction(self, operands: list[tuple], copied: frozenset, brought: tuple) -> tuple:
+    def conjunction(self, operands: list[tuple], copied: frozenset) -> tuple:
         """A conjunction of what is shut stays: whether it narrows a definition is seen where all is meant."""
-        meant = [self.stands_for(it, copied, brought) for it in operands]
+        meant = [self.stands_for(it, copied) for it in operands]
         if not asks_joining(operands) or any(is_shut(it) for it in operands if not is_plain(it)):
             return ("and", meant)
         try:
-            return self.joined([(it, copied, brought) for it in operands], meant)
+            return self.joined([(it, copied) for it in operands], meant)
         except Refused:
             if breaks_opening(meant):
                 raise
@@ -431,49 +432,52 @@ class Widening:
     def joined(self, operands: list[tuple], meant: list[tuple]) -> tuple:
         """Operands that the opening rule refuses, joined: refused where one of them that isn't plain is shut or has no alternatives."""
         states = [Alternative((), False, frozenset())]
-        for it, copied, brought in operands:
+        for it, copied in operands:
             if is_plain(it):
                 continue
             further: list[Alternative] = []
             for state in states:
-                found = None if is_shut(it) else self.alternatives(it, copied, state, (), False, brought)
+                found = None if is_shut(it) else self.alternatives(it, copied, state, (), False)
                 if found is None:
                     raise Refused(11, "what isn't opened can't be joined")
                 further += found
                 self.bound(further)
             states = further
         together = joined_by("or", [self.literal(one) for one in states])
-        first = next(place for place, (it, _copied, _brought) in enumerate(operands) if not is_plain(it))
-        kept = [together if place == first else meant[place] for place, (it, _copied, _brought) in enumerate(operands) if place == first or is_plain(it)]
+        first = next(place for place, (it, _copied) in enumerate(operands) if not is_plain(it))
+        kept = [together if place == first else meant[place] for place, (it, _copied) in enumerate(operands) if place == first or is_plain(it)]
         return joined_by("and", kept)
 
     def literal(self, one: Alternative) -> tuple:
         """The literal of declarations that are joined, with the values of a label joined where the opening rule asks for it."""
         self.refuse_names(one)
-        every = [it for it in one.declarations if it.mark == "[string]"]
+        self.refuse_relaxed([it for it in one.declarations if not is_plain(it.value)])
         fields: list[tuple] = []
         done: set[str] = set()
         for it in one.declarations:
             if it.mark == "[string]":
-                fields.append((it.label, it.mark, self.stands_for(it.value, it.copied, it.brought)))
+                fields.append((it.label, it.mark, self.stands_for(it.value, it.copied)))
                 continue
             same = [other for other in one.declarations if other.mark != "[string]" and other.label == it.label and not is_plain(other.value)]
-            self.refuse_relaxed(same)
-            value = None if is_plain(it.value) else self.together(same, every)
+            value = None if is_plain(it.value) else self.together(same)
             if value is None:
-                fields.append((it.label, it.mark, self.stands_for(it.value, it.copied, it.brought)))
+                fields.append((it.label, it.mark, self.stands_for(it.value, it.copied)))
             elif it.label not in done:
                 done.add(it.label)
                 fields.append((it.label, next((other.mark for other in same if other.mark != "?"), "?"), value))
         return ("struct", fields, one.opened)
 
-    def together(self, same: list[Declaration], every: list[Declaration]) -> tuple | None:
+    def together(self, same: list[Declaration]) -> tuple | None:
         """What the values of a label stand for where they are joined."""
-        meant = [self.stands_for(it.value, it.copied, it.brought) for it in same]
-        above = [self.stands_for(it.value, it.copied, it.brought) for it in every]
-        if not breaks_opening(meant + above) or not breaks_opening(meant):
+        meant = [self.stands_for(it.value, it.copied) for it in same]
+        if not asks_joining([it.value for it in same]):
             return None
-        return self.joined([(it.value, it.copied, it.brought) for it in same], meant)
+        try:
+            return self.joined([(it.value, it.copied) for it in same], meant)
+        except Refused:
+            if breaks_opening(meant):
+                raise
+            return None
 
     def refuse_names(self, one: Alternative) -> None:
         labels = frozenset(it.label for it in one.declarations if it.mark != "[string]" and not isinstance(it.label, Quoted))
@@ -482,13 +486,16 @@ class Widening:
                 raise Refused(10, "a name would name a field of another literal")
 
     @staticmethod
-    def refuse_relaxed(same: list[Declaration]) -> None:
-        """Two values of a label of which one was brought by an embedding and holds something shut: there cue opens what is shut."""
-        for it in same:
-            for other in same:
-                is_apart = it is not other and it.brought != other.brought and not is_plain(it.value) and not is_plain(other.value)
+    def refuse_relaxed(held: list[Declaration]) -> None:
+        """Two values of a label, as `[string]` is one of each: one was brought by an embedding and holds something shut, and the other comes
+        from elsewhere. There cue opens what is shut."""
+        for it in held:
+            if not it.brought or not holds_shut(it.value):
+                continue
+            for other in held:
+                is_of_one = "[string]" in (it.mark, other.mark) or it.label == other.label
                 is_one = it.value[0] == "ref" and it.value == other.value
-                if is_apart and it.brought and holds_shut(it.value) and not is_one:
+                if is_of_one and it.brought != other.brought and not is_one:
                     raise Refused(11, "what an embedding closes would be opened")
 
     # Defaults.
@@ -526,10 +533,15 @@ class Widening:
     def of_bodies(self, bodies: list[tuple]) -> list[tuple]:
         """What bodies of a definition stand for: those that aren't plain are one where the opening rule refuses them."""
         found = [self.stands_for(body) for body in bodies]
-        if not breaks_opening(found):
-            return found
         held = [place for place, body in enumerate(bodies) if not is_plain(body)]
-        together = self.joined([(bodies[place], frozenset(), ()) for place in held], [found[place] for place in held])
+        if not asks_joining(bodies):
+            return found
+        try:
+            together = self.joined([(bodies[place], frozenset()) for place in held], [found[place] for place in held])
+        except Refused:
+            if breaks_opening(found):
+                raise
+            return found
         return [together if place == held[0] else it for place, it in enumerate(found) if place not in held[1:]]
 
     def whole(self) -> Package:

@@ -148,27 +148,27 @@ fn other_fields<'a>(near: Near<'_, 'a>) -> Option<&'a str> {
 /// What is said first where the wide profile takes what is embedded.
 const TAKEN: &str = "`--profile wide` takes embeddings; without it ";
 
-/// Whether the wide profile takes what a struct embeds from a token on: definitions, literals and what parentheses hold, as alternatives, and what
-/// `&` joins where no definition is beside it.
+/// Whether the wide profile takes what a struct embeds from a token on, by its form: definitions, literals and what parentheses hold, as alternatives,
+/// and what `&` joins with one definition at most.
 fn is_taken(near: Near<'_, '_>) -> bool {
     let Some(embedded) = near.embedding() else {
         return false;
     };
-    let (mut is_joined, mut has_definition) = (false, false);
+    let mut has_definition = false;
     let mut next = Some(near);
     for _ in embedded.from..embedded.to {
         let Some(token) = next.filter(|token| token.place < embedded.to) else {
             break;
         };
         let here = token.here();
-        if !is_taken_token(here) {
+        let is_definition = here.sort == Sort::Definition;
+        if !is_taken_token(here) || is_definition && has_definition {
             return false;
         }
-        is_joined = is_joined || here.text == "&";
-        has_definition = has_definition || here.sort == Sort::Definition;
+        has_definition = (has_definition || is_definition) && here.text != "|";
         next = token.next();
     }
-    !(is_joined && has_definition)
+    true
 }
 
 /// Whether embeddings have a token, outside of brackets.

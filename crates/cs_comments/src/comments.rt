@@ -1,7 +1,11 @@
 // The comments on fields, and the declarations that carry them in trees.
 use cs_grammar::{Expr, Field, FieldMark};
+use itoa::Buffer;
 use std::alloc::{AllocError, Global};
 use std::vec::IntoIter;
+
+/// What is before the number of a comment in a name that carries it, so that no source spells that name.
+const BEFORE_NUMBER: &str = " ";
 
 /// How many bytes the comments, labels and defaults of all notes have at most. Those of a package have fewer; but where structs are put
 /// together, those of one field can stand in many of them.
@@ -52,9 +56,9 @@ impl Room {
     }
 }
 
-/// The comments on the fields of sources, by number. A tree carries the number of a comment as the value of a declaration before the
-/// field that it is on. That declaration is a `[string]`, since no others are put together with these: wherever the field is brought, its
-/// comment is too. It isn't in quotes, as each other `[string]` is.
+/// The comments on the fields of sources, by number. A tree carries the number of a comment in a name, the value of a declaration before the
+/// field that it is on, with the same label: wherever the field is brought, its comment is too. A name is plain, so that nothing is put together
+/// with that declaration, and a literal narrows a definition with it as without.
 #[derive(Drop)]
 pub(crate) struct Comments {
     numbered: Vec<Comment>,
@@ -76,14 +80,14 @@ impl Comments {
         field: &Field,
         text: String,
     ) -> Result<Field, AllocError> {
-        let number = i64::try_from(self.numbered.len()).unwrap_or(i64::MAX);
+        let value = name_of(alloc, self.numbered.len())?;
         let label = label_of(field)?;
         self.numbered.push(Comment { label, text })?;
         Ok(Field {
-            label: String::new(alloc),
-            quoted: false,
-            mark: FieldMark::Every { at: 0 },
-            value: Expr::Int(number),
+            label: field.label.clone()?,
+            quoted: field.quoted,
+            mark: mark_beside(field.mark),
+            value,
         })
     }
 
@@ -116,12 +120,26 @@ fn label_of(field: &Field) -> Result<Option<String>, AllocError> {
     }
 }
 
+/// The mark of the declaration that carries the comment on a field: it asks for nothing.
+fn mark_beside(mark: FieldMark) -> FieldMark {
+    match mark {
+        FieldMark::Every { at } => FieldMark::Every { at },
+        FieldMark::Regular | FieldMark::Optional | FieldMark::Required => FieldMark::Optional,
+    }
+}
+
+/// The name that carries a number.
+fn name_of(alloc: Global, number: usize) -> Result<Expr, AllocError> {
+    let mut text = String::new(alloc);
+    text.push_str(BEFORE_NUMBER)?;
+    text.push_str(Buffer::new().format(number))?;
+    Ok(Expr::Name { text, at: 0 })
+}
+
 /// The number of the comment that a declaration carries, if it carries one.
 pub(crate) fn carried_number(field: &Field) -> Option<usize> {
-    match (field.mark, &field.value) {
-        (FieldMark::Every { .. }, Expr::Int(number)) if !field.quoted => {
-            usize::try_from(*number).ok()
-        },
-        _ => None,
-    }
+    let Expr::Name { text, .. } = &field.value else {
+        return None;
+    };
+    text.strip_prefix(BEFORE_NUMBER)?.parse::<usize>().ok()
 }

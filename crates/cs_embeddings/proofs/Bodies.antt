@@ -21,7 +21,7 @@ use Rattle.cs_grammar.specs.View.{expr_view, definition_view, file_view}
 use Rattle.cs_grammar.specs.declared.ast.Definition.{Definition}
 use Rattle.cs_grammar.specs.declared.ast.Expr.{Expr}
 use Rattle.cs_grammar.specs.declared.ast.File.{File}
-use Rattle.cs_embeddings.specs.Checks.{TellsEntry, TellsTable, TellsBases, TellsBodies, bodies_view}
+use Rattle.cs_embeddings.specs.Checks.{TellsEntry, TellsTable, TellsBodies, bodies_view}
 use Rattle.cs_embeddings.specs.Flaws.{is_none}
 use Rattle.cs_embeddings.specs.declared.definitions.Bodies.{Bodies}
 
@@ -143,9 +143,8 @@ definitions_more fs i f l is =
     ∙ ap (λ ds. flat_map definitions (map file_view (take i fs)) ++ ds) (append-nil (map definition_view f.definitions.items))
 
 -- none yet
-pub none_told : (b : Bodies) → b.by_name.entries ≡ [] → TellsBases b.bases (λ s. None) → b.names.items ≡ [] → b.none.items ≡ [] → TellsBodies b []
-none_told b empty bases bare none = record {
-  bases = bases;
+pub none_told : (b : Bodies) → b.by_name.entries ≡ [] → b.names.items ≡ [] → b.none.items ≡ [] → TellsBodies b []
+none_told b empty bare none = record {
   table = λ s. subst (λ o. TellsEntry o []) (sym (empty_at s)) refl;
   none = none;
   named = λ s. ap (has_name s) bare;

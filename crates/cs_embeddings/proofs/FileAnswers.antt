@@ -1,5 +1,5 @@
 -- What is answered of files, where nothing of their embeddings is at fault.
-use Rattle.std.proofs.Common.{◌≡◌, ℕ, zero, suc, ◌≤◌, List, [], ◌∷◌, ◌++◌, Some, Result, Ok, Err, map, slice_get, subst, arith}
+use Rattle.std.proofs.Common.{◌≡◌, ℕ, zero, suc, ◌≤◌, List, [], ◌∷◌, ◌++◌, Some, Result, Ok, Err, map, slice_get, refl, subst, arith}
 use Rattle.std.specs.Result.{IfOk, IfErr, IsOkUnless}
 use Rattle.std.specs.List.{flat_map}
 use Rattle.std.specs.declared.alloc.Global.{Global}
@@ -10,7 +10,8 @@ use Rattle.cs_grammar.specs.View.{file_view}
 use Rattle.cs_grammar.specs.declared.ast.File.{File}
 use Rattle.cs_embeddings.proofs.FileParts.{height-append}
 use Rattle.cs_embeddings.specs.Bodies.{left_in}
-use Rattle.cs_embeddings.specs.Made.{IsNoRoomForFiles, MakesFiles}
+use Rattle.cs_embeddings.specs.Flaws.{Flaw, unknown, no_struct}
+use Rattle.cs_embeddings.specs.Made.{IsFlaw, IsNoRoomForFiles, MakesFiles}
 use Rattle.cs_embeddings.specs.Without.{IsJoined, IsWithin, IsRefusal, all_definitions, flaws_of_files, clashes_of_files, joined_files}
 use Rattle.cs_embeddings.specs.declared.fault.EmbeddingFault.{EmbeddingFault}
 use Rattle.cs_embeddings.specs.declared.fault.EmbeddingFault.TheVariants.{OutOfMemory, UnknownName, NoStruct, Reopened, TooHigh, TooLarge}
@@ -25,6 +26,28 @@ no_higher (g ∷ fs) zero f is =
 no_higher (g ∷ fs) (suc i) f is =
     let later = no_higher fs i f is in
     let all = height-append (definitions g) (flat_map definitions fs) in omega arith
+
+at_none : (f : Flaw) (i : ℕ) {xs : List (ℕ × Flaw)} → xs ≡ [] → slice_get xs 0 ≡ Some (i, f) → ⊥
+at_none f i none h = let k : ◌≡◌ {A = _} (slice_get {X = ℕ × Flaw} [] 0) (Some (i, f)) = subst (λ (ys : List (ℕ × Flaw)). slice_get ys 0 ≡ Some (i, f)) none h in cc
+
+module _ (fs : List FileTree) where
+  -- the first flaw
+  pub refused_flaw : (e : EmbeddingFault) → IsFlaw e (flaws_of_files fs) → IsRefusal e fs
+  refused_flaw OutOfMemory h = tt
+  refused_flaw (UnknownName i o) h = h
+  refused_flaw (NoStruct i o) h = h
+  refused_flaw (Reopened i o) h = absurd h
+  refused_flaw (TooHigh i) h = absurd h
+  refused_flaw TooLarge h = absurd h
+
+  -- only where memory ran out, if there is none
+  pub no_flaw : flaws_of_files fs ≡ [] → (e : EmbeddingFault) → IsFlaw e (flaws_of_files fs) → e ≡ OutOfMemory
+  no_flaw flawless OutOfMemory h = refl
+  no_flaw flawless (UnknownName i o) h = absurd (at_none (unknown o) i flawless h)
+  no_flaw flawless (NoStruct i o) h = absurd (at_none (no_struct o) i flawless h)
+  no_flaw flawless (Reopened i o) h = absurd h
+  no_flaw flawless (TooHigh i) h = absurd h
+  no_flaw flawless TooLarge h = absurd h
 
 module _ (fs : List FileTree) (flawless : flaws_of_files fs ≡ []) where
   pub found_of : (r : Result (Vec File Global) EmbeddingFault) → MakesFiles r (all_definitions fs) (left_in fs) → IfOk r (λ v. IsJoined fs (map file_view v.items))

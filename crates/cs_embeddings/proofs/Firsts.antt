@@ -1,5 +1,5 @@
 -- What the parts of a list find, one after another, and what is the first of it.
-use Rattle.std.proofs.Common.{◌≡◌, ℕ, ◌+◌, ◌<◌, ◌≤◌, List, [], ◌∷◌, ◌++◌, Some, Result, subst, map, drop, length, get_or, slice_get, refl, sym, ap, ◌∙◌}
+use Rattle.std.proofs.Common.{◌≡◌, ℕ, ◌+◌, ◌<◌, ◌≤◌, List, [], ◌∷◌, ◌++◌, Option, Some, None, Result, subst, map, drop, length, get_or, slice_get, refl, sym, ap, ◌∙◌}
 use Rattle.std.proofs.lemmas.List.{map-append, append_assoc}
 use Rattle.cs_grammar.specs.View.{expr_view, exprs_view, fields_view, SeenDeclaration, field_seen, embedding_seen, declaration_view, declarations_view, declarations_of}
 use Rattle.cs_grammar.specs.Tree.{DefinitionTree}
@@ -7,7 +7,7 @@ use Rattle.cs_grammar.specs.declared.ast.Declaration.{Declaration}
 use Rattle.cs_grammar.specs.declared.ast.Expr.{Expr}
 use Rattle.cs_grammar.specs.declared.ast.Field.{Field}
 use Rattle.cs_grammar.proofs.Views.{view-value}
-use Rattle.cs_embeddings.specs.Checks.{flaws_seen, Finds}
+use Rattle.cs_embeddings.specs.Checks.{flaws_seen, Finds, IsFirst}
 use Rattle.cs_embeddings.specs.Flaws.{unknown, unknown_in, unknown_each, flaws, flaws_here, flaws_fields, flaws_declarations}
 use Rattle.cs_embeddings.proofs.Walks.{at_place, drop_all}
 
@@ -15,6 +15,10 @@ use Rattle.cs_embeddings.proofs.Walks.{at_place, drop_all}
 pub first_left : {X : Type 0} (xs ys : List X) (x : X) → slice_get xs 0 ≡ Some x → slice_get (xs ++ ys) 0 ≡ Some x
 first_left [] ys x h = cc
 first_left (y ∷ xs) ys x h = h
+
+pub found_left : {X : Type 0} (xs ys : List X) (x : Option X) → IsFirst x xs → IsFirst x (xs ++ ys)
+found_left xs ys None h = tt
+found_left xs ys (Some x) h = first_left xs ys x h
 
 -- the first of the second part, where the first has none
 pub first_right : {X : Type 0} (xs ys : List X) (x : X) → xs ≡ [] → slice_get ys 0 ≡ Some x → slice_get (xs ++ ys) 0 ≡ Some x
@@ -33,14 +37,14 @@ module _ {A X : Type 0} (F : List A → List X) (own : A → List X) (parts : (a
   none_more none = cut ∙ none_left (own a) (F (drop (i + 1) xs)) none
 
   -- the first is that of this element
-  pub first_here : (x : X) → slice_get (own a) 0 ≡ Some x → slice_get (F xs) 0 ≡ Some x
-  first_here x h = rw cut (first_left (own a) (F (drop (i + 1) xs)) x h)
+  pub first_here : (x : Option X) → IsFirst x (own a) → IsFirst x (F xs)
+  first_here x h = subst (IsFirst x) (sym cut) (found_left (own a) (F (drop (i + 1) xs)) x h)
 
 -- no element has any
 pub all_none : {A X : Type 0} (F : List A → List X) (xs : List A) (i : ℕ) → F [] ≡ [] → length xs ≤ i → F xs ≡ F (drop i xs) → F xs ≡ []
 all_none F xs i none l all = all ∙ ap F (drop_all xs i l) ∙ none
 
-pub finds_as : {Y E A : Type 0} (view : E → A) (r : Result Y E) (xs ys : List A) → xs ≡ ys → Finds view r ys → Finds view r xs
+pub finds_as : {Y E A : Type 0} (view : E → Option A) (r : Result Y E) (xs ys : List A) → xs ≡ ys → Finds view r ys → Finds view r xs
 finds_as view r xs ys e h = subst (λ zs. Finds view r zs) (sym e) h
 
 -- ---- the parts

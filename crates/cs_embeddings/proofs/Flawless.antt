@@ -1,11 +1,13 @@
 -- Where nothing is at fault, each expression that is embedded can be embedded.
 use Rattle.std.proofs.Common.{◌≡◌, ℕ, suc, Bool, true, false, ◌&&◌, List, [], ◌∷◌, ◌++◌, map, refl, cond}
+use Rattle.std.proofs.lemmas.Bool.{and_parts}
 use Rattle.std.specs.List.{AllByRecursion, flat_map}
 use Rattle.cs_grammar.specs.Tree.{Tree, atom, named, reference, conjunction, disjunction, paren, struct, list, wide, marked, merged, shut, Declarations, no_declaration, declared, embedded, Trees, none, more, Fields, no_field, field, End, closed, any, each, DefinitionTree, body, FileTree, definitions}
 use Rattle.cs_embeddings.specs.Alternatives.{most_steps}
 use Rattle.cs_embeddings.specs.Checks.{AreWell}
 use Rattle.cs_embeddings.specs.Embedded.{can_be_embedded, embeds_well, embed_well, fields_embed_well, declarations_embed_well, end_embeds_well}
 use Rattle.cs_embeddings.specs.Flaws.{Flaw, unknown, no_struct, unknown_in, flaws_here, flaws, flaws_each, flaws_fields, flaws_declarations, flaws_end}
+use Rattle.cs_embeddings.specs.Narrowed.{joins_well}
 use Rattle.cs_embeddings.specs.Without.{found_from, all_definitions, flaws_of_files}
 
 pub first_empty : {X : Type 0} (xs ys : List X) → xs ++ ys ≡ [] → xs ≡ []
@@ -19,7 +21,7 @@ second_empty (x ∷ xs) ys h = cc
 pub both_true : (a b : Bool) → a ≡ true → b ≡ true → (a && b) ≡ true
 both_true a b h k = rw (h, k) refl
 
--- what is found in an expression that can't be embedded
+-- what is found in an expression that can't be embedded, or joins what can't be
 not_embedded : (o : ℕ) (b : Bool) → cond b [] (no_struct o ∷ []) ≡ [] → b ≡ true
 not_embedded o true h = refl
 not_embedded o false h = cc
@@ -30,7 +32,9 @@ module _ (ds : List DefinitionTree) where
   can e = can_be_embedded ds most_steps e
 
   here_well : (o : ℕ) (e : Tree) → flaws_here ds o e ≡ [] → can e ≡ true
-  here_well o e h = not_embedded o (can e) (second_empty (map unknown (unknown_in ds e)) (cond (can e) [] (no_struct o ∷ [])) h)
+  here_well o e h =
+      let well = joins_well ds most_steps e in
+      let p = and_parts (can e) well (not_embedded o (can e && well) (second_empty (map unknown (unknown_in ds e)) (cond (can e && well) [] (no_struct o ∷ [])) h)) in p.0
 
   mutual
     pub flawless_well : (e : Tree) → flaws ds e ≡ [] → embeds_well can e ≡ true

@@ -184,7 +184,7 @@ label_added l k r ds bs d name t same one told without after put =
 -- ---- what stands for a declaration
 
 parts : List ℕ → Bool → FieldMark → Trees → Option ℕ → Brought
-parts s q m es p = record { label = record { text = s; quotes = q }; mark = m; value = conjunction es; place = p }
+parts s q m es p = record { label = record { text = s; quotes = q }; mark = m; value = conjunction es; place = p; embedding = None }
 
 together_as : (t : Together) (s : List ℕ) (bs : List Brought) → IsTogether t s bs → together_view t ≡ together s bs
 unfolding parts

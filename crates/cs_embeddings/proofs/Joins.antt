@@ -1,5 +1,5 @@
 -- What joining does to each form of expression, and to each declaration, body or operand in turn.
-use Rattle.std.proofs.Common.{◌≡◌, ℕ, zero, suc, ◌+◌, ◌<◌, ◌≤◌, Bool, true, false, not, List, [], ◌∷◌, ◌++◌, map, length, get_or, drop, Option, Some, refl, sym, ap, ap₂, ◌∙◌, subst, arith}
+use Rattle.std.proofs.Common.{◌≡◌, ℕ, zero, suc, ◌+◌, ◌<◌, ◌≤◌, Bool, true, false, not, List, [], ◌∷◌, ◌++◌, map, length, get_or, drop, refl, sym, ap, ap₂, ◌∙◌, subst, arith}
 use Rattle.std.proofs.lemmas.Bool.{and_parts, both_ways, cond-true, cond-false}
 use Rattle.std.proofs.lemmas.List.{drop_more}
 use Rattle.std.specs.Borrow.{Bor}
@@ -11,10 +11,9 @@ use Rattle.cs_grammar.specs.declared.ast.Declaration as Declared
 use Rattle.cs_grammar.specs.declared.ast.Expr.{Expr}
 use Rattle.cs_grammar.specs.declared.ast.Field.{Field}
 use Rattle.cs_grammar.proofs.Views.{view-declared-field, view-embedded}
-use Rattle.cs_embeddings.specs.Alternatives.{Alternative, with_fields, opened_if, meets, meet, at, join_declarations, join_bodies, join_operands, join_all, join_definition, alternatives}
+use Rattle.cs_embeddings.specs.Alternatives.{Origin, Alternative, with_fields, opened_if, meets, meet, embedded_at, referred_at, join_declarations, join_bodies, join_operands, join_all, join_definition, alternatives}
 use Rattle.cs_embeddings.specs.Checks.{bodies_view}
 use Rattle.cs_embeddings.specs.Embedded.{has_operand, all_embedded, embeds_well, declarations_embed_well, can_be_embedded}
-use Rattle.cs_embeddings.specs.Narrowed.{may_join}
 use Rattle.cs_embeddings.specs.Views.{weight_of, with_field, IsTooMuch}
 use Rattle.cs_embeddings.specs.declared.fault.EmbeddingFault.{EmbeddingFault}
 use Rattle.cs_embeddings.proofs.Weights.{too_much_of_more, Grows, declarations_grow, bodies_grow, all_grow, map_grows, meet_keeps, weight-append}
@@ -58,7 +57,7 @@ module _ (ds : List DefinitionTree) where
 
   -- ---- the forms: e is f, and one step is taken
 
-  module _ (n left : ℕ) (p : Option ℕ) (a : Alternative) (one : n ≡ suc left) where
+  module _ (n left : ℕ) (p : Origin) (a : Alternative) (one : n ≡ suc left) where
     step : (e f : Tree) → e ≡ f → can_be_embedded ds n e ≡ true → can_be_embedded ds (suc left) f ≡ true
     step e f is h = subst (λ g. can_be_embedded ds (suc left) g ≡ true) is (subst (λ m. can_be_embedded ds m e ≡ true) one h)
 
@@ -90,31 +89,29 @@ module _ (ds : List DefinitionTree) where
     pub at_conjunction : (e : Tree) (es : Trees) → e ≡ conjunction es → can_be_embedded ds n e ≡ true
         → (all_embedded (can_be_embedded ds left) es ≡ true) × (alternatives ds n p e a ≡ join_all (alternatives ds left) p es (a ∷ []))
     unfolding can_be_embedded alternatives
-    at_conjunction e es is h =
-        let w = and_parts (may_join ds es) (all_embedded (can_be_embedded ds left) es) (step e (conjunction es) is h) in
-        (w.1, stands e (conjunction es) is)
+    at_conjunction e es is h = (step e (conjunction es) is h, stands e (conjunction es) is)
 
     pub at_reference : (e : Tree) (s : List ℕ) (o : ℕ) → e ≡ reference s o → can_be_embedded ds n e ≡ true
         → (list_all (can_be_embedded ds left) (bodies s ds) ≡ true)
-        × (alternatives ds n p e a ≡ join_definition (alternatives ds left) s (at p o) (bodies s ds) a)
+        × (alternatives ds n p e a ≡ join_definition (alternatives ds left) s (referred_at p o) (bodies s ds) a)
     unfolding can_be_embedded alternatives
     at_reference e s o is h = (step e (reference s o) is h, stands e (reference s o) is)
 
 -- ---- a definition, which stands there already or not
 
-module _ (inner : Option ℕ → Tree → Alternative → List Alternative) (s : List ℕ) (o : ℕ) (es : List Tree) (a : Alternative) where
-  pub met_alone : meets s a ≡ true → join_definition inner s o es a ≡ a ∷ []
-  met_alone met = cond-true (meets s a) (a ∷ []) (map (meet s) (join_bodies inner (Some o) es (a ∷ []))) met
+module _ (inner : Origin → Tree → Alternative → List Alternative) (s : List ℕ) (p : Origin) (es : List Tree) (a : Alternative) where
+  pub met_alone : meets s a ≡ true → join_definition inner s p es a ≡ a ∷ []
+  met_alone met = cond-true (meets s a) (a ∷ []) (map (meet s) (join_bodies inner p es (a ∷ []))) met
 
-  pub unmet_bodies : meets s a ≡ false → join_definition inner s o es a ≡ map (meet s) (join_bodies inner (Some o) es (a ∷ []))
-  unmet_bodies unmet = cond-false (meets s a) (a ∷ []) (map (meet s) (join_bodies inner (Some o) es (a ∷ []))) unmet
+  pub unmet_bodies : meets s a ≡ false → join_definition inner s p es a ≡ map (meet s) (join_bodies inner p es (a ∷ []))
+  unmet_bodies unmet = cond-false (meets s a) (a ∷ []) (map (meet s) (join_bodies inner p es (a ∷ []))) unmet
 
 -- ---- one after another
 
 at_place : {X : Type 0} (xs : List X) (i : ℕ) (x : X) → i < length xs → x ≡ get_or xs i x → drop i xs ≡ x ∷ drop (i + 1) xs
 at_place xs i x l is = drop_more xs i x l ∙ ap (λ y. y ∷ drop (i + 1) xs) (sym is)
 
-module _ (can : Tree → Bool) (inner : Option ℕ → Tree → Alternative → List Alternative) (p : Option ℕ) where
+module _ (can : Tree → Bool) (inner : Origin → Tree → Alternative → List Alternative) (p : Origin) where
   module _ (cs : List Declared.Declaration) (i : ℕ) (d : Declared.Declaration) (within : i < length cs) (read : d ≡ get_or cs i d) where
     cut_at : (s : SeenDeclaration) → declaration_view d ≡ s → declarations_view (drop i cs) ≡ declarations_of (s ∷ map declaration_view (drop (i + 1) cs))
     cut_at s is = ap declarations_view (at_place cs i d within read) ∙ ap (λ t. declarations_of (t ∷ map declaration_view (drop (i + 1) cs))) is
@@ -132,7 +129,7 @@ module _ (can : Tree → Bool) (inner : Option ℕ → Tree → Alternative → 
 
       pub embedded_step : (o : ℕ) (e : Expr) → d ≡ Declared.Embedded o e
           → (can (expr_view e) ≡ true) × (declarations_embed_well can (declarations_view (drop (i + 1) cs)) ≡ true)
-          × (join_declarations inner p (declarations_view (drop (i + 1) cs)) (flat_map (inner p (expr_view e)) xs) ≡ all)
+          × (join_declarations inner p (declarations_view (drop (i + 1) cs)) (flat_map (inner (embedded_at p o) (expr_view e)) xs) ≡ all)
       embedded_step o e is =
           let cut = cut_at (embedding_seen o (expr_view e)) (ap declaration_view is ∙ view-embedded o e) in
           let w = subst (λ ts. declarations_embed_well can ts ≡ true) cut well in
@@ -174,8 +171,8 @@ module _ (can : Tree → Bool) (inner : Option ℕ → Tree → Alternative → 
 pub too_much_of_right : (e : EmbeddingFault) (room : ℕ) (xs ys : List Alternative) → IsTooMuch e room ys → IsTooMuch e room (xs ++ ys)
 too_much_of_right e room xs ys = too_much_of_more e room ys (xs ++ ys) (omega (arith, weight-append xs ys))
 
-module _ (can : Tree → Bool) (inner : Option ℕ → Tree → Alternative → List Alternative)
-    (grows : (p : Option ℕ) (e : Tree) → can e ≡ true → Grows (inner p e)) (p : Option ℕ) (e : EmbeddingFault) (room : ℕ) (xs all : List Alternative) where
+module _ (can : Tree → Bool) (inner : Origin → Tree → Alternative → List Alternative)
+    (grows : (p : Origin) (e : Tree) → can e ≡ true → Grows (inner p e)) (p : Origin) (e : EmbeddingFault) (room : ℕ) (xs all : List Alternative) where
   pub declarations_too_much : (cs : Declarations) → declarations_embed_well can cs ≡ true → join_declarations inner p cs xs ≡ all → IsTooMuch e room xs
       → IsTooMuch e room all
   declarations_too_much cs well whole =

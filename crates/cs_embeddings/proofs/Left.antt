@@ -1,15 +1,16 @@
 -- Alternatives that are found one after another, while others are left, and how much they are.
-use Rattle.std.proofs.Common.{◌≡◌, ℕ, suc, ◌+◌, ◌-◌, ◌/◌, ◌<◌, List, [], ◌∷◌, ◌++◌, length, map, Option, append_assoc, sym, ap, ap₂, ◌∙◌, subst, arith}
+use Rattle.std.proofs.Common.{◌≡◌, ℕ, suc, ◌+◌, ◌-◌, ◌/◌, ◌<◌, List, [], ◌∷◌, ◌++◌, length, map, append_assoc, sym, ap, ap₂, ◌∙◌, subst, arith}
 use Rattle.std.proofs.lemmas.List.{map-append, length-map}
 use Rattle.std.specs.Borrow.{Bor}
 use Rattle.cs_grammar.specs.View.{field_view}
 use Rattle.cs_grammar.specs.declared.ast.Field.{Field}
 use Rattle.cs_grammar.proofs.Views.{view-mark, view-value}
-use Rattle.cs_embeddings.specs.Alternatives.{Brought, Alternative}
+use Rattle.cs_embeddings.specs.Alternatives.{Origin, Brought, Alternative}
 use Rattle.cs_embeddings.specs.Gathered.{most_gathered}
-use Rattle.cs_embeddings.specs.Views.{brought_view, alternative_view, alternatives_view, weight_of, IsTooMuch}
+use Rattle.cs_embeddings.specs.Views.{origin_view, brought_view, alternative_view, alternatives_view, weight_of, IsTooMuch}
 use Rattle.cs_embeddings.specs.declared.alternatives.Alternative as rust
 use Rattle.cs_embeddings.specs.declared.alternatives.Brought as brought
+use Rattle.cs_embeddings.specs.declared.alternatives.Origin as rust_origin
 use Rattle.cs_embeddings.specs.declared.fault.EmbeddingFault.{EmbeddingFault}
 use Rattle.cs_embeddings.proofs.Weights.{weight-append, too_much_of_left}
 
@@ -54,14 +55,21 @@ pub met_more : (xs ys : List (Bor (List ℕ))) (s : Bor (List ℕ)) → ys ≡ x
 met_more xs ys s grown = ap (map (λ t. t.now)) grown ∙ map-append (λ (t : Bor (List ℕ)). t.now) xs (s ∷ [])
 
 -- a field as a declaration
-abbrev pub brought_field : Option ℕ → Field → Brought
-brought_field p f = record { label = (field_view f).label; mark = (field_view f).mark; value = (field_view f).value; place = p }
+abbrev pub brought_field : Origin → Field → Brought
+brought_field p f =
+    record { label = (field_view f).label; mark = (field_view f).mark; value = (field_view f).value; place = p.place; embedding = p.embedding }
 
-seen_field : (f : Bor Field) (p : Option ℕ) → brought_view (record { field = f; place = p }) ≡ brought_field p f.now
-seen_field f p = ap₂ (λ m v. record { label = (field_view f.now).label; mark = m; value = v; place = p }) (sym (view-mark f.now)) (sym (view-value f.now))
+-- the same, as the code has it
+abbrev pub brought_by : rust_origin.Origin → Bor Field → brought.Brought
+brought_by p f = record { field = f; place = p.place; embedding = p.embedding }
+
+seen_field : (f : Bor Field) (p : rust_origin.Origin) → brought_view (brought_by p f) ≡ brought_field (origin_view p) f.now
+seen_field f p =
+    ap₂ (λ m v. record { label = (field_view f.now).label; mark = m; value = v; place = p.place; embedding = p.embedding })
+    (sym (view-mark f.now)) (sym (view-value f.now))
 
 -- one field more is declared
-pub declared_more : (xs ys : List brought.Brought) (f : Bor Field) (p : Option ℕ) → ys ≡ xs ++ record { field = f; place = p } ∷ []
-    → map brought_view ys ≡ map brought_view xs ++ brought_field p f.now ∷ []
+pub declared_more : (xs ys : List brought.Brought) (f : Bor Field) (p : rust_origin.Origin) → ys ≡ xs ++ brought_by p f ∷ []
+    → map brought_view ys ≡ map brought_view xs ++ brought_field (origin_view p) f.now ∷ []
 declared_more xs ys f p grown =
-    ap (map brought_view) grown ∙ map-append brought_view xs (record { field = f; place = p } ∷ []) ∙ ap (λ b. map brought_view xs ++ b ∷ []) (seen_field f p)
+    ap (map brought_view) grown ∙ map-append brought_view xs (brought_by p f ∷ []) ∙ ap (λ b. map brought_view xs ++ b ∷ []) (seen_field f p)

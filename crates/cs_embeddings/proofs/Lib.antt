@@ -1,8 +1,7 @@
 -- definitions one after another
 pub mod Bodies
--- the labels of those whose one body is a closed literal
-pub mod Labelled
 -- declarations so far
+pub mod Likeness
 pub mod Clashing
 -- what parts find, one after another
 pub mod Firsts
@@ -36,6 +35,12 @@ pub mod BroughtValues
 pub mod FileParts
 pub mod FoundFiles
 pub mod FileAnswers
+-- what is narrowed where it is embedded, and the labels that are declared
+pub mod SameSteps
+mod ReferredRows
+pub mod RowSteps
+pub mod LabelSteps
+pub mod NarrowedSteps
 -- in how many steps definitions can be embedded
 pub mod Steps
 -- operands as a list of values

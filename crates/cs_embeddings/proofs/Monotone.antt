@@ -5,7 +5,6 @@ use Rattle.std.specs.List.{list_all}
 use Rattle.cs_grammar.specs.Tree.{Tree, atom, named, reference, conjunction, disjunction, paren, struct, list, wide, marked, merged, shut, Declarations, no_declaration, declared, embedded, Trees, none, more, Fields, no_field, field, End, closed, any, each, DefinitionTree}
 use Rattle.cs_grammar.specs.Bodies.{bodies}
 use Rattle.cs_embeddings.specs.Embedded.{has_operand, all_embedded, embeds_well, embed_well, fields_embed_well, declarations_embed_well, end_embeds_well, can_be_embedded}
-use Rattle.cs_embeddings.specs.Narrowed.{may_join}
 
 -- what f takes, g takes
 module _ (f g : Tree → Bool) (takes : (e : Tree) → f e ≡ true → g e ≡ true) where
@@ -73,10 +72,7 @@ module _ (ds : List DefinitionTree) where
       let p = and_parts (has_operand es) (all_embedded (can_be_embedded ds n) es) h in
       and_from (has_operand es) (all_embedded (can_be_embedded ds (suc n)) es) p.0
       (all_more (can_be_embedded ds n) (can_be_embedded ds (suc n)) (step_more n) es p.1)
-  step_more (suc n) (conjunction es) h =
-      let p = and_parts (may_join ds es) (all_embedded (can_be_embedded ds n) es) h in
-      and_from (may_join ds es) (all_embedded (can_be_embedded ds (suc n)) es) p.0
-      (all_more (can_be_embedded ds n) (can_be_embedded ds (suc n)) (step_more n) es p.1)
+  step_more (suc n) (conjunction es) h = all_more (can_be_embedded ds n) (can_be_embedded ds (suc n)) (step_more n) es h
   step_more (suc n) (reference s o) h = bodies_more (can_be_embedded ds n) (can_be_embedded ds (suc n)) (step_more n) (bodies s ds) h
   step_more (suc n) (atom a) h = h
   step_more (suc n) (named s o) h = h

@@ -1,5 +1,5 @@
 -- The steps in which a definition can be embedded, and what the table of them tells.
-use Rattle.std.proofs.Common.{◌≡◌, ℕ, zero, suc, ◌+◌, ◌<◌, ◌≤◌, Bool, true, false, ◌&&◌, ◌||◌, not, cond, List, [], ◌∷◌, ◌++◌, Option, Some, None, is_some, refl, sym, ap, ◌∙◌, subst, nat_le, arith}
+use Rattle.std.proofs.Common.{◌≡◌, ℕ, zero, suc, ◌+◌, ◌<◌, ◌≤◌, Bool, true, false, ◌&&◌, ◌||◌, not, cond, List, [], ◌∷◌, ◌++◌, Option, Some, None, is_some, refl, sym, ap, ap₂, ◌∙◌, subst, nat_le, arith}
 use Rattle.std.specs.Borrow.{Bor}
 use Rattle.std.specs.BTreeMap.{BTreeMap, get_by}
 use Rattle.std.specs.Cmp.Lexicographic.{slice_cmp}
@@ -15,7 +15,6 @@ use Rattle.cs_grammar.specs.Bodies.{bodies}
 use Rattle.cs_embeddings.specs.Checks.{TellsLeast, TellsRounds, TellsSteps, takes_by}
 use Rattle.cs_embeddings.specs.Embedded.{has_operand, all_embedded, fields_embed_well, declarations_embed_well, can_be_embedded}
 use Rattle.cs_embeddings.specs.Flaws.{is_none}
-use Rattle.cs_embeddings.specs.Narrowed.{may_join}
 use Rattle.cs_embeddings.specs.declared.embedded.Embeddable.{Embeddable}
 use Rattle.cs_embeddings.proofs.Bodies.{Named, has_name, has_name_push}
 use Rattle.cs_embeddings.proofs.Monotone.{steps_more}
@@ -28,7 +27,7 @@ can_step ds inner (wide (marked o e)) = false
 can_step ds inner (wide (shut o e)) = false
 can_step ds inner (paren e) = inner e
 can_step ds inner (disjunction es) = has_operand es && all_embedded inner es
-can_step ds inner (conjunction es) = may_join ds es && all_embedded inner es
+can_step ds inner (conjunction es) = all_embedded inner es
 can_step ds inner (reference s o) = list_all inner (bodies s ds)
 can_step ds inner (atom a) = false
 can_step ds inner (named s o) = false
@@ -51,6 +50,10 @@ module _ (ds : List DefinitionTree) where
 
   pub stepped : (n left : ℕ) (e : Tree) (b : Bool) → n ≡ suc left → b ≡ can_step ds (can_be_embedded ds left) e → b ≡ can_be_embedded ds n e
   stepped n left e b one h = h ∙ sym (step left e) ∙ ap (λ m. can_be_embedded ds m e) (sym one)
+
+  -- what can be embedded in a step more
+  pub unstepped : (n left : ℕ) (e f : Tree) → n ≡ suc left → e ≡ f → can_be_embedded ds n e ≡ true → can_step ds (can_be_embedded ds left) f ≡ true
+  unstepped n left e f one is h = sym (step left f) ∙ sym (ap₂ (can_be_embedded ds) one is) ∙ h
 
   pub no_step : (n : ℕ) (e : Tree) → n ≡ 0 → false ≡ can_be_embedded ds n e
   unfolding can_be_embedded

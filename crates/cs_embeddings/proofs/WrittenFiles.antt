@@ -13,7 +13,7 @@ use Rattle.cs_embeddings.proofs.GatheredParts.{IsWrittenBrought, IsStanding, Can
 use Rattle.cs_embeddings.proofs.LeftParts.{left_all}
 use Rattle.cs_embeddings.proofs.Plain.{held_written, beside_two}
 use Rattle.cs_embeddings.proofs.WellAlternatives.{all-append, all-map, all-flat_map}
-use Rattle.cs_embeddings.specs.Alternatives.{Brought, Alternative, nothing, with_declaration, with_fields, opened_if, meets, meet, at, join_declarations, join_bodies, join_operands, join_all, join_definition, alternatives, alternatives_of, most_steps}
+use Rattle.cs_embeddings.specs.Alternatives.{Origin, Brought, Alternative, nothing, with_declaration, with_fields, opened_if, meets, meet, at, itself, embedded_at, referred_at, join_declarations, join_bodies, join_operands, join_all, join_definition, alternatives, alternatives_of, most_steps}
 use Rattle.cs_embeddings.specs.Bodies.{Body, Left, as_declared, bodies_behind, left_behind, joined_body, joined_left}
 use Rattle.cs_embeddings.specs.Gathered.{gathered}
 use Rattle.cs_embeddings.specs.Held.{is_plain, holding, first_place}
@@ -29,46 +29,49 @@ HasWritten a = AllByRecursion IsWrittenBrought a.declarations
 abbrev HaveWritten : List Alternative → Type 0
 HaveWritten xs = AllByRecursion HasWritten xs
 
-one_more : (p : Option ℕ) (l : Label) (m : FieldMark) (e : Tree) → IsWrittenLabel l m → IsWritten by_itself e → (a : Alternative) → HasWritten a
+one_more : (p : Origin) (l : Label) (m : FieldMark) (e : Tree) → IsWrittenLabel l m → IsWritten by_itself e → (a : Alternative) → HasWritten a
     → HasWritten (with_declaration p l m e a)
-one_more p l m e label here a h = all-append IsWrittenBrought a.declarations (record { label = l; mark = m; value = e; place = p } ∷ []) h ((label, here), tt)
+one_more p l m e label here a h =
+    all-append IsWrittenBrought a.declarations
+    (record { label = l; mark = m; value = e; place = p.place; embedding = p.embedding } ∷ []) h ((label, here), tt)
 
-fields_written : (p : Option ℕ) (fs : Fields) → AreWrittenFields fs → (a : Alternative) → HasWritten a → HasWritten (with_fields p fs a)
+fields_written : (p : Origin) (fs : Fields) → AreWrittenFields fs → (a : Alternative) → HasWritten a → HasWritten (with_fields p fs a)
 fields_written p no_field h a k = k
 fields_written p (field l m e fs) h a k = fields_written p fs h.2 (with_declaration p l m e a) (one_more p l m e h.0 h.1 a k)
 
-module _ (inner : Option ℕ → Tree → Alternative → List Alternative)
-    (joins : (p : Option ℕ) (q : Place) (e : Tree) → IsWritten q e → (a : Alternative) → HasWritten a → HaveWritten (inner p e a)) where
-  declarations_written : (p : Option ℕ) (cs : Declarations) → AreWrittenDeclarations cs → (xs : List Alternative) → HaveWritten xs
+module _ (inner : Origin → Tree → Alternative → List Alternative)
+    (joins : (p : Origin) (q : Place) (e : Tree) → IsWritten q e → (a : Alternative) → HasWritten a → HaveWritten (inner p e a)) where
+  declarations_written : (p : Origin) (cs : Declarations) → AreWrittenDeclarations cs → (xs : List Alternative) → HaveWritten xs
       → HaveWritten (join_declarations inner p cs xs)
   declarations_written p no_declaration h xs k = k
   declarations_written p (declared l m e cs) h xs k =
       declarations_written p cs h.2 (map (with_declaration p l m e) xs)
       (all-map HasWritten HasWritten (with_declaration p l m e) (one_more p l m e h.0 h.1) xs k)
   declarations_written p (embedded o e cs) h xs k =
-      declarations_written p cs h.1 (flat_map (inner p e) xs) (all-flat_map HasWritten HasWritten (inner p e) (joins p by_itself e h.0) xs k)
+      let r = embedded_at p o in
+      declarations_written p cs h.1 (flat_map (inner r e) xs) (all-flat_map HasWritten HasWritten (inner r e) (joins r by_itself e h.0) xs k)
 
-  bodies_written : (p : Option ℕ) (es : List Tree) → AllByRecursion (IsWritten by_itself) es → (xs : List Alternative) → HaveWritten xs
+  bodies_written : (p : Origin) (es : List Tree) → AllByRecursion (IsWritten by_itself) es → (xs : List Alternative) → HaveWritten xs
       → HaveWritten (join_bodies inner p es xs)
   bodies_written p [] h xs k = k
   bodies_written p (e ∷ es) h xs k = bodies_written p es h.1 (flat_map (inner p e) xs)
       (all-flat_map HasWritten HasWritten (inner p e) (joins p by_itself e h.0) xs k)
 
-  operands_written : (p : Option ℕ) (q : Place) (es : Trees) → AreWritten q es → (a : Alternative) → HasWritten a → HaveWritten (join_operands inner p es a)
+  operands_written : (p : Origin) (q : Place) (es : Trees) → AreWritten q es → (a : Alternative) → HasWritten a → HaveWritten (join_operands inner p es a)
   operands_written p q none h a k = tt
   operands_written p q (more e es) h a k = all-append HasWritten (inner p e a) (join_operands inner p es a) (joins p q e h.0 a k)
       (operands_written p q es h.1 a k)
 
-  all_written : (p : Option ℕ) (q : Place) (es : Trees) → AreWritten q es → (xs : List Alternative) → HaveWritten xs → HaveWritten (join_all inner p es xs)
+  all_written : (p : Origin) (q : Place) (es : Trees) → AreWritten q es → (xs : List Alternative) → HaveWritten xs → HaveWritten (join_all inner p es xs)
   all_written p q none h xs k = k
   all_written p q (more e es) h xs k = all_written p q es h.1 (flat_map (inner p e) xs)
       (all-flat_map HasWritten HasWritten (inner p e) (joins p q e h.0) xs k)
 
-  definition_written : (s : List ℕ) (o : ℕ) (es : List Tree) → AllByRecursion (IsWritten by_itself) es → (a : Alternative) → HasWritten a
-      → HaveWritten (join_definition inner s o es a)
-  definition_written s o es h a k =
-      let xs = join_bodies inner (Some o) es (a ∷ []) in
-      let all = all-map HasWritten HasWritten (meet s) (λ b g. g) xs (bodies_written (Some o) es h (a ∷ []) (k, tt)) in
+  definition_written : (s : List ℕ) (p : Origin) (es : List Tree) → AllByRecursion (IsWritten by_itself) es → (a : Alternative) → HasWritten a
+      → HaveWritten (join_definition inner s p es a)
+  definition_written s p es h a k =
+      let xs = join_bodies inner p es (a ∷ []) in
+      let all = all-map HasWritten HasWritten (meet s) (λ b g. g) xs (bodies_written p es h (a ∷ []) (k, tt)) in
       cond_both (meets s a) (a ∷ []) (map (meet s) xs) HaveWritten (λ met. (k, tt)) (λ unmet. all)
 
 -- ---- operands beside one another
@@ -106,7 +109,7 @@ label_placed p l Required h = h
 label_placed p l (Every o) h = h
 
 module _ (ds : List DefinitionTree) (all : AllByRecursion IsWrittenDefinition ds) where
-  alternatives_written : (n : ℕ) (p : Option ℕ) (q : Place) (e : Tree) → IsWritten q e → (a : Alternative) → HasWritten a
+  alternatives_written : (n : ℕ) (p : Origin) (q : Place) (e : Tree) → IsWritten q e → (a : Alternative) → HasWritten a
       → HaveWritten (alternatives ds n p e a)
   unfolding alternatives
   alternatives_written zero p q e h a k = tt
@@ -117,7 +120,7 @@ module _ (ds : List DefinitionTree) (all : AllByRecursion IsWrittenDefinition ds
   alternatives_written (suc n) p q (wide (shut o e)) h a k = tt
   alternatives_written (suc n) p q (paren e) h a k = alternatives_written n p by_itself e h a k
   alternatives_written (suc n) p q (disjunction es) h a k = operands_written (alternatives ds n) (alternatives_written n) p of_bar es h.2 a k
-  alternatives_written (suc n) p q (reference s o) h a k = definition_written (alternatives ds n) (alternatives_written n) s (at p o) (bodies s ds)
+  alternatives_written (suc n) p q (reference s o) h a k = definition_written (alternatives ds n) (alternatives_written n) s (referred_at p o) (bodies s ds)
       (written_bodies s ds all) a k
   alternatives_written (suc n) p q (atom x) h a k = tt
   alternatives_written (suc n) p q (named s o) h a k = tt
@@ -125,11 +128,12 @@ module _ (ds : List DefinitionTree) (all : AllByRecursion IsWrittenDefinition ds
   alternatives_written (suc n) p q (list es end) h a k = tt
 
   literal_written : (p : Option ℕ) (cs : Declarations) (b : Bool) → AreWrittenDeclarations cs → HaveWritten (alternatives_of ds p cs b)
-  literal_written p cs b h = declarations_written (alternatives ds most_steps) (alternatives_written most_steps) p cs h (opened_if b nothing ∷ []) (tt, tt)
+  literal_written p cs b h =
+      declarations_written (alternatives ds most_steps) (alternatives_written most_steps) (itself p) cs h (opened_if b nothing ∷ []) (tt, tt)
 
   united_written : (p : Option ℕ) (r : Place) (es : Trees) → AreWritten r es → HaveWritten (united ds p es)
   unfolding alternatives
-  united_written p r es h = all_written (alternatives ds 127) (alternatives_written 127) p r es h (nothing ∷ []) (tt, tt)
+  united_written p r es h = all_written (alternatives ds 127) (alternatives_written 127) (itself p) r es h (nothing ∷ []) (tt, tt)
 
   -- where values, and values that are put together, are written by themselves
   module _ (value : Option ℕ → Tree → Tree) (written_value : (p : Option ℕ) (e : Tree) → CanStand ds e → IsWritten by_itself (value p e)) where
@@ -184,7 +188,7 @@ module _ (ds : List DefinitionTree) (all : AllByRecursion IsWrittenDefinition ds
           (λ no. (two false p es h.1, written_each of_amp false (no_whole of_amp) p es h.2)) in (h.0, kept.0, kept.1))
       written q whole fit p (disjunction es) h = (h.0, two false p es h.1, written_each of_bar false (no_whole of_bar) p es h.2)
       written q whole fit p (paren e) h = written by_itself true (λ t. refl) p e h
-      written q whole fit p (struct o fs b) h = own_written (own p fs b) (fields_written p fs h nothing tt)
+      written q whole fit p (struct o fs b) h = own_written (own p fs b) (fields_written (itself p) fs h nothing tt)
       written q whole fit p (list es end) h = (written_each by_itself true (λ t. refl) p es h.0, written_end p end h.1)
       written q whole fit p (wide (marked o e)) h = written q false (no_whole q) p e h
       written q whole fit p (wide (shut o e)) h = written by_itself true (λ t. refl) p e h

@@ -12,7 +12,7 @@ use Rattle.cs_embeddings.specs.Joined.{joined_value}
 
 -- a definition as a declaration of its name, where it is
 abbrev pub as_declared : DefinitionTree → Brought
-as_declared (definition s o e) = record { label = record { text = s; quotes = false }; mark = Regular; value = e; place = Some o }
+as_declared (definition s o e) = record { label = record { text = s; quotes = false }; mark = Regular; value = e; place = Some o; embedding = None }
 
 -- a declaration of a name that is left, and the place of its parts
 pub record Body : Type 0 where

@@ -6,27 +6,21 @@ use Rattle.std.specs.declared.alloc.Global.{Global}
 use Rattle.std.specs.declared.vec.Vec.{Vec}
 use Rattle.std.specs.Borrow.{Bor}
 use Rattle.std.specs.BTreeMap.{BTreeMap, get_by}
-use Rattle.std.specs.BTreeSet.{BTreeSet}
 use Rattle.std.specs.Cmp.Lexicographic.{slice_cmp}
 use Rattle.std.specs.Ordering.{nat_cmp}
 use Rattle.cs_grammar.specs.declared.ast.Expr.{Expr}
-use Rattle.cs_grammar.specs.Tree.{Tree, reference, Fields, DefinitionTree, body}
+use Rattle.cs_grammar.specs.Tree.{Tree, reference, DefinitionTree, body}
 use Rattle.cs_grammar.specs.Bodies.{bodies}
 use Rattle.cs_grammar.specs.View.{expr_view, SeenDeclaration, field_seen, embedding_seen}
-use Rattle.cs_resolve.specs.Narrowed.{HoldsTexts}
-use Rattle.cs_resolve.specs.Refinement.{texts}
 use Rattle.cs_embeddings.specs.Alternatives.{Alternative, most_steps}
 use Rattle.cs_embeddings.specs.Embedded.{can_be_embedded, embeds_well}
 use Rattle.cs_embeddings.specs.Flaws.{Flaw, unknown, no_struct, is_none, flaws, flaws_here}
 use Rattle.cs_embeddings.specs.Views.{alternatives_view, IsTooMuch}
 use Rattle.cs_embeddings.specs.declared.found.Found.{Found}
-use Rattle.cs_embeddings.specs.Narrowed.{sole_literal}
-use Rattle.cs_embeddings.specs.declared.bases.Bases.{Bases}
 use Rattle.cs_embeddings.specs.declared.definitions.Bodies.{Bodies}
 use Rattle.cs_embeddings.specs.declared.embedded.Embeddable.{Embeddable}
 use Rattle.cs_embeddings.specs.declared.flaws.Flaw as seen
 use Rattle.cs_embeddings.specs.declared.flaws.Flaw.TheVariants as variants
-use Rattle.cs_embeddings.specs.declared.flaws.Flaws.{Flaws}
 use Rattle.cs_embeddings.specs.declared.fault.EmbeddingFault.{EmbeddingFault}
 
 abbrev pub bodies_view : List (Bor Expr) → List Tree
@@ -41,19 +35,9 @@ TellsEntry (Some v) es = (bodies_view v.items ≡ es) × (is_none es ≡ false)
 abbrev pub TellsTable : BTreeMap (Bor (List ℕ)) (Vec (Bor Expr) Global) → List DefinitionTree → Type 0
 TellsTable m ds = (s : List ℕ) → TellsEntry (get_by (λ k. slice_cmp nat_cmp s k.now) m) (bodies s ds)
 
--- a set has the labels of the closed literal that is found, and none is kept where none is
-abbrev pub TellsBase : Option (BTreeSet (Bor (List ℕ))) → Option Fields → Type 0
-TellsBase None found = found ≡ None
-TellsBase (Some labels) found = (fs : Fields) × (found ≡ Some fs) × HoldsTexts labels (texts fs)
-
--- the table has the labels of each name's closed literal
-abbrev pub TellsBases : Bases → (List ℕ → Option Fields) → Type 0
-TellsBases b found = (s : List ℕ) → TellsBase (get_by (λ k. slice_cmp nat_cmp s k.now) b.by_name) (found s)
-
--- it has them, with the labels of those that are a closed literal, and the list has the name of each definition and no other
+-- it has them, and the list has the name of each definition and no other
 pub record TellsBodies (b : Bodies) (ds : List DefinitionTree) : Type 0 where
   pub table : TellsTable b.by_name ds
-  pub bases : TellsBases b.bases (λ s. sole_literal (bodies s ds))
   pub none : b.none.items ≡ []
   pub named : (s : List ℕ) → list_any (λ t. bytes_eq s t.now) b.names.items ≡ not (is_none (bodies s ds))
 
@@ -83,25 +67,26 @@ TellsRounds e ds rounds names = (s : List ℕ) → TellsLeast (get_by (λ k. sli
 
 -- ---- flaws
 
--- Ok where nothing is found, or else the first that is found
-abbrev pub Finds : {Y E A : Type 0} → (E → A) → Result Y E → List A → Type 0
-Finds view (Ok y) found = found ≡ []
-Finds view (Err e) found = slice_get found 0 ≡ Some (view e)
+-- this is the first that is found, where there is one
+abbrev pub IsFirst : {A : Type 0} → Option A → List A → Type 0
+IsFirst None found = Unit {0}
+IsFirst (Some x) found = slice_get found 0 ≡ Some x
 
-abbrev pub flaw_view : seen.Flaw → Flaw
-flaw_view (variants.Unknown o) = unknown o
-flaw_view (variants.NoStruct o) = no_struct o
+-- Ok where nothing is found, or else the first that is found; or nothing that was looked for
+abbrev pub Finds : {Y E A : Type 0} → (E → Option A) → Result Y E → List A → Type 0
+Finds view (Ok y) found = found ≡ []
+Finds view (Err e) found = IsFirst (view e) found
+
+-- none where memory ran out
+abbrev pub flaw_view : seen.Flaw → Option Flaw
+flaw_view (variants.Unknown o) = Some (unknown o)
+flaw_view (variants.NoStruct o) = Some (no_struct o)
+flaw_view variants.OutOfMemory = None
 
 -- those of one declaration of a literal with embeddings
 abbrev pub flaws_seen : List DefinitionTree → SeenDeclaration → List Flaw
 flaws_seen ds (field_seen f) = flaws ds f.value
 flaws_seen ds (embedding_seen o e) = flaws_here ds o e ++ flaws ds e
-
--- the tables of definitions tell these
-pub record TellsEmbeddable (f : Flaws) (ds : List DefinitionTree) : Type 0 where
-  pub bodies : TellsBodies f.bodies.now ds
-  pub steps : TellsSteps f.embeddable.now ds most_steps
-  pub same : TellsBodies f.embeddable.now.bodies.now ds
 
 -- the table of what can be embedded tells these, and has the bodies of each
 pub record TellsTables (e : Embeddable) (ds : List DefinitionTree) : Type 0 where

@@ -1,6 +1,7 @@
--- What an embedding would open (own rule): in a literal with embeddings a label has one value that holds a struct literal or a reference, or several
--- of which none holds a reference, or the same reference each time; a value of `[string]` is one of each label. CUE opens what is closed there.
-use Rattle.std.specs.Prelude.{ℕ, zero, suc, Bool, true, false, ◌&&◌, ◌||◌, not, List, [], ◌∷◌, ◌++◌, if◌then◌else◌, Option, Some, None}
+-- What an embedding would open (own rule): in a literal with embeddings two values of a label hold a struct literal or a reference, one of them was brought
+-- by an embedding and holds something that is shut, and the other comes from elsewhere and isn't the same reference; a value of `[string]` is one of each
+-- label. CUE opens there what is closed.
+use Rattle.std.specs.Prelude.{ℕ, zero, suc, Bool, true, false, ◌&&◌, ◌||◌, not, List, [], ◌∷◌, ◌++◌, if◌then◌else◌, Option, Some, None, is_some, nat_eq}
 use Rattle.std.specs.List.{list_any, flat_map}
 use Rattle.std.specs.Str.{bytes_eq}
 use Rattle.cs_grammar.specs.Tree.{Tree, atom, named, reference, conjunction, disjunction, paren, struct, list, wide, marked, merged, shut, Trees, none, more, End, closed, any, each, DefinitionTree}
@@ -21,13 +22,24 @@ are_same (Some s) (Some t) = bytes_eq s t
 abbrev pub is_same_reference : Tree → Tree → Bool
 is_same_reference e f = are_same (referred e) (referred f)
 
--- something that is shut stands in one of two expressions, and they aren't the same reference
-abbrev pub are_apart : Tree → Tree → Bool
-are_apart e f = (is_shut true e || is_shut true f) && not (is_same_reference e f)
+-- both stand in the literal itself, or one embedding brought both
+abbrev pub is_same_embedding : Option ℕ → Option ℕ → Bool
+is_same_embedding None None = true
+is_same_embedding None (Some o) = false
+is_same_embedding (Some o) None = false
+is_same_embedding (Some o) (Some p) = nat_eq o p
+
+-- one comes from elsewhere than the other, and they aren't the same reference
+abbrev pub are_apart : Brought → Brought → Bool
+are_apart c d = not (is_same_embedding c.embedding d.embedding) && not (is_same_reference c.value d.value)
+
+-- an embedding brought it, and something that is shut stands in it
+abbrev pub may_open : Brought → Bool
+may_open d = is_some d.embedding && is_shut true d.value
 
 -- two declarations that aren't plain are of one label, as `[string]` is of each, and what is shut in one would be opened by the other
 abbrev pub differ : Brought → Brought → Bool
-differ c d = (is_every c.mark || (is_every d.mark || bytes_eq c.label.text d.label.text)) && are_apart c.value d.value
+differ c d = (is_every c.mark || (is_every d.mark || bytes_eq c.label.text d.label.text)) && ((may_open c || may_open d) && are_apart c d)
 
 -- the declarations that aren't plain
 abbrev pub held : List Brought → List Brought

@@ -3,7 +3,6 @@ use Rattle.std.specs.Prelude.{ℕ, zero, suc, Bool, true, false, ◌&&◌, List}
 use Rattle.std.specs.List.{list_all}
 use Rattle.cs_grammar.specs.Tree.{Tree, atom, named, reference, conjunction, disjunction, paren, struct, list, wide, marked, merged, shut, Declarations, no_declaration, declared, embedded, Trees, none, more, Fields, no_field, field, End, closed, any, each, DefinitionTree}
 use Rattle.cs_grammar.specs.Bodies.{bodies}
-use Rattle.cs_embeddings.specs.Narrowed.{may_join}
 
 -- whether there is one
 abbrev pub has_operand : Trees → Bool
@@ -49,8 +48,8 @@ module _ (inner : Tree → Bool) where
     end_embeds_well any = true
     end_embeds_well (each e) = embeds_well e
 
--- whether an expression can be embedded in so many steps: it is put together from literals, and so is what these embed; operands of `&` where
--- nothing in them is shut, or a literal narrows a definition. A definition that isn't declared is at fault by its name alone.
+-- whether an expression can be embedded in so many steps: it is put together from literals, and so is what these embed. A definition that isn't
+-- declared is at fault by its name alone, and operands of `&` where one would add something to what is shut.
 unfoldable pub can_be_embedded : List DefinitionTree → ℕ → Tree → Bool
 can_be_embedded ds zero e = false
 can_be_embedded ds (suc n) (struct o fs b) = fields_embed_well (can_be_embedded ds n) fs
@@ -59,7 +58,7 @@ can_be_embedded ds (suc n) (wide (marked o e)) = false
 can_be_embedded ds (suc n) (wide (shut o e)) = false
 can_be_embedded ds (suc n) (paren e) = can_be_embedded ds n e
 can_be_embedded ds (suc n) (disjunction es) = has_operand es && all_embedded (can_be_embedded ds n) es
-can_be_embedded ds (suc n) (conjunction es) = may_join ds es && all_embedded (can_be_embedded ds n) es
+can_be_embedded ds (suc n) (conjunction es) = all_embedded (can_be_embedded ds n) es
 can_be_embedded ds (suc n) (reference s o) = list_all (can_be_embedded ds n) (bodies s ds)
 can_be_embedded ds (suc n) (atom a) = false
 can_be_embedded ds (suc n) (named s o) = false

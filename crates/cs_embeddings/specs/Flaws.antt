@@ -1,9 +1,10 @@
--- What of the embeddings is at fault, in order of the text: a name that isn't declared, and an expression that can't be embedded.
-use Rattle.std.specs.Prelude.{ℕ, Bool, true, false, List, [], ◌∷◌, ◌++◌, map, if◌then◌else◌}
+-- What of the embeddings is at fault, in order of the text: a name that isn't declared, and an expression that can't be embedded, or joins what can't be.
+use Rattle.std.specs.Prelude.{ℕ, Bool, true, false, ◌&&◌, List, [], ◌∷◌, ◌++◌, map, if◌then◌else◌}
 use Rattle.cs_grammar.specs.Tree.{Tree, atom, named, reference, conjunction, disjunction, paren, struct, list, wide, marked, merged, shut, Declarations, no_declaration, declared, embedded, Trees, none, more, Fields, no_field, field, End, closed, any, each, DefinitionTree}
 use Rattle.cs_grammar.specs.Bodies.{bodies}
 use Rattle.cs_embeddings.specs.Alternatives.{most_steps}
 use Rattle.cs_embeddings.specs.Embedded.{can_be_embedded}
+use Rattle.cs_embeddings.specs.Narrowed.{joins_well}
 
 pub data Flaw : Type 0 where
   unknown : ℕ → Flaw
@@ -23,7 +24,7 @@ module _ (ds : List DefinitionTree) where
     unknown_in (disjunction es) = unknown_each es
     unknown_in (atom a) = []
     unknown_in (named s o) = []
-    unknown_in (conjunction es) = []
+    unknown_in (conjunction es) = unknown_each es
     unknown_in (struct o fs b) = []
     unknown_in (list es end) = []
     unknown_in (wide w) = []
@@ -33,7 +34,7 @@ module _ (ds : List DefinitionTree) where
     unknown_each (more e es) = unknown_in e ++ unknown_each es
 
   abbrev pub flaws_here : ℕ → Tree → List Flaw
-  flaws_here o e = map unknown (unknown_in e) ++ (if can_be_embedded ds most_steps e then [] else no_struct o ∷ [])
+  flaws_here o e = map unknown (unknown_in e) ++ (if can_be_embedded ds most_steps e && joins_well ds most_steps e then [] else no_struct o ∷ [])
 
   abbrev mutual
     pub flaws : Tree → List Flaw

@@ -62,7 +62,7 @@ place_of (d ∷ bs) = or_else d.place (place_of bs)
 
 -- the declaration that is left of those of a label: it has all their values, and its label is in quotes where all are
 abbrev pub together : List ℕ → List Brought → Brought
-together s bs = record { label = record { text = s; quotes = list_all (λ d. d.label.quotes) bs }; mark = mark_of bs; value = conjunction (values_of bs); place = place_of bs }
+together s bs = record { label = record { text = s; quotes = list_all (λ d. d.label.quotes) bs }; mark = mark_of bs; value = conjunction (values_of bs); place = place_of bs; embedding = None }
 
 -- of a declaration, with those before it, that stands in `all`
 abbrev pub gathered_at : List DefinitionTree → List Brought → List Brought → Brought → List Brought

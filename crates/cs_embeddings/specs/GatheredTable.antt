@@ -26,7 +26,8 @@ use Rattle.cs_embeddings.specs.declared.kept.Kept.{Kept}
 use Rattle.cs_embeddings.specs.declared.kept.KeptFile.{KeptFile}
 
 abbrev pub declared_view : Declared → Brought
-declared_view d = record { label = record { text = d.label.now; quotes = d.quoted }; mark = d.mark; value = expr_view d.value.now; place = d.place }
+declared_view d =
+    record { label = record { text = d.label.now; quotes = d.quoted }; mark = d.mark; value = expr_view d.value.now; place = d.place; embedding = d.embedding }
 
 -- these are all declarations of the label
 pub record IsTogether (t : Together) (s : List ℕ) (bs : List Brought) : Type 0 where
@@ -39,7 +40,8 @@ pub record IsTogether (t : Together) (s : List ℕ) (bs : List Brought) : Type 0
 
 -- a declaration, or the one that is left of several
 abbrev pub together_view : Together → Brought
-together_view t = record { label = record { text = t.label.now; quotes = t.quoted }; mark = t.mark; value = conjunction (trees_of (bodies_view t.values.items)); place = t.place }
+together_view t =
+    record { label = record { text = t.label.now; quotes = t.quoted }; mark = t.mark; value = conjunction (trees_of (bodies_view t.values.items)); place = t.place; embedding = None }
 
 abbrev pub gathered_view : Gathered → Brought
 gathered_view (One d) = declared_view d

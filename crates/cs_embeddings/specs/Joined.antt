@@ -5,7 +5,7 @@ use Rattle.std.specs.Prelude.{ℕ, zero, suc, Bool, true, false, List, [], ◌�
 use Rattle.cs_grammar.specs.declared.ast.FieldMark.{FieldMark}
 use Rattle.cs_grammar.specs.declared.ast.FieldMark.TheVariants.{Regular, Optional, Required, Every}
 use Rattle.cs_grammar.specs.Tree.{Tree, atom, bottom, named, reference, conjunction, disjunction, paren, struct, list, wide, marked, merged, shut, Trees, none, more, Fields, no_field, field, End, closed, any, each, DefinitionTree}
-use Rattle.cs_embeddings.specs.Alternatives.{Brought, Alternative, nothing, with_fields, opened_if, at, alternatives_of}
+use Rattle.cs_embeddings.specs.Alternatives.{Brought, Alternative, nothing, with_fields, opened_if, at, itself, alternatives_of}
 use Rattle.cs_embeddings.specs.Gathered.{gathered}
 use Rattle.cs_embeddings.specs.Held.{is_plain, holding, first_place}
 use Rattle.cs_embeddings.specs.United.{unites, united}
@@ -23,7 +23,7 @@ parted false es = paren (disjunction es)
 
 -- a literal without embeddings, as an alternative
 abbrev pub own : Option ℕ → Fields → Bool → Alternative
-own p fs b = opened_if b (with_fields p fs nothing)
+own p fs b = opened_if b (with_fields (itself p) fs nothing)
 
 abbrev pub put : Option Tree → Trees → Trees
 put None es = es

@@ -2,10 +2,10 @@
 pub mod Shut
 pub mod Alternatives
 pub mod Held
-pub mod Narrowed
 pub mod Embedded
 pub mod United
 pub mod Gathered
+pub mod Narrowed
 pub mod Joined
 pub mod Clashes
 pub mod Bodies
@@ -15,6 +15,7 @@ pub mod Without
 -- for private contracts alone
 pub mod Views
 pub mod Checks
+pub mod NarrowedTable
 pub mod Made
 pub mod ClashTable
 pub mod GatheredTable

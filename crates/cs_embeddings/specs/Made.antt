@@ -101,10 +101,11 @@ count_mark e = 0
 
 -- ---- files
 
--- the first flaw of files
+-- the first flaw of files, or memory ran out
 abbrev pub IsFlaw : EmbeddingFault → List (ℕ × Flaw) → Type 0
 IsFlaw (UnknownName i o) found = slice_get found 0 ≡ Some (i, unknown o)
 IsFlaw (NoStruct i o) found = slice_get found 0 ≡ Some (i, no_struct o)
+IsFlaw OutOfMemory found = Unit {0}
 IsFlaw _ found = ⊥
 
 -- Ok where nothing is found, or else the first that is found

@@ -2,7 +2,7 @@
 -- each is put together from literals and nothing in them is shut.
 use Rattle.std.specs.Prelude.{ℕ, Bool, true, false, ◌&&◌, not, List, Option}
 use Rattle.cs_grammar.specs.Tree.{conjunction, Trees, none, more, DefinitionTree}
-use Rattle.cs_embeddings.specs.Alternatives.{Alternative, nothing, alternatives, most_steps}
+use Rattle.cs_embeddings.specs.Alternatives.{Alternative, nothing, itself, alternatives, most_steps}
 use Rattle.cs_embeddings.specs.Embedded.{can_be_embedded}
 use Rattle.cs_embeddings.specs.Shut.{some_shut, are_open}
 
@@ -16,4 +16,4 @@ unites ds es = are_several es && (not (are_open es) && (not (some_shut false es)
 
 -- what they can be together
 abbrev pub united : List DefinitionTree → Option ℕ → Trees → List Alternative
-united ds p es = alternatives ds most_steps p (conjunction es) nothing
+united ds p es = alternatives ds most_steps (itself p) (conjunction es) nothing

@@ -1,15 +1,20 @@
 -- How the code has alternatives, and how much they are; for private contracts alone.
-use Rattle.std.specs.Prelude.{◌≡◌, ℕ, suc, ◌+◌, ◌/◌, ◌<◌, List, [], ◌∷◌, map, length, Option, Result, Ok, Err}
+use Rattle.std.specs.Prelude.{◌≡◌, ℕ, suc, ◌+◌, ◌/◌, ◌<◌, List, [], ◌∷◌, map, length, Result, Ok, Err}
 use Rattle.cs_grammar.specs.View.{Seen, expr_view, field_view}
-use Rattle.cs_embeddings.specs.Alternatives.{Brought, Alternative, with_declaration}
+use Rattle.cs_embeddings.specs.Alternatives.{Origin, Brought, Alternative, with_declaration}
 use Rattle.cs_embeddings.specs.Gathered.{most_gathered}
 use Rattle.cs_embeddings.specs.declared.alternatives.Alternative as rust
 use Rattle.cs_embeddings.specs.declared.alternatives.Brought as brought
+use Rattle.cs_embeddings.specs.declared.alternatives.Origin as origin
 use Rattle.cs_embeddings.specs.declared.fault.EmbeddingFault.{EmbeddingFault}
 use Rattle.cs_embeddings.specs.declared.fault.EmbeddingFault.TheVariants.{OutOfMemory, TooLarge}
 
+abbrev pub origin_view : origin.Origin → Origin
+origin_view p = record { place = p.place; embedding = p.embedding; in_definition = p.in_definition }
+
 abbrev pub brought_view : brought.Brought → Brought
-brought_view b = record { label = (field_view b.field.now).label; mark = b.field.now.mark; value = expr_view b.field.now.value; place = b.place }
+brought_view b =
+    record { label = (field_view b.field.now).label; mark = b.field.now.mark; value = expr_view b.field.now.value; place = b.place; embedding = b.embedding }
 
 abbrev pub alternative_view : rust.Alternative → Alternative
 alternative_view a = record { declarations = map brought_view a.declarations.items; opened = a.opened; met = map (λ s. s.now) a.met.items }
@@ -18,7 +23,7 @@ abbrev pub alternatives_view : List rust.Alternative → List Alternative
 alternatives_view xs = map alternative_view xs
 
 -- a field behind the declarations that are there
-abbrev pub with_field : Option ℕ → Seen → Alternative → Alternative
+abbrev pub with_field : Origin → Seen → Alternative → Alternative
 with_field p f a = with_declaration p f.label f.mark f.value a
 
 -- how much alternatives are: each is one, and one more for each 64 declarations. So many of a label are put together at most

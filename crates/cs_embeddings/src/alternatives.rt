@@ -2,16 +2,68 @@
 ghost use Rattle.std.specs.Prelude.{◌≡◌, IfOk, OnOk};
 ghost use Rattle.cs_grammar.specs.View.{fields_view};
 ghost use Rattle.cs_embeddings.specs.Alternatives as Spec;
-ghost use Rattle.cs_embeddings.specs.Views.{alternative_view};
+ghost use Rattle.cs_embeddings.specs.Views.{origin_view, alternative_view};
 
 use cs_grammar::Field;
 use std::alloc::{AllocError, Global};
 
-/// A declaration that stands in a literal, and the offset of the reference that brought it; `None` where the literal itself declares it.
+/// Where declarations come from.
+#[derive(Clone, Copy)]
+pub(crate) struct Origin {
+    /// The offset of the reference that brought them; `None` where they stand in the text.
+    pub(crate) place: Option<usize>,
+    /// The offset of the embedding that brought them; `None` where the literal itself declares them.
+    pub(crate) embedding: Option<usize>,
+    /// Whether a definition is embedded there: it is one with all that it embeds.
+    in_definition: bool,
+}
+
+impl Origin {
+    /// The literal itself, which a reference at a place brought.
+    pub(crate) fn itself(place: Option<usize>) -> Origin
+        ensures { origin_view result ≡ Spec.itself place }
+    {
+        Origin {
+            place,
+            embedding: None,
+            in_definition: false,
+        }
+    }
+
+    /// What an embedding there brings.
+    pub(crate) fn embedded_at(self, at: usize) -> Origin
+        ensures { origin_view result ≡ Spec.embedded_at (origin_view self) at }
+    {
+        if self.in_definition {
+            self
+        } else {
+            Origin {
+                embedding: Some(at),
+                ..self
+            }
+        }
+    }
+
+    /// What a reference there brings.
+    pub(crate) fn referred_at(self, at: usize) -> Origin
+        ensures { origin_view result ≡ Spec.referred_at (origin_view self) at }
+    {
+        Origin {
+            place: Some(self.place.unwrap_or(at)),
+            in_definition: true,
+            ..self
+        }
+    }
+}
+
+/// A declaration that stands in a literal, and where it comes from.
 #[derive(Clone, Copy)]
 pub(crate) struct Brought<'a> {
     pub(crate) field: &'a Field,
+    /// The offset of the reference that brought it; `None` where it stands in the text.
     pub(crate) place: Option<usize>,
+    /// The offset of the embedding that brought it; `None` where the literal itself declares it.
+    pub(crate) embedding: Option<usize>,
 }
 
 /// Declarations that stand together, whether other keys are allowed, and the definitions that are embedded so far.
@@ -46,15 +98,15 @@ impl<'a> Alternative<'a> {
     }
 
     /// Adds the fields of a literal.
-    pub(crate) fn add(
-        &mut self,
-        place: Option<usize>,
-        fields: &'a [Field],
-    ) -> Result<(), AllocError>
-        ensures { OnOk result (alternative_view self.new ≡ Spec.with_fields place (fields_view fields.now) (alternative_view self.old)) }
+    pub(crate) fn add(&mut self, origin: Origin, fields: &'a [Field]) -> Result<(), AllocError>
+        ensures { OnOk result (alternative_view self.new ≡ Spec.with_fields (origin_view origin) (fields_view fields.now) (alternative_view self.old)) }
     {
         for field in fields {
-            self.declarations.push(Brought { field, place })?;
+            self.declarations.push(Brought {
+                field,
+                place: origin.place,
+                embedding: origin.embedding,
+            })?;
         }
         Ok(())
     }

@@ -1,11 +1,9 @@
 // What an embedding would open.
-ghost use Rattle.std.specs.Prelude.{◌≡◌, false, List, [], ◌∷◌, ◌++◌, map, IfOk, OnOk, slice_get};
-ghost use Rattle.std.specs.List.{list_any};
-ghost use Rattle.std.specs.Option.{option_map};
+ghost use Rattle.std.specs.Prelude.{◌≡◌, ℕ, List, [], ◌∷◌, ◌++◌, map, Option, IfOk, OnOk, slice_get};
+ghost use Rattle.std.specs.List.{filter, list_any};
 ghost use Rattle.cs_grammar.specs.View.{expr_view};
-ghost use Rattle.cs_resolve.specs.Refinement.{referred};
 ghost use Rattle.cs_embeddings.specs.Alternatives as Alternatives;
-ghost use Rattle.cs_embeddings.specs.ClashTable.{TellsSeen, TellsValues, is_apart};
+ghost use Rattle.cs_embeddings.specs.ClashTable.{TellsEmbeddings, TellsGroup, TellsGroups, TellsSeen, TellsValues, has_label, is_elsewhere, is_of_every, is_unlike, opens};
 ghost use Rattle.cs_embeddings.specs.Views.{brought_view};
 ghost use Rattle.cs_embeddings.specs.Clashes as Spec;
 ghost use Rattle.cs_embeddings.specs.Gathered.{is_every};
@@ -14,20 +12,9 @@ use crate::alternatives::Brought;
 use crate::held::holds;
 use crate::shut::is_shut;
 use cs_grammar::{Expr, FieldMark};
+use cs_resolve::referred;
 use std::alloc::{AllocError, Global};
 use std::collections::BTreeMap;
-
-/// The name of the definition that an expression refers to, in parentheses or not.
-fn referred(expr: &Expr) -> Option<&str>
-    ensures { option_map (λ n. n.now) result ≡ referred (expr_view expr.now) }
-{
-    match expr {
-        Expr::Reference { text, .. } => Some(text.as_str()),
-        Expr::Paren(inside) => referred(inside),
-        // The others are no references.
-        _ => None,
-    }
-}
 
 /// Whether both refer to one definition.
 fn is_same_reference(first: &Expr, second: &Expr) -> bool
@@ -39,11 +26,22 @@ fn is_same_reference(first: &Expr, second: &Expr) -> bool
     }
 }
 
-/// Whether something that is shut stands in one of two values, and they aren't the same reference.
-fn are_apart(first: &Expr, second: &Expr) -> bool
-    ensures { result ≡ Spec.are_apart (expr_view first.now) (expr_view second.now) }
+/// Whether both stand in the literal itself, or one embedding brought both.
+fn is_same_embedding(first: Option<usize>, second: Option<usize>) -> bool
+    ensures { result ≡ Spec.is_same_embedding first second }
 {
-    (is_shut(true, first) || is_shut(true, second)) && !is_same_reference(first, second)
+    match (first, second) {
+        (None, None) => true,
+        (Some(at), Some(other)) => at == other,
+        (Some(_), None) | (None, Some(_)) => false,
+    }
+}
+
+/// Whether an embedding brought a declaration, and something that is shut stands in it.
+fn may_open(brought: Brought<'_>) -> bool
+    ensures { result ≡ Spec.may_open (brought_view brought.entry) }
+{
+    brought.embedding.is_some() && is_shut(true, &brought.field.value)
 }
 
 /// Whether a declaration is of every label.
@@ -57,21 +55,21 @@ pub(crate) fn is_every(mark: FieldMark) -> bool
 #[derive(Clone, Copy)]
 enum Values<'a> {
     Nothing,
-    /// The first one: no value is apart from it.
+    /// The first one: the others are the same reference.
     Alike(&'a Expr),
-    /// Two are apart, so each other value is apart from one of them.
+    /// Two aren't the same reference, so no value is the same as each of them.
     Apart,
 }
 
 impl<'a> Values<'a> {
-    /// Whether a value is apart from one of them.
+    /// Whether one of them isn't the same reference as a value.
     fn differ(self, value: &Expr) -> bool
         ensures { (before : List Alternatives.Brought) → TellsValues self.entry before
-            → result ≡ list_any (is_apart (expr_view value.now)) before }
+            → result ≡ list_any (is_unlike (expr_view value.now)) before }
     {
         match self {
             Values::Nothing => false,
-            Values::Alike(first) => are_apart(first, value),
+            Values::Alike(first) => !is_same_reference(first, value),
             Values::Apart => true,
         }
     }
@@ -84,10 +82,10 @@ impl<'a> Values<'a> {
         match self {
             Values::Nothing => Values::Alike(value),
             Values::Alike(first) => {
-                if are_apart(first, value) {
-                    Values::Apart
-                } else {
+                if is_same_reference(first, value) {
                     Values::Alike(first)
+                } else {
+                    Values::Apart
                 }
             }
             Values::Apart => Values::Apart,
@@ -95,47 +93,217 @@ impl<'a> Values<'a> {
     }
 }
 
-/// The declarations so far that aren't plain.
-#[derive(Drop)]
-struct Seen<'a> {
-    /// The first one of each label. Those behind it are the same reference, or nothing in any of them is shut.
-    firsts: BTreeMap<&'a str, &'a Expr>,
-    /// Those of all labels.
-    values: Values<'a>,
-    /// Whether one is `[string]`.
-    has_every: bool,
+/// Where declarations come from.
+#[derive(Clone, Copy)]
+enum Embeddings {
+    Nowhere,
+    /// All from one embedding, or from the literal itself.
+    One(Option<usize>),
+    Several,
 }
 
-impl<'a> Seen<'a> {
-    /// Whether a declaration differs from one of them. Where one is `[string]`, none of them is apart from it.
-    fn differs(&self, brought: Brought<'a>) -> bool
-        ensures { (before : List Alternatives.Brought) → TellsSeen self.now before
-            → result ≡ list_any (λ c. Spec.differ c (brought_view brought.entry)) before }
+impl Embeddings {
+    /// Whether one of them comes from elsewhere.
+    fn has_other(self, embedding: Option<usize>) -> bool
+        ensures { (before : List Alternatives.Brought) → TellsEmbeddings self before → result ≡ list_any (is_elsewhere embedding) before }
     {
-        if is_every(brought.field.mark) || self.has_every {
-            return self.values.differ(&brought.field.value);
-        }
-        match self.firsts.get(brought.field.label.as_str()) {
-            Some(first) => are_apart(first, &brought.field.value),
-            None => false,
+        match self {
+            Embeddings::Nowhere => false,
+            Embeddings::One(first) => !is_same_embedding(first, embedding),
+            Embeddings::Several => true,
         }
     }
 
-    /// Adds a declaration that doesn't differ from them.
-    fn add(&mut self, brought: Brought<'a>) -> Result<(), AllocError>
-        ensures { OnOk result ((before : List Alternatives.Brought) → TellsSeen self.old before
-            → list_any (λ c. Spec.differ c (brought_view brought.entry)) before ≡ false
+    /// These and that of one declaration more.
+    fn with(self, embedding: Option<usize>) -> Embeddings
+        ensures { (before : List Alternatives.Brought) (d : Alternatives.Brought) → d.embedding ≡ embedding
+            → TellsEmbeddings self before → TellsEmbeddings result (before ++ d ∷ []) }
+    {
+        match self {
+            Embeddings::Nowhere => Embeddings::One(embedding),
+            Embeddings::One(first) => {
+                if is_same_embedding(first, embedding) {
+                    Embeddings::One(first)
+                } else {
+                    Embeddings::Several
+                }
+            }
+            Embeddings::Several => Embeddings::Several,
+        }
+    }
+}
+
+/// Declarations, as far as it says which others are apart from one of them.
+#[derive(Clone, Copy)]
+struct Group<'a> {
+    /// The first one.
+    first: Option<Brought<'a>>,
+    /// The values of those that come from where the first one does.
+    own: Values<'a>,
+    /// The values of those that come from elsewhere.
+    others: Values<'a>,
+    /// Where those come from that are apart from the first one.
+    apart: Embeddings,
+}
+
+impl<'a> Group<'a> {
+    fn nothing() -> Group<'a>
+        ensures { TellsGroup result [] }
+    {
+        Group {
+            first: None,
+            own: Values::Nothing,
+            others: Values::Nothing,
+            apart: Embeddings::Nowhere,
+        }
+    }
+
+    /// Whether a declaration is apart from one of them. Where it is the same reference as all that come from where the first one does, it is
+    /// apart from those that the first one is apart from, but for those that come from where it comes from.
+    fn differs(self, brought: Brought<'a>) -> bool
+        ensures { (before : List Alternatives.Brought) → TellsGroup self.entry before
+            → result ≡ list_any (λ c. Spec.are_apart c (brought_view brought.entry)) before }
+    {
+        let Some(first) = self.first else {
+            return false;
+        };
+        let value = &brought.field.value;
+        if is_same_embedding(first.embedding, brought.embedding) {
+            self.others.differ(value)
+        } else {
+            self.own.differ(value) || self.apart.has_other(brought.embedding)
+        }
+    }
+
+    /// These and one more.
+    fn with(self, brought: Brought<'a>) -> Group<'a>
+        ensures { (before : List Alternatives.Brought) → TellsGroup self.entry before → TellsGroup result (before ++ brought_view brought.entry ∷ []) }
+    {
+        let first = self.first.unwrap_or(brought);
+        let group = Group {
+            first: Some(first),
+            ..self
+        };
+        let value = &brought.field.value;
+        if is_same_embedding(first.embedding, brought.embedding) {
+            return Group {
+                own: self.own.with(value),
+                ..group
+            };
+        }
+        let others = self.others.with(value);
+        if is_same_reference(&first.field.value, value) {
+            return Group { others, ..group };
+        }
+        Group {
+            others,
+            apart: self.apart.with(brought.embedding),
+            ..group
+        }
+    }
+}
+
+/// Declarations, and those of them that may open.
+#[derive(Clone, Copy)]
+struct Groups<'a> {
+    all: Group<'a>,
+    opening: Group<'a>,
+}
+
+impl<'a> Groups<'a> {
+    fn nothing() -> Groups<'a>
+        ensures { TellsGroups result [] }
+    {
+        Groups {
+            all: Group::nothing(),
+            opening: Group::nothing(),
+        }
+    }
+
+    /// Whether one of them and a declaration are apart, and one of both may open.
+    fn differs(self, brought: Brought<'a>, may_open: bool) -> bool
+        ensures { (before : List Alternatives.Brought) → may_open ≡ Spec.may_open (brought_view brought.entry) → TellsGroups self.entry before
+            → result ≡ list_any (opens (brought_view brought.entry)) before }
+    {
+        if may_open {
+            self.all.differs(brought)
+        } else {
+            self.opening.differs(brought)
+        }
+    }
+
+    /// These and one more.
+    fn with(self, brought: Brought<'a>, may_open: bool) -> Groups<'a>
+        ensures { (before : List Alternatives.Brought) → may_open ≡ Spec.may_open (brought_view brought.entry) → TellsGroups self.entry before
+            → TellsGroups result (before ++ brought_view brought.entry ∷ []) }
+    {
+        let all = self.all.with(brought);
+        if may_open {
+            Groups {
+                all,
+                opening: self.opening.with(brought),
+            }
+        } else {
+            Groups { all, ..self }
+        }
+    }
+}
+
+/// The declarations so far that aren't plain.
+#[derive(Drop)]
+struct Seen<'a> {
+    all: Groups<'a>,
+    /// Those of `[string]`.
+    every: Groups<'a>,
+    by_label: BTreeMap<&'a str, Groups<'a>>,
+}
+
+impl<'a> Seen<'a> {
+    /// Those of a label.
+    fn of_label(&self, label: &str) -> Groups<'a>
+        ensures { (before : List Alternatives.Brought) → TellsSeen self.now before → TellsGroups result (filter (has_label label.now) before) }
+    {
+        match self.by_label.get(label) {
+            Some(known) => *known,
+            None => Groups::nothing(),
+        }
+    }
+
+    /// Whether a declaration differs from one of them.
+    fn differs(&self, brought: Brought<'a>, may_open: bool) -> bool
+        ensures { (before : List Alternatives.Brought) → may_open ≡ Spec.may_open (brought_view brought.entry) → TellsSeen self.now before
+            → result ≡ list_any (λ c. Spec.differ c (brought_view brought.entry)) before }
+    {
+        if is_every(brought.field.mark) {
+            return self.all.differs(brought, may_open);
+        }
+        let own = self.of_label(brought.field.label.as_str());
+        self.every.differs(brought, may_open) || own.differs(brought, may_open)
+    }
+
+    /// Those of `[string]`, and a declaration more where it is one.
+    fn every_with(&self, brought: Brought<'a>, may_open: bool) -> Groups<'a>
+        ensures { (before : List Alternatives.Brought) → may_open ≡ Spec.may_open (brought_view brought.entry) → TellsSeen self.now before
+            → TellsGroups result (filter is_of_every (before ++ brought_view brought.entry ∷ [])) }
+    {
+        if is_every(brought.field.mark) {
+            self.every.with(brought, may_open)
+        } else {
+            self.every
+        }
+    }
+
+    /// Adds a declaration.
+    fn add(&mut self, brought: Brought<'a>, may_open: bool) -> Result<(), AllocError>
+        ensures { OnOk result ((before : List Alternatives.Brought) → may_open ≡ Spec.may_open (brought_view brought.entry) → TellsSeen self.old before
             → TellsSeen self.new (before ++ brought_view brought.entry ∷ [])) }
     {
-        self.values = self.values.with(&brought.field.value);
-        if is_every(brought.field.mark) {
-            self.has_every = true;
-            return Ok(());
-        }
         let label = brought.field.label.as_str();
-        if !self.firsts.contains_key(label) {
-            self.firsts.insert(label, &brought.field.value)?;
-        }
+        let own = self.of_label(label).with(brought, may_open);
+        let every = self.every_with(brought, may_open);
+        self.by_label.insert(label, own)?;
+        self.every = every;
+        self.all = self.all.with(brought, may_open);
         Ok(())
     }
 }
@@ -148,18 +316,19 @@ pub(crate) fn first_clash(
     ensures { IfOk result (λ o. o ≡ slice_get (Spec.clashes_behind [] (Spec.held (map brought_view declarations.now))) 0) }
 {
     let mut seen = Seen {
-        firsts: BTreeMap::new(alloc),
-        values: Values::Nothing,
-        has_every: false,
+        all: Groups::nothing(),
+        every: Groups::nothing(),
+        by_label: BTreeMap::new(alloc),
     };
     for brought in declarations {
         let Some(at) = holds(&brought.field.value) else {
             continue;
         };
-        if seen.differs(*brought) {
+        let may_open = may_open(*brought);
+        if seen.differs(*brought, may_open) {
             return Ok(Some(brought.place.unwrap_or(at)));
         }
-        seen.add(*brought)?;
+        seen.add(*brought, may_open)?;
     }
     Ok(None)
 }

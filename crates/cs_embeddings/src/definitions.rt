@@ -6,7 +6,6 @@ ghost use Rattle.cs_grammar.specs.Bodies.{bodies};
 ghost use Rattle.cs_grammar.specs.View.{definition_view, file_view};
 ghost use Rattle.cs_embeddings.specs.Checks.{TellsBodies, bodies_view};
 
-use crate::bases::Bases;
 use cs_grammar::{Definition, Expr, File};
 use std::alloc::{AllocError, Global};
 use std::collections::BTreeMap;
@@ -18,7 +17,6 @@ pub(crate) type Table<'a> = BTreeMap<&'a str, Vec<&'a Expr>>;
 #[derive(Drop)]
 pub(crate) struct Bodies<'a> {
     by_name: Table<'a>,
-    pub(crate) bases: Bases<'a>,
     /// Each name once, in order of its first declaration.
     pub(crate) names: Vec<&'a str>,
     /// The bodies of a name that isn't declared.
@@ -32,7 +30,6 @@ impl<'a> Bodies<'a> {
     {
         let mut bodies = Bodies {
             by_name: BTreeMap::new(alloc),
-            bases: Bases::none(alloc),
             names: Vec::new(alloc),
             none: Vec::new(alloc),
         };
@@ -67,7 +64,6 @@ impl<'a> Bodies<'a> {
             }
         };
         bodies.push(&definition.body)?;
-        self.bases.set(alloc, name, &bodies)?;
         self.by_name.insert(name, bodies)?;
         Ok(())
     }

@@ -8,14 +8,13 @@ ghost use Rattle.cs_grammar.specs.View.{expr_view, exprs_view, fields_view, decl
 ghost use Rattle.cs_embeddings.specs.Alternatives.{most_steps};
 ghost use Rattle.cs_embeddings.specs.Checks.{TellsBodies, TellsSteps, TellsRounds, bodies_view};
 ghost use Rattle.cs_embeddings.specs.Flaws.{is_none};
-ghost use Rattle.cs_embeddings.specs.Narrowed as Narrowed;
 ghost use Rattle.cs_embeddings.specs.Shut as Shut;
 ghost use Rattle.cs_embeddings.specs.United as United;
 ghost use Rattle.cs_embeddings.specs.Embedded as Spec;
 ghost use Rattle.cs_embeddings.specs.Embedded.{can_be_embedded, all_embedded, embeds_well, embed_well, fields_embed_well, declarations_embed_well, end_embeds_well};
 
 use crate::definitions::Bodies;
-use crate::shut::{all_open, any_shut, some_shut};
+use crate::shut::{all_open, any_shut};
 use cs_grammar::{Declaration, Expr, Field, ListEnd, Wide};
 use std::alloc::{AllocError, Global};
 use std::collections::BTreeMap;
@@ -35,6 +34,8 @@ fn has_operand(operands: &[Expr]) -> bool
 pub(crate) struct Embeddable<'b, 'a> {
     pub(crate) bodies: &'b Bodies<'a>,
     steps: BTreeMap<&'a str, usize>,
+    /// Their names, each after those of the definitions that it embeds.
+    pub(crate) order: Vec<&'a str>,
 }
 
 impl<'b, 'a> Embeddable<'b, 'a> {
@@ -49,6 +50,7 @@ impl<'b, 'a> Embeddable<'b, 'a> {
         let mut embeddable = Embeddable {
             bodies,
             steps: BTreeMap::new(alloc),
+            order: Vec::new(alloc),
         };
         for steps in 0..MOST_STEPS {
             embeddable.add_all(steps)?;
@@ -83,6 +85,7 @@ impl<'b, 'a> Embeddable<'b, 'a> {
         let bodies = self.bodies;
         if self.can_embed_bodies(bodies.of_name(name), steps) {
             self.steps.insert(name, steps + 1)?;
+            self.order.push(name)?;
         }
         Ok(())
     }
@@ -103,7 +106,7 @@ impl<'b, 'a> Embeddable<'b, 'a> {
             }
             Expr::Paren(inside) => self.can_embed(inside, left),
             Expr::Or(operands) => has_operand(operands) && self.can_embed_all(operands, left),
-            Expr::And(operands) => self.may_join(operands) && self.can_embed_all(operands, left),
+            Expr::And(operands) => self.can_embed_all(operands, left),
             Expr::Reference { text, .. } => self.takes(text, steps),
             Expr::Top
             | Expr::Bottom
@@ -119,14 +122,6 @@ impl<'b, 'a> Embeddable<'b, 'a> {
             | Expr::List { .. }
             | Expr::Wide(Wide::Marked { .. } | Wide::Shut { .. }) => false,
         }
-    }
-
-    /// Whether operands of `&` that are embedded can be joined: nothing in them is shut, or one is a definition that the other narrows.
-    fn may_join(&self, operands: &Vec<Expr>) -> bool
-        ensures { (ds : List DefinitionTree) → TellsBodies self.now.bodies.now ds
-            → result ≡ Narrowed.may_join ds (exprs_view operands.now.items) }
-    {
-        !some_shut(false, operands) || self.bodies.bases.narrows(operands)
     }
 
     /// Whether operands that are joined are put together.
@@ -147,7 +142,7 @@ impl<'b, 'a> Embeddable<'b, 'a> {
     }
 
     /// Whether a definition can be embedded in so many steps, as the table tells it. One that isn't declared is at fault by its name alone.
-    fn takes(&self, name: &str, steps: usize) -> bool
+    pub(crate) fn takes(&self, name: &str, steps: usize) -> bool
         ensures { (ds : List DefinitionTree) (most o : ℕ) → TellsBodies self.now.bodies.now ds → TellsSteps self.now ds most → steps ≤ most
             → result ≡ can_be_embedded ds steps (reference name.now o) }
     {

@@ -5,7 +5,8 @@ ghost use Rattle.cs_grammar.specs.Height.{height, file_height};
 ghost use Rattle.cs_grammar.specs.Limits.{most_height};
 ghost use Rattle.cs_grammar.specs.Tree.{DefinitionTree, body, definitions};
 ghost use Rattle.cs_grammar.specs.View.{definition_view, file_view};
-ghost use Rattle.cs_embeddings.specs.Checks.{TellsTables, TellsEmbeddable, AreWell, Finds, flaw_view};
+ghost use Rattle.cs_embeddings.specs.Checks.{TellsTables, AreWell, Finds, flaw_view};
+ghost use Rattle.cs_embeddings.specs.NarrowedTable.{TellsEmbeddable};
 ghost use Rattle.cs_embeddings.specs.Bodies.{joined_body, joined_left, body_clashes};
 ghost use Rattle.cs_embeddings.specs.Flaws as Spec;
 ghost use Rattle.cs_embeddings.specs.GatheredTable.{AreSound, IsSound, body_view, left_view};
@@ -19,6 +20,7 @@ use crate::embedded::Embeddable;
 use crate::flaws::{Flaw, Flaws};
 use crate::joined::{Joiner, Room};
 use crate::kept::{Kept, KeptFile, kept_files};
+use crate::narrowed::Narrowing;
 use cs_grammar::{Definition, File};
 use std::alloc::Global;
 
@@ -45,9 +47,11 @@ pub fn without_embeddings(alloc: Global, files: &[File]) -> Result<Vec<File>, Em
 {
     let bodies = Bodies::of(alloc, files)?;
     let embeddable = Embeddable::of(alloc, &bodies)?;
+    let narrowing = Narrowing::of(alloc, &embeddable)?;
     let flaws = Flaws {
         bodies: &bodies,
         embeddable: &embeddable,
+        narrowing: &narrowing,
     };
     check_files(&flaws, files)?;
     let kept = kept_files(alloc, &embeddable, files)?;
@@ -55,7 +59,7 @@ pub fn without_embeddings(alloc: Global, files: &[File]) -> Result<Vec<File>, Em
 }
 
 /// Looks for the first flaw.
-fn check_files(flaws: &Flaws<'_, '_, '_>, files: &[File]) -> Result<(), EmbeddingFault>
+fn check_files<'a>(flaws: &Flaws<'_, '_, 'a>, files: &'a [File]) -> Result<(), EmbeddingFault>
     ensures { (ds : List DefinitionTree) → TellsEmbeddable flaws.now ds
         → FindsFlaw result (found_from (Spec.flaws ds) 0 (map file_view files.now)) }
 {
@@ -68,13 +72,14 @@ fn check_files(flaws: &Flaws<'_, '_, '_>, files: &[File]) -> Result<(), Embeddin
             Err(Flaw::NoStruct { at }) => {
                 return Err(EmbeddingFault::NoStruct { file, offset: at });
             }
+            Err(Flaw::OutOfMemory) => return Err(EmbeddingFault::OutOfMemory),
         }
     }
     Ok(())
 }
 
 /// Looks for the first flaw of a file.
-fn check_bodies(flaws: &Flaws<'_, '_, '_>, definitions: &[Definition]) -> Result<(), Flaw>
+fn check_bodies<'a>(flaws: &Flaws<'_, '_, 'a>, definitions: &'a [Definition]) -> Result<(), Flaw>
     ensures { (ds : List DefinitionTree) → TellsEmbeddable flaws.now ds
         → Finds flaw_view result (flat_map (λ d. Spec.flaws ds (body d)) (map definition_view definitions.now)) }
 {

@@ -2,12 +2,15 @@
 ghost use Rattle.std.specs.Prelude.{◌≡◌, List, map};
 ghost use Rattle.cs_grammar.specs.Tree.{DefinitionTree};
 ghost use Rattle.cs_grammar.specs.View.{expr_view, exprs_view, fields_view, declaration_view, declarations_view, end_view};
-ghost use Rattle.cs_embeddings.specs.Checks.{Finds, TellsEmbeddable, flaw_view, flaws_seen};
+ghost use Rattle.cs_embeddings.specs.Checks.{Finds, flaw_view, flaws_seen};
+ghost use Rattle.cs_embeddings.specs.NarrowedTable.{TellsEmbeddable};
 ghost use Rattle.cs_embeddings.specs.Flaws as Spec;
 
 use crate::definitions::Bodies;
 use crate::embedded::{Embeddable, MOST_STEPS};
+use crate::narrowed::Narrowing;
 use cs_grammar::{Declaration, Expr, Field, ListEnd, Wide};
+use std::alloc::AllocError;
 
 /// What is at fault, with its offset.
 #[derive(Clone, Copy)]
@@ -16,6 +19,19 @@ pub(crate) enum Flaw {
     Unknown { at: usize },
     /// What is embedded and can't be.
     NoStruct { at: usize },
+    /// Memory ran out.
+    OutOfMemory,
+}
+
+impl From<AllocError> for Flaw {
+    ghost use Rattle.std.specs.Prelude.{◌≡◌};
+    ghost use Rattle.cs_embeddings.specs.declared.flaws.Flaw.TheVariants.{OutOfMemory};
+
+    ghost from_gives = { λ _ e. e ≡ OutOfMemory };
+
+    fn from(_refused: AllocError) -> Flaw {
+        Flaw::OutOfMemory
+    }
 }
 
 /// Looks for flaws.
@@ -23,12 +39,13 @@ pub(crate) enum Flaw {
 pub(crate) struct Flaws<'e, 'b, 'a> {
     pub(crate) bodies: &'b Bodies<'a>,
     pub(crate) embeddable: &'e Embeddable<'b, 'a>,
+    pub(crate) narrowing: &'e Narrowing<'b, 'a>,
 }
 
-impl Flaws<'_, '_, '_> {
+impl<'a> Flaws<'_, '_, 'a> {
     /// Looks for a flaw in an expression. `Err` has the first one.
     #[cycle(flaws)]
-    pub(crate) fn check(&self, expr: &Expr) -> Result<(), Flaw>
+    pub(crate) fn check(&self, expr: &'a Expr) -> Result<(), Flaw>
         ensures { (ds : List DefinitionTree) → TellsEmbeddable self.now ds
             → Finds flaw_view result (Spec.flaws ds (expr_view expr.now)) }
     {
@@ -59,7 +76,7 @@ impl Flaws<'_, '_, '_> {
     }
 
     #[cycle(flaws)]
-    fn check_each(&self, exprs: &[Expr]) -> Result<(), Flaw>
+    fn check_each(&self, exprs: &'a [Expr]) -> Result<(), Flaw>
         ensures { (ds : List DefinitionTree) → TellsEmbeddable self.now ds
             → Finds flaw_view result (Spec.flaws_each ds (exprs_view exprs.now)) }
     {
@@ -70,7 +87,7 @@ impl Flaws<'_, '_, '_> {
     }
 
     #[cycle(flaws)]
-    fn check_fields(&self, fields: &[Field]) -> Result<(), Flaw>
+    fn check_fields(&self, fields: &'a [Field]) -> Result<(), Flaw>
         ensures { (ds : List DefinitionTree) → TellsEmbeddable self.now ds
             → Finds flaw_view result (Spec.flaws_fields ds (fields_view fields.now)) }
     {
@@ -81,7 +98,7 @@ impl Flaws<'_, '_, '_> {
     }
 
     #[cycle(flaws)]
-    fn check_declarations(&self, declarations: &[Declaration]) -> Result<(), Flaw>
+    fn check_declarations(&self, declarations: &'a [Declaration]) -> Result<(), Flaw>
         ensures { (ds : List DefinitionTree) → TellsEmbeddable self.now ds
             → Finds flaw_view result (Spec.flaws_declarations ds (declarations_view declarations.now)) }
     {
@@ -92,7 +109,7 @@ impl Flaws<'_, '_, '_> {
     }
 
     #[cycle(flaws)]
-    fn check_declaration(&self, declaration: &Declaration) -> Result<(), Flaw>
+    fn check_declaration(&self, declaration: &'a Declaration) -> Result<(), Flaw>
         ensures { (ds : List DefinitionTree) → TellsEmbeddable self.now ds
             → Finds flaw_view result (flaws_seen ds (declaration_view declaration.now)) }
     {
@@ -106,7 +123,7 @@ impl Flaws<'_, '_, '_> {
     }
 
     #[cycle(flaws)]
-    fn check_end(&self, end: &ListEnd) -> Result<(), Flaw>
+    fn check_end(&self, end: &'a ListEnd) -> Result<(), Flaw>
         ensures { (ds : List DefinitionTree) → TellsEmbeddable self.now ds
             → Finds flaw_view result (Spec.flaws_end ds (end_view end.now)) }
     {
@@ -117,12 +134,14 @@ impl Flaws<'_, '_, '_> {
     }
 
     /// Looks for what is at fault with an expression that is embedded at an offset.
-    fn check_embedded(&self, at: usize, expr: &Expr) -> Result<(), Flaw>
+    fn check_embedded(&self, at: usize, expr: &'a Expr) -> Result<(), Flaw>
         ensures { (ds : List DefinitionTree) → TellsEmbeddable self.now ds
             → Finds flaw_view result (Spec.flaws_here ds at (expr_view expr.now)) }
     {
         self.check_names(expr)?;
-        if self.embeddable.can_embed(expr, MOST_STEPS) {
+        if self.embeddable.can_embed(expr, MOST_STEPS)
+            && self.narrowing.joins_well(MOST_STEPS, expr)?
+        {
             Ok(())
         } else {
             Err(Flaw::NoStruct { at })
@@ -131,7 +150,7 @@ impl Flaws<'_, '_, '_> {
 
     /// Looks for a name that is embedded and not declared.
     #[cycle(names)]
-    fn check_names(&self, expr: &Expr) -> Result<(), Flaw>
+    fn check_names(&self, expr: &'a Expr) -> Result<(), Flaw>
         ensures { (ds : List DefinitionTree) → TellsEmbeddable self.now ds
             → Finds flaw_view result (map Spec.unknown (Spec.unknown_in ds (expr_view expr.now))) }
     {
@@ -140,7 +159,7 @@ impl Flaws<'_, '_, '_> {
                 Err(Flaw::Unknown { at: *at })
             }
             Expr::Paren(inside) => self.check_names(inside),
-            Expr::Or(operands) => self.check_names_of(operands),
+            Expr::And(operands) | Expr::Or(operands) => self.check_names_of(operands),
             Expr::Top
             | Expr::Bottom
             | Expr::Null
@@ -153,7 +172,6 @@ impl Flaws<'_, '_, '_> {
             | Expr::NotInt(_)
             | Expr::NotText(_)
             | Expr::NotNull
-            | Expr::And(_)
             | Expr::Struct { .. }
             | Expr::List { .. }
             | Expr::Wide(_) => Ok(()),
@@ -161,7 +179,7 @@ impl Flaws<'_, '_, '_> {
     }
 
     #[cycle(names)]
-    fn check_names_of(&self, exprs: &[Expr]) -> Result<(), Flaw>
+    fn check_names_of(&self, exprs: &'a [Expr]) -> Result<(), Flaw>
         ensures { (ds : List DefinitionTree) → TellsEmbeddable self.now ds
             → Finds flaw_view result (map Spec.unknown (Spec.unknown_each ds (exprs_view exprs.now))) }
     {

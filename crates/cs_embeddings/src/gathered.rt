@@ -41,6 +41,8 @@ pub(crate) struct Declared<'a> {
     pub(crate) value: &'a Expr,
     /// The offset of the reference that brought it, or of the definition that it is.
     pub(crate) place: Option<usize>,
+    /// The offset of the embedding that brought it.
+    pub(crate) embedding: Option<usize>,
 }
 
 impl<'a> Declared<'a> {
@@ -53,6 +55,7 @@ impl<'a> Declared<'a> {
             mark: brought.field.mark,
             value: &brought.field.value,
             place: brought.place,
+            embedding: brought.embedding,
         }
     }
 
@@ -72,6 +75,7 @@ impl<'a> Declared<'a> {
             mark: FieldMark::Regular,
             value: &definition.body,
             place: Some(definition.at),
+            embedding: None,
         }
     }
 }

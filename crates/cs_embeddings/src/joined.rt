@@ -20,7 +20,7 @@ ghost use Rattle.cs_embeddings.specs.United.{unites};
 ghost use Rattle.cs_embeddings.specs.Views.{alternative_view, alternatives_view};
 
 use crate::EmbeddingFault;
-use crate::alternatives::Alternative;
+use crate::alternatives::{Alternative, Origin};
 use crate::clashes::first_clash;
 use crate::embedded::Embeddable;
 use crate::found::Found;
@@ -137,7 +137,7 @@ impl<'b, 'a> Joiner<'b, 'a> {
             Expr::Struct { at, fields, opened } => {
                 let at = room.place.unwrap_or(*at);
                 let mut own = Alternative::nothing(self.alloc);
-                own.add(room.place, fields)?;
+                own.add(Origin::itself(room.place), fields)?;
                 own.opened = *opened;
                 self.joined_alternative(at, &own, false, room, nodes)
             }

@@ -1,5 +1,5 @@
 // What a literal with embeddings can be.
-ghost use Rattle.std.specs.Prelude.{◌≡◌, ℕ, List, [], ◌∷◌, ◌++◌, map, true, Some};
+ghost use Rattle.std.specs.Prelude.{◌≡◌, ℕ, List, [], ◌∷◌, ◌++◌, map, true};
 ghost use Rattle.std.specs.List.{flat_map, list_all};
 ghost use Rattle.cs_grammar.specs.Tree.{DefinitionTree, conjunction};
 ghost use Rattle.cs_grammar.specs.Bodies.{bodies};
@@ -8,10 +8,10 @@ ghost use Rattle.cs_embeddings.specs.Alternatives as Spec;
 ghost use Rattle.cs_embeddings.specs.Checks.{TellsBodies, ReachesAll, bodies_view};
 ghost use Rattle.cs_embeddings.specs.Embedded.{can_be_embedded, all_embedded, declarations_embed_well};
 ghost use Rattle.cs_embeddings.specs.United as United;
-ghost use Rattle.cs_embeddings.specs.Views.{alternative_view, alternatives_view, with_field, Reaches};
+ghost use Rattle.cs_embeddings.specs.Views.{origin_view, alternative_view, alternatives_view, with_field, Reaches};
 
 use crate::EmbeddingFault;
-use crate::alternatives::{Alternative, Brought};
+use crate::alternatives::{Alternative, Brought, Origin};
 use crate::definitions::Bodies;
 use crate::embedded::MOST_STEPS;
 use crate::found::Found;
@@ -41,7 +41,7 @@ impl<'a> Joining<'_, 'a> {
     {
         let mut nothing = Alternative::nothing(self.alloc);
         nothing.opened = is_opened;
-        self.join_declarations(MOST_STEPS, place, declarations, nothing)
+        self.join_declarations(MOST_STEPS, Origin::itself(place), declarations, nothing)
     }
 
     /// What operands that are put together can be. `TooLarge` where that is more than there is room for.
@@ -56,7 +56,7 @@ impl<'a> Joining<'_, 'a> {
     {
         self.join_values(
             MOST_STEPS - 1,
-            place,
+            Origin::itself(place),
             operands,
             Alternative::nothing(self.alloc),
         )
@@ -67,14 +67,14 @@ impl<'a> Joining<'_, 'a> {
     fn join(
         self,
         steps: usize,
-        place: Option<usize>,
+        origin: Origin,
         expr: &'a Expr,
         mut before: Alternative<'a>,
         found: &mut Found<'a>,
     ) -> Result<(), EmbeddingFault>
         ensures { (ds : List DefinitionTree) → TellsBodies self.entry.bodies.now ds → can_be_embedded ds steps (expr_view expr.now) ≡ true
             → Reaches result self.entry.room (alternatives_view found.old.alternatives.items
-            ++ Spec.alternatives ds steps place (expr_view expr.now) (alternative_view before.entry))
+            ++ Spec.alternatives ds steps (origin_view origin) (expr_view expr.now) (alternative_view before.entry))
             (alternatives_view found.new.alternatives.items) }
     {
         let Some(left) = steps.checked_sub(1) else {
@@ -82,7 +82,7 @@ impl<'a> Joining<'_, 'a> {
         };
         match expr {
             Expr::Struct { fields, opened, .. } => {
-                before.add(place, fields)?;
+                before.add(origin, fields)?;
                 before.opened |= *opened;
                 found.push(self.room, before)
             }
@@ -94,17 +94,17 @@ impl<'a> Joining<'_, 'a> {
                 },
             ) => {
                 before.opened |= *opened;
-                let joined = self.join_declarations(left, place, declarations, before)?;
+                let joined = self.join_declarations(left, origin, declarations, before)?;
                 found.append(self.room, joined)
             }
-            Expr::Paren(inside) => self.join(left, place, inside, before, found),
-            Expr::Or(operands) => self.join_operands(left, place, operands, &before, found),
+            Expr::Paren(inside) => self.join(left, origin, inside, before, found),
+            Expr::Or(operands) => self.join_operands(left, origin, operands, &before, found),
             Expr::And(operands) => {
-                let joined = self.join_all(left, place, operands, before)?;
+                let joined = self.join_all(left, origin, operands, before)?;
                 found.append(self.room, joined)
             }
             Expr::Reference { text, at } => {
-                self.join_definition(left, place.unwrap_or(*at), text, before, found)
+                self.join_definition(left, origin.referred_at(*at), text, before, found)
             }
             Expr::Top
             | Expr::Bottom
@@ -127,17 +127,17 @@ impl<'a> Joining<'_, 'a> {
     fn join_each(
         self,
         steps: usize,
-        place: Option<usize>,
+        origin: Origin,
         expr: &'a Expr,
         before: Found<'a>,
     ) -> Result<Found<'a>, EmbeddingFault>
         ensures { (ds : List DefinitionTree) → TellsBodies self.entry.bodies.now ds → can_be_embedded ds steps (expr_view expr.now) ≡ true
-            → ReachesAll result self.entry.room (flat_map (Spec.alternatives ds steps place (expr_view expr.now))
+            → ReachesAll result self.entry.room (flat_map (Spec.alternatives ds steps (origin_view origin) (expr_view expr.now))
             (alternatives_view before.entry.alternatives.items)) }
     {
         let mut found = Found::nothing(self.alloc);
         for alternative in before.alternatives {
-            self.join(steps, place, expr, alternative, &mut found)?;
+            self.join(steps, origin, expr, alternative, &mut found)?;
         }
         Ok(found)
     }
@@ -147,21 +147,23 @@ impl<'a> Joining<'_, 'a> {
     fn join_declarations(
         self,
         steps: usize,
-        place: Option<usize>,
+        origin: Origin,
         declarations: &'a [Declaration],
         before: Alternative<'a>,
     ) -> Result<Found<'a>, EmbeddingFault>
         ensures { (ds : List DefinitionTree) → TellsBodies self.entry.bodies.now ds
             → declarations_embed_well (can_be_embedded ds steps) (declarations_view declarations.now) ≡ true
-            → ReachesAll result self.entry.room (Spec.join_declarations (Spec.alternatives ds steps) place (declarations_view declarations.now)
+            → ReachesAll result self.entry.room (Spec.join_declarations (Spec.alternatives ds steps) (origin_view origin) (declarations_view declarations.now)
             (alternative_view before.entry ∷ [])) }
     {
         let mut found = Found::nothing(self.alloc);
         found.push(self.room, before)?;
         for declaration in declarations {
             found = match declaration {
-                Declaration::Field(field) => self.join_field(place, field, found)?,
-                Declaration::Embedded { value, .. } => self.join_each(steps, place, value, found)?,
+                Declaration::Field(field) => self.join_field(origin, field, found)?,
+                Declaration::Embedded { at, value } => {
+                    self.join_each(steps, origin.embedded_at(*at), value, found)?
+                }
             };
         }
         Ok(found)
@@ -170,15 +172,20 @@ impl<'a> Joining<'_, 'a> {
     /// A field behind each of those before it.
     fn join_field(
         self,
-        place: Option<usize>,
+        origin: Origin,
         field: &'a Field,
         before: Found<'a>,
     ) -> Result<Found<'a>, EmbeddingFault>
-        ensures { ReachesAll result self.entry.room (map (with_field place (field_view field.now)) (alternatives_view before.entry.alternatives.items)) }
+        ensures { ReachesAll result self.entry.room (map (with_field (origin_view origin) (field_view field.now))
+            (alternatives_view before.entry.alternatives.items)) }
     {
         let mut found = Found::nothing(self.alloc);
         for mut alternative in before.alternatives {
-            alternative.declarations.push(Brought { field, place })?;
+            alternative.declarations.push(Brought {
+                field,
+                place: origin.place,
+                embedding: origin.embedding,
+            })?;
             found.push(self.room, alternative)?;
         }
         Ok(found)
@@ -189,20 +196,20 @@ impl<'a> Joining<'_, 'a> {
     fn join_definition(
         self,
         steps: usize,
-        at: usize,
+        origin: Origin,
         name: &'a str,
         before: Alternative<'a>,
         found: &mut Found<'a>,
     ) -> Result<(), EmbeddingFault>
         ensures { (ds : List DefinitionTree) → TellsBodies self.entry.bodies.now ds → list_all (can_be_embedded ds steps) (bodies name.now ds) ≡ true
             → Reaches result self.entry.room (alternatives_view found.old.alternatives.items
-            ++ Spec.join_definition (Spec.alternatives ds steps) name.now at (bodies name.now ds) (alternative_view before.entry))
+            ++ Spec.join_definition (Spec.alternatives ds steps) name.now (origin_view origin) (bodies name.now ds) (alternative_view before.entry))
             (alternatives_view found.new.alternatives.items) }
     {
         if before.meets(name) {
             return found.push(self.room, before);
         }
-        let joined = self.join_bodies(steps, at, name, before)?;
+        let joined = self.join_bodies(steps, origin, name, before)?;
         found.append(self.room, joined)
     }
 
@@ -211,15 +218,15 @@ impl<'a> Joining<'_, 'a> {
     fn join_bodies(
         self,
         steps: usize,
-        at: usize,
+        origin: Origin,
         name: &'a str,
         before: Alternative<'a>,
     ) -> Result<Found<'a>, EmbeddingFault>
         ensures { (ds : List DefinitionTree) → TellsBodies self.entry.bodies.now ds → list_all (can_be_embedded ds steps) (bodies name.now ds) ≡ true
-            → ReachesAll result self.entry.room (map (Spec.meet name.now) (Spec.join_bodies (Spec.alternatives ds steps) (Some at) (bodies name.now ds)
+            → ReachesAll result self.entry.room (map (Spec.meet name.now) (Spec.join_bodies (Spec.alternatives ds steps) (origin_view origin) (bodies name.now ds)
             (alternative_view before.entry ∷ []))) }
     {
-        let found = self.join_values(steps, Some(at), self.bodies.of_name(name), before)?;
+        let found = self.join_values(steps, origin, self.bodies.of_name(name), before)?;
         self.meet(name, found)
     }
 
@@ -228,19 +235,19 @@ impl<'a> Joining<'_, 'a> {
     fn join_values(
         self,
         steps: usize,
-        place: Option<usize>,
+        origin: Origin,
         values: &[&'a Expr],
         before: Alternative<'a>,
     ) -> Result<Found<'a>, EmbeddingFault>
         ensures { (ds : List DefinitionTree) → TellsBodies self.entry.bodies.now ds
             → list_all (can_be_embedded ds steps) (bodies_view values.now) ≡ true
-            → ReachesAll result self.entry.room (Spec.join_bodies (Spec.alternatives ds steps) place (bodies_view values.now)
+            → ReachesAll result self.entry.room (Spec.join_bodies (Spec.alternatives ds steps) (origin_view origin) (bodies_view values.now)
             (alternative_view before.entry ∷ [])) }
     {
         let mut found = Found::nothing(self.alloc);
         found.push(self.room, before)?;
         for value in values {
-            found = self.join_each(steps, place, *value, found)?;
+            found = self.join_each(steps, origin, *value, found)?;
         }
         Ok(found)
     }
@@ -262,19 +269,19 @@ impl<'a> Joining<'_, 'a> {
     fn join_all(
         self,
         steps: usize,
-        place: Option<usize>,
+        origin: Origin,
         operands: &'a [Expr],
         before: Alternative<'a>,
     ) -> Result<Found<'a>, EmbeddingFault>
         ensures { (ds : List DefinitionTree) → TellsBodies self.entry.bodies.now ds
             → all_embedded (can_be_embedded ds steps) (exprs_view operands.now) ≡ true
-            → ReachesAll result self.entry.room (Spec.join_all (Spec.alternatives ds steps) place (exprs_view operands.now)
+            → ReachesAll result self.entry.room (Spec.join_all (Spec.alternatives ds steps) (origin_view origin) (exprs_view operands.now)
             (alternative_view before.entry ∷ [])) }
     {
         let mut found = Found::nothing(self.alloc);
         found.push(self.room, before)?;
         for operand in operands {
-            found = self.join_each(steps, place, operand, found)?;
+            found = self.join_each(steps, origin, operand, found)?;
         }
         Ok(found)
     }
@@ -284,7 +291,7 @@ impl<'a> Joining<'_, 'a> {
     fn join_operands(
         self,
         steps: usize,
-        place: Option<usize>,
+        origin: Origin,
         operands: &'a [Expr],
         before: &Alternative<'a>,
         found: &mut Found<'a>,
@@ -292,11 +299,11 @@ impl<'a> Joining<'_, 'a> {
         ensures { (ds : List DefinitionTree) → TellsBodies self.entry.bodies.now ds
             → all_embedded (can_be_embedded ds steps) (exprs_view operands.now) ≡ true
             → Reaches result self.entry.room (alternatives_view found.old.alternatives.items
-            ++ Spec.join_operands (Spec.alternatives ds steps) place (exprs_view operands.now) (alternative_view before.now))
+            ++ Spec.join_operands (Spec.alternatives ds steps) (origin_view origin) (exprs_view operands.now) (alternative_view before.now))
             (alternatives_view found.new.alternatives.items) }
     {
         for operand in operands {
-            self.join(steps, place, operand, before.copy(self.alloc)?, found)?;
+            self.join(steps, origin, operand, before.copy(self.alloc)?, found)?;
         }
         Ok(())
     }

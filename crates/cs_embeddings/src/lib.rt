@@ -2,7 +2,6 @@
 #![tactic(auto)]
 
 mod alternatives;
-mod bases;
 mod clashes;
 mod definitions;
 mod embedded;
@@ -15,7 +14,11 @@ mod held;
 mod joined;
 mod joining;
 mod kept;
+mod labels;
 mod laws;
+mod narrowed;
+mod numbers;
+mod rows;
 mod shut;
 
 pub use cs_grammar::File;

@@ -121,7 +121,8 @@ fn flaw_beside<'t>(
     if is_alone {
         return Ok(None);
     }
-    if let Some((first, second)) = opened_twice(alloc, &joined.fields, field)? {
+    let bracket = literal.source.around(literal.from);
+    if let Some((first, second)) = opened_twice(alloc, &joined.fields, bracket, field)? {
         return Ok(Some(Flaw::of_clash(first, second)));
     }
     let twice = declared_twice(&joined.fields, field);
@@ -209,15 +210,17 @@ fn declared_twice<'t>(
     None
 }
 
-/// The first two declarations whose values would open one another: of one key with this field, or of any where none is given.
+/// The first two declarations in the literal of a bracket whose values would open one another: of one key with this field, or of any where none is
+/// given.
 fn opened_twice<'t>(
     alloc: Global,
     fields: &[Brought<'t, 't>],
+    literal: usize,
     field: Option<Part<'t, 't>>,
 ) -> Result<Option<(Part<'t, 't>, Part<'t, 't>)>, AllocError> {
     let mut values = Vec::new(alloc);
     for declaration in fields.iter().take(MOST_COMPARED) {
-        let value = Value::of(declaration.part);
+        let value = Value::of(*declaration, literal);
         if value.holds {
             values.push(value)?;
         }

@@ -11,15 +11,15 @@ use cs_grammar::{Expr, Field, FieldMark};
 use std::collections::BTreeSet;
 
 /// The labels of a struct literal.
-pub type FieldLabels<'a> = BTreeSet<&'a str>;
+pub(crate) type FieldLabels<'a> = BTreeSet<&'a str>;
 
 /// The name of the definition that is narrowed, with its `#`, and the fields of the literal that narrows it.
 #[derive(Clone, Copy)]
-pub struct Narrowing<'a> {
+pub(crate) struct Narrowing<'a> {
     /// The name of the definition.
-    pub base: &'a str,
+    pub(crate) base: &'a str,
     /// The fields of the literal.
-    pub fields: &'a Vec<Field>,
+    pub(crate) fields: &'a Vec<Field>,
 }
 
 /// Whether one of the fields is `[string]: T`.
@@ -36,7 +36,7 @@ fn has_every_key(fields: &Vec<Field>) -> bool
 
 /// The fields of a struct literal without `...` and without `[string]`, parentheses taken away; `None` of any other expression (CUE,
 /// "Definitions and hidden fields": which structs are closed).
-pub fn closed_literal(expr: &Expr) -> Option<&Vec<Field>>
+pub(crate) fn closed_literal(expr: &Expr) -> Option<&Vec<Field>>
     ensures { option_map (λ v. fields_view v.now.items) result
         ≡ Refinement.closed_literal (expr_view expr.now) }
 {
@@ -54,8 +54,9 @@ pub fn closed_literal(expr: &Expr) -> Option<&Vec<Field>>
     }
 }
 
-/// The name of the definition that an expression refers to, parentheses taken away.
-fn referred(expr: &Expr) -> Option<&str>
+/// The name of the definition that an expression refers to, with its `#`, parentheses taken away; `None` of any other expression (CUE,
+/// "References").
+pub fn referred(expr: &Expr) -> Option<&str>
     ensures { option_map (λ n. n.now) result ≡ Refinement.referred (expr_view expr.now) }
 {
     match expr {
@@ -79,7 +80,7 @@ fn narrowing_of<'a>(reference: &'a Expr, literal: &'a Expr) -> Option<Narrowing<
 
 /// What is narrowed by two operands that `&` joins, in either order: a definition by a closed literal, parentheses taken away. `None` of any
 /// other operands. Whether the definition is closed and has these labels is not looked at.
-pub fn operands_narrowing(operands: &Vec<Expr>) -> Option<Narrowing<'_>>
+pub(crate) fn operands_narrowing(operands: &Vec<Expr>) -> Option<Narrowing<'_>>
     ensures { option_map narrowing_view result
         ≡ Refinement.narrowing (exprs_view operands.now.items) }
 {

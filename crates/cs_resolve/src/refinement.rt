@@ -99,7 +99,10 @@ fn sole_bodies(alloc: Global, files: &Vec<File>) -> Result<SoleBodies<'_>, Alloc
 ///
 /// # Errors
 /// Memory ran out.
-pub fn field_labels(alloc: Global, fields: &Vec<Field>) -> Result<FieldLabels<'_>, AllocError>
+pub(crate) fn field_labels(
+    alloc: Global,
+    fields: &Vec<Field>,
+) -> Result<FieldLabels<'_>, AllocError>
     ensures { IfOk result (λ s. HoldsTexts s (Refinement.texts (fields_view fields.now.items))) }
 {
     let mut labels = BTreeSet::new(alloc);

@@ -14,7 +14,7 @@ use Rattle.cs_package.specs.Environment.{Environment}
 use Rattle.cs_resolve.specs.Opening.{joined, conjunctions, conjunctions_all, conjunctions_fields, conjunctions_end, named_fields, named_bodies, values_of_each, KeepsRule}
 use Rattle.cs_resolve.specs.Refinement.{Refinements, IsRefinement}
 use Rattle.cs_resolve.specs.Resolved.{IsPackage}
-use Rattle.cs_embeddings.specs.Alternatives.{Brought, Alternative, nothing, with_fields, with_declaration}
+use Rattle.cs_embeddings.specs.Alternatives.{Brought, Alternative, nothing, itself, with_fields, with_declaration}
 use Rattle.cs_embeddings.specs.Bodies.{Body, as_declared, bodies_behind, left_behind, joined_body, joined_left, body_clashes}
 use Rattle.cs_embeddings.specs.Clashes.{clashes_with, clashes_each, clashes_end, clashes_value}
 use Rattle.cs_embeddings.specs.Flaws.{flaws, flaws_each, flaws_fields, flaws_end}
@@ -31,15 +31,15 @@ none_of_both xs ys p q = ap₂ (λ zs ws. zs ++ ws) p q
 
 -- ---- the declarations of a literal without embeddings
 
-own_declarations : (fs : Fields) (a : Alternative) → (with_fields None fs a).declarations ≡ a.declarations ++ declarations_of fs
+own_declarations : (fs : Fields) (a : Alternative) → (with_fields (itself None) fs a).declarations ≡ a.declarations ++ declarations_of fs
 own_declarations no_field a = sym (append-nil a.declarations)
 own_declarations (field l m e fs) a =
-    own_declarations fs (with_declaration None l m e a)
-    ∙ append_assoc a.declarations (record { label = l; mark = m; value = e; place = None } ∷ []) (declarations_of fs)
+    own_declarations fs (with_declaration (itself None) l m e a)
+    ∙ append_assoc a.declarations (record { label = l; mark = m; value = e; place = None; embedding = None } ∷ []) (declarations_of fs)
 
-own_opened : (fs : Fields) (a : Alternative) → (with_fields None fs a).opened ≡ a.opened
+own_opened : (fs : Fields) (a : Alternative) → (with_fields (itself None) fs a).opened ≡ a.opened
 own_opened no_field a = refl
-own_opened (field l m e fs) a = own_opened fs (with_declaration None l m e a)
+own_opened (field l m e fs) a = own_opened fs (with_declaration (itself None) l m e a)
 
 module _ (ds : List DefinitionTree) where
   abbrev AreApart : List Brought → List Brought → Type 0
@@ -55,7 +55,7 @@ module _ (ds : List DefinitionTree) where
       by true xs h = cc
       by false xs h = refl
 
-  own_left : (fs : Fields) → AreApart (declarations_of fs) (declarations_of fs) → gathered ds (with_fields None fs nothing).declarations ≡ declarations_of fs
+  own_left : (fs : Fields) → AreApart (declarations_of fs) (declarations_of fs) → gathered ds (with_fields (itself None) fs nothing).declarations ≡ declarations_of fs
   own_left fs h = ap (gathered ds) (own_declarations fs nothing) ∙ each_left (declarations_of fs) [] (declarations_of fs) h
 
   -- so is each body, at its own place

@@ -20,7 +20,6 @@ use Rattle.cs_embeddings.specs.Gathered.{those_of, values_of, most_gathered, gat
 use Rattle.cs_embeddings.proofs.Plain.{held_written}
 use Rattle.cs_embeddings.specs.Held.{is_plain, holding}
 use Rattle.cs_embeddings.specs.Bodies.{as_declared}
-use Rattle.cs_embeddings.specs.Narrowed.{may_join}
 use Rattle.cs_embeddings.specs.Shut.{is_shut, some_shut, is_open, are_open, fields_open, end_open}
 use Rattle.cs_embeddings.specs.United.{are_several, unites}
 use Rattle.cs_embeddings.specs.Without.{all_definitions}
@@ -54,8 +53,7 @@ module _ (ds : List DefinitionTree) where
     embeddable_held (suc n) q (atom a) d w h = cc
     embeddable_held (suc n) q (named s o) d w h = cc
     embeddable_held (suc n) q (reference s o) d w h = refl
-    embeddable_held (suc n) q (conjunction es) d w h =
-        first_held n of_amp es d w.1 w.2 (and_parts (may_join ds es) (all_embedded (can_be_embedded ds n) es) h).1
+    embeddable_held (suc n) q (conjunction es) d w h = first_held n of_amp es d w.1 w.2 h
     embeddable_held (suc n) q (disjunction es) d w h =
         first_held n of_bar es d w.1 w.2 (and_parts _ (all_embedded (can_be_embedded ds n) es) h).1
     embeddable_held (suc n) q (paren e) d w h = embeddable_held n by_itself e d w h
@@ -206,7 +204,7 @@ module _ (ds : List DefinitionTree) where
   embeddable_parts : (n : ℕ) (es : Trees) → can_be_embedded ds n (conjunction es) ≡ true → (m : ℕ) × (all_embedded (can_be_embedded ds m) es ≡ true)
   unfolding can_be_embedded
   embeddable_parts zero es h = cc
-  embeddable_parts (suc n) es h = (n, (and_parts (may_join ds es) (all_embedded (can_be_embedded ds n) es) h).1)
+  embeddable_parts (suc n) es h = (n, h)
 
   -- what is put together
   record AreUnited (es : Trees) : Type 0 where
@@ -273,7 +271,7 @@ module _ (ds : List DefinitionTree) where
 -- those of a literal
 abbrev pub declarations_of : Fields → List Brought
 declarations_of no_field = []
-declarations_of (field l m e fs) = record { label = l; mark = m; value = e; place = None } ∷ declarations_of fs
+declarations_of (field l m e fs) = record { label = l; mark = m; value = e; place = None; embedding = None } ∷ declarations_of fs
 
 -- the values that are declared for a label are among those of which the rule speaks
 record AreAmong (es : Trees) (xs : List Tree) : Type 0 where
@@ -338,7 +336,7 @@ module _ (ds : List DefinitionTree) (fs : Fields) (d : AreDefaultFields fs) (w :
   not_gathered (field l m e gs) k = (by m k.0, not_gathered gs k.1)
     where
       by : (m : FieldMark) → KeepsRule (values (declared_for l m) (named_fields fs))
-          → is_gathered ds (declarations_of fs) (record { label = l; mark = m; value = e; place = None }) ≡ false
+          → is_gathered ds (declarations_of fs) (record { label = l; mark = m; value = e; place = None; embedding = None }) ≡ false
       by Regular k = held_apart l.text e k
       by Optional k = held_apart l.text e k
       by Required k = held_apart l.text e k

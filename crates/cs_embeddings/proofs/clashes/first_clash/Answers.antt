@@ -26,7 +26,7 @@ returns-then-differs c =
     let before = held (map brought_view (take i xs)) in
     let behind = held (map brought_view (drop (i + 1) xs)) in
     let held_here = held_by (brought_view x) c.in-Some.at (sym c.in-Some.ensures) in
-    let differs = sym (c.differs.ensures before c.loop-brought.invariant.told) ∙ c.if-differs.true in
+    let differs = sym (c.differs.ensures before c.may_open-may_open.ensures c.loop-brought.invariant.told) ∙ c.if-differs.true in
     let rest = held_rest xs i x c.loop-brought-test.true c.brought-item.is held_here in
     let here = clash_here before (brought_view x) behind c.in-Some.at differs (sym c.in-Some.ensures) in
     ap Some c.unwrap_or.ensures ∙ sym (ap (λ os. slice_get os 0) (c.loop-brought.invariant.behind ∙ ap (clashes_behind before) rest ∙ here))
@@ -39,10 +39,10 @@ loop-brought-preserved c =
     let before = held (map brought_view (take i xs)) in
     let behind = held (map brought_view (drop (i + 1) xs)) in
     let held_here = held_by (brought_view x) c.in-Some.at (sym c.in-Some.ensures) in
-    let alone = sym (c.differs.ensures before c.loop-brought.invariant.told) ∙ c.if-differs.false in
+    let alone = sym (c.differs.ensures before c.may_open-may_open.ensures c.loop-brought.invariant.told) ∙ c.if-differs.false in
     let done = held_done xs i x c.loop-brought-test.true c.brought-item.is held_here in
     let rest = held_rest xs i x c.loop-brought-test.true c.brought-item.is held_here in
     record {
-      told = subst (λ ds. TellsSeen c.add.new.self ds) (sym done) (c.in_ok-add.ensures before c.loop-brought.invariant.told alone);
+      told = subst (λ ds. TellsSeen c.add.new.self ds) (sym done) (c.in_ok-add.ensures before c.may_open-may_open.ensures c.loop-brought.invariant.told);
       behind = c.loop-brought.invariant.behind ∙ ap (clashes_behind before) rest ∙ clash_passed before (brought_view x) behind alone ∙ ap (λ ds. clashes_behind ds behind) (sym done);
     }

@@ -2,7 +2,7 @@ use Rattle.std.proofs.Common.{◌≡◌, List, drop, map}
 use Rattle.std.specs.List.{flat_map}
 use Rattle.cs_grammar.specs.Tree.{DefinitionTree, body}
 use Rattle.cs_grammar.specs.View.{definition_view}
-use Rattle.cs_embeddings.specs.Checks.{TellsEmbeddable}
+use Rattle.cs_embeddings.specs.NarrowedTable.{TellsEmbeddable}
 use Rattle.cs_embeddings.specs.Flaws.{flaws}
 use Rattle.cs_embeddings.proofs.files.check_bodies.Given as goal
 

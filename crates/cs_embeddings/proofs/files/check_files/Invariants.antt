@@ -1,7 +1,7 @@
 use Rattle.std.proofs.Common.{◌≡◌, List, drop}
 use Rattle.cs_grammar.specs.Tree.{DefinitionTree}
 use Rattle.cs_embeddings.proofs.FoundFiles.{from}
-use Rattle.cs_embeddings.specs.Checks.{TellsEmbeddable}
+use Rattle.cs_embeddings.specs.NarrowedTable.{TellsEmbeddable}
 use Rattle.cs_embeddings.specs.Flaws.{flaws}
 use Rattle.cs_embeddings.proofs.files.check_files.Given as goal
 

@@ -1,14 +1,10 @@
-use Rattle.std.proofs.Common.{◌≡◌, ℕ, List, Option, [], ◌∷◌, ◌++◌, None, Some, refl, sym, ap, subst, ◌∙◌}
+use Rattle.std.proofs.Common.{◌≡◌, ℕ, List, [], ◌∷◌, ◌++◌, None, Some, refl, sym, ap, subst, ◌∙◌}
 use Rattle.std.specs.Map.{update}
 use Rattle.std.specs.Str.{bytes_eq}
 use Rattle.std.proofs.lemmas.Map.Text.{btree_map_updates_str}
-use Rattle.cs_grammar.specs.Tree.{Fields}
 use Rattle.cs_grammar.specs.View.{definition_view}
 use Rattle.cs_grammar.specs.Bodies.{bodies}
-use Rattle.cs_embeddings.specs.Checks.{TellsBases, bodies_view}
 use Rattle.cs_embeddings.specs.Flaws.{is_none}
-use Rattle.cs_embeddings.specs.Narrowed.{sole_literal}
-use Rattle.cs_embeddings.proofs.Labelled.{bases_added}
 use Rattle.cs_embeddings.proofs.Bodies.{Named, table_added, named_again, named_first, declared_by, at_name, entry_items}
 use Rattle.cs_embeddings.proofs.definitions.Bodies.add.Goals as goal
 use Rattle.cs_embeddings.proofs.definitions.Bodies.add.Goals.{in-Some, in-None+in_ok-push-in-None}
@@ -21,12 +17,9 @@ returns c ds told =
     let r = c.remove.new.self in
     let v = c.push-2.new.self in
     let n = c.insert.new.self in
-    let f : List ℕ → Option Fields = λ s. sole_literal (bodies s ds) in
     let named = c.as_str-name.ensures.value in
     let without = btree_map_updates_str name.now m r None c.remove.ensures.updates in
     let after = btree_map_updates_str name.now c.match-remove.self.by_name n _ c.in_ok-insert.ensures.updates in
-    let kept : TellsBases c.match-remove.self.bases f → TellsBases c.set.new.self (update bytes_eq f name.now (sole_literal (bodies_view v.items))) = λ told_bases.
-    subst (λ xs. TellsBases c.set.new.self (update bytes_eq f name.now (sole_literal (bodies_view xs)))) c.deref.ensures.value (c.in_ok-set.ensures f told_bases) in
     elim c.match-remove.branch [
       | in-Some w ↦
           let after_it : (t : List ℕ) → at_name t n ≡ update bytes_eq (λ s. at_name s r) name.now (Some v) t = λ t. after t ∙ ap (λ b. update bytes_eq (λ s. at_name s b.by_name) name.now (Some v) t) w.self-is in
@@ -34,7 +27,6 @@ returns c ds told =
           (ap (λ w. w.items) w.bodies-is ∙ ap entry_items (sym w.in-Some.is ∙ c.remove.ensures.value)) c.in_ok-push.ensures.items without after_it in
           record {
             table = table;
-            bases = bases_added c.set.new.self ds (definition_view d) name.now v named n r table after_it (kept (subst (λ b. TellsBases b.bases f) (sym w.self-is) told.bases));
             none = ap (λ b. b.none.items) w.self-is ∙ told.none;
             named = subst (λ b. Named b.names.items (ds ++ definition_view d ∷ [])) (sym w.self-is) (named_again c.args.self.now.names.items ds (definition_view d) told.named
                 (ap (λ s. is_none (bodies s ds)) (sym named) ∙ declared_by (at_name name.now m) w.in-Some.bodies (bodies name.now ds) (told.table name.now) (sym c.remove.ensures.value ∙ w.in-Some.is)));
@@ -45,7 +37,6 @@ returns c ds told =
           (ap (λ w. w.items) w.bodies-is ∙ w.new-bodies.ensures.items ∙ ap entry_items (sym w.in-None.is ∙ c.remove.ensures.value)) c.in_ok-push.ensures.items without after_it in
           record {
             table = table;
-            bases = bases_added c.set.new.self ds (definition_view d) name.now v named n r table after_it (kept (subst (λ b. TellsBases b.bases f) (sym w.self-is) told.bases));
             none = ap (λ b. b.none.items) w.self-is ∙ told.none;
             named = subst (λ b. Named b.names.items (ds ++ definition_view d ∷ [])) (sym w.self-is) (subst (λ ns. Named ns (ds ++ definition_view d ∷ [])) (sym w.in_ok-push-in-None.ensures.items)
                 (named_first c.args.self.now.names.items ds (definition_view d) name told.named (sym named)));

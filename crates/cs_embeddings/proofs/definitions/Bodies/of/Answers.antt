@@ -7,7 +7,7 @@ use Rattle.cs_embeddings.proofs.Bodies.{none_told, definitions_more}
 use Rattle.cs_embeddings.proofs.definitions.Bodies.of.Goals as goal
 
 pub loop-file-init : goal.loop-file-init
-loop-file-init c = none_told _ c.new.ensures.empty c.none.ensures c.new-2.ensures.items c.new-3.ensures.items
+loop-file-init c = none_told _ c.new.ensures.empty c.new-2.ensures.items c.new-3.ensures.items
 
 pub loop-file-preserved : goal.loop-file-preserved
 loop-file-preserved c =

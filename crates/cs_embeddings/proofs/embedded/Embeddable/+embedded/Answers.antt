@@ -50,21 +50,13 @@ can_embed-returns-else-has_operand t c ds most told tells low =
     let less : left ≤ most = omega arith in
     stepped ds c.args.steps left (expr_view c.args.expr.now) c.has_operand.result one (search (rules, Exprs.the_lemmas))
 
-pub can_embed-returns-then-may_join : goal.can_embed-returns-then-may_join
-can_embed-returns-then-may_join t c ds most told tells low =
+pub can_embed-returns-in-And : goal.can_embed-returns-in-And
+can_embed-returns-in-And t c ds most told tells low =
     let left = c.in-Some.left in
     let one : c.args.steps ≡ suc left = omega (arith, c.in-Some.ensures) in
     let less : left ≤ most = omega arith in
-    let may = c.may_join.ensures ds told in
-    let h = c.can_embed_all-then-may_join.ensures ds most told tells less in
-    stepped ds c.args.steps left (expr_view c.args.expr.now) c.can_embed_all-then-may_join.result one (search (rules, Exprs.the_lemmas))
-
-pub can_embed-returns-else-may_join : goal.can_embed-returns-else-may_join
-can_embed-returns-else-may_join t c ds most told tells low =
-    let left = c.in-Some.left in
-    let one : c.args.steps ≡ suc left = omega (arith, c.in-Some.ensures) in
-    let may = c.may_join.ensures ds told in
-    stepped ds c.args.steps left (expr_view c.args.expr.now) c.may_join.result one (search (rules, Exprs.the_lemmas))
+    let h = c.can_embed_all-in-And.ensures ds most told tells less in
+    stepped ds c.args.steps left (expr_view c.args.expr.now) c.can_embed_all-in-And.result one (search (rules, Exprs.the_lemmas))
 
 pub can_embed-returns-in-Top : goal.can_embed-returns-in-Top
 can_embed-returns-in-Top t c ds most told tells low =

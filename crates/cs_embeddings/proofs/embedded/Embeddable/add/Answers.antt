@@ -9,8 +9,8 @@ pub returns-then-contains_key-clause-tells : goal.returns-then-contains_key-clau
 returns-then-contains_key-clause-tells c ds names told declared rounds =
     round_kept ds c.args.self.now.steps c.args.steps names c.args.name rounds (sym c.contains_key.ensures ∙ c.if-contains_key.true)
 
-pub returns-in_ok-insert-clause-tells : goal.returns-in_ok-insert-clause-tells
-returns-in_ok-insert-clause-tells c ds names told declared rounds =
+pub returns-in_ok-push-clause-tells : goal.returns-in_ok-push-clause-tells
+returns-in_ok-push-clause-tells c ds names told declared rounds =
     let m = c.args.self.now.steps in
     let n = c.args.steps in
     let low : n ≤ n = omega arith in

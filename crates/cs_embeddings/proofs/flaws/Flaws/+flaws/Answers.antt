@@ -4,7 +4,7 @@ use Rattle.cs_grammar.specs.declared.ast.Expr as Exprs
 use Rattle.cs_grammar.specs.View.{expr_view, exprs_view, fields_view, declaration_view, declarations_view, end_view}
 use Rattle.cs_embeddings.specs.Checks.{flaw_view, flaws_seen}
 use Rattle.cs_embeddings.specs.Flaws.{flaws, flaws_here, flaws_each, flaws_fields, flaws_declarations, flaws_end}
-use Rattle.cs_embeddings.proofs.Firsts.{first_left, none_left, first_here, none_more, all_none, field_parts, declaration_parts, finds_as}
+use Rattle.cs_embeddings.proofs.Firsts.{found_left, none_left, first_here, none_more, all_none, field_parts, declaration_parts, finds_as}
 use Rattle.cs_embeddings.proofs.flaws.Flaws.+flaws.Goals as goal
 
 pub check-returns-in-Paren : goal.check-returns-in-Paren
@@ -32,7 +32,7 @@ check-returns-in_err-check_each-in-List t c ds tells =
     let h = c.in_err-check_each-in-List.ensures ds tells in
     let p = err_from_is_err_and c.from_residual.result c.from_residual.ensures.1 in
     let is : flaws ds (expr_view c.args.expr.now) ≡ flaws_each ds front ++ flaws_end ds end = search (rules, Exprs.the_lemmas) in
-    rw (p.1, p.2, is) (first_left (flaws_each ds front) (flaws_end ds end) _ h)
+    rw (p.1, p.2, is) (found_left (flaws_each ds front) (flaws_end ds end) _ h)
 
 pub check-returns-in_ok-check_each-in-List : goal.check-returns-in_ok-check_each-in-List
 check-returns-in_ok-check_each-in-List t c ds tells =
@@ -54,7 +54,7 @@ check_declaration-returns-in_err-check_embedded-in-Embedded t c ds tells =
     let h = c.in_err-check_embedded-in-Embedded.ensures ds tells in
     let p = err_from_is_err_and c.from_residual.result c.from_residual.ensures.1 in
     let is : flaws_seen ds (declaration_view c.args.declaration.now) ≡ flaws_here ds c.in-Embedded.at e ++ flaws ds e = search (rules, Exprs.the_lemmas) in
-    rw (p.1, p.2, is) (first_left (flaws_here ds c.in-Embedded.at e) (flaws ds e) _ h)
+    rw (p.1, p.2, is) (found_left (flaws_here ds c.in-Embedded.at e) (flaws ds e) _ h)
 
 pub check_declaration-returns-in_ok-check_embedded-in-Embedded : goal.check_declaration-returns-in_ok-check_embedded-in-Embedded
 check_declaration-returns-in_ok-check_embedded-in-Embedded t c ds tells =

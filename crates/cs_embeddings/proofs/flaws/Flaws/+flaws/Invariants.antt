@@ -1,7 +1,7 @@
 use Rattle.std.proofs.Common.{◌≡◌, List, drop}
 use Rattle.cs_grammar.specs.Tree.{DefinitionTree}
 use Rattle.cs_grammar.specs.View.{exprs_view, fields_view, declarations_view}
-use Rattle.cs_embeddings.specs.Checks.{TellsEmbeddable}
+use Rattle.cs_embeddings.specs.NarrowedTable.{TellsEmbeddable}
 use Rattle.cs_embeddings.specs.Flaws.{flaws_each, flaws_fields, flaws_declarations}
 use Rattle.cs_embeddings.proofs.flaws.Flaws.+flaws.Given as goal
 

@@ -1,7 +1,7 @@
 use Rattle.std.proofs.Common.{◌≡◌, List, drop, map}
 use Rattle.cs_grammar.specs.Tree.{DefinitionTree}
 use Rattle.cs_grammar.specs.View.{exprs_view}
-use Rattle.cs_embeddings.specs.Checks.{TellsEmbeddable}
+use Rattle.cs_embeddings.specs.NarrowedTable.{TellsEmbeddable}
 use Rattle.cs_embeddings.specs.Flaws.{unknown, unknown_each}
 use Rattle.cs_embeddings.proofs.flaws.Flaws.+names.Given as goal
 

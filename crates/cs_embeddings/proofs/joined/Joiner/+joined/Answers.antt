@@ -533,7 +533,8 @@ joined-returns-in_ok-add-in-Struct t c ds n tells well embeds deep =
     let nodes = c.args.nodes.now in let r = c.joined_alternative.result in let rest = c.joined_alternative.new.nodes in
     let o = c.in-Struct.at in let b = c.in-Struct.opened in let fs = fields_view c.deref-in-Struct.result.now in
     let is = ap expr_view c.in-Struct.is ∙ view-Struct o c.in-Struct.fields b ∙ ap (λ gs. T.struct o (fields_view gs) b) (sym c.deref-in-Struct.ensures.value) in
-    let same = is_own p fs b (alternative_view c.add.new.self) (c.in_ok-add-in-Struct.ensures ∙ ap (with_fields p fs) c.nothing-own.ensures) in
+    let same = is_own p fs b (alternative_view c.add.new.self)
+    (c.in_ok-add-in-Struct.ensures ∙ ap₂ (λ q a. with_fields q fs a) c.itself.ensures c.nothing-own.ensures) in
     let here = own_well (inner ds n) p fs b (subst (λ u. embeds_well (inner ds n) u ≡ true) is embeds) in
     subst (λ u. Makes r file room.levels nodes rest (joined_with ds V room.is_whole p u) (clashes_with ds C p u)) (sym is)
     (subst (λ (q : ℕ). Makes r file room.levels nodes rest (literal_of ds V q (J.own p fs b)) (clashes_of ds C false (J.own p fs b))) c.unwrap_or-at.ensures

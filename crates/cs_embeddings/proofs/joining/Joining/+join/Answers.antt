@@ -1,4 +1,4 @@
-use Rattle.std.proofs.Common.{rules, ◌≡◌, suc, ◌+◌, ◌∷◌, [], ◌++◌, true, false, Some, map, drop, refl, sym, ap, ◌∙◌, subst, arith}
+use Rattle.std.proofs.Common.{rules, ◌≡◌, suc, ◌+◌, ◌∷◌, [], ◌++◌, true, false, map, drop, refl, sym, ap, ◌∙◌, subst, arith}
 use Rattle.std.specs.List.{flat_map, list_all}
 use Rattle.std.specs.Vec.Iter.{into_iter_items}
 use Rattle.std.proofs.lemmas.Result.{err_from_is_err_and}
@@ -10,7 +10,7 @@ use Rattle.cs_grammar.proofs.Views.{view-Struct, view-Paren, view-And, view-Or, 
 use Rattle.cs_embeddings.specs.Alternatives as Spec
 use Rattle.cs_embeddings.specs.Checks.{bodies_view, ReachesAll}
 use Rattle.cs_embeddings.specs.Embedded.{can_be_embedded}
-use Rattle.cs_embeddings.specs.Views.{alternative_view, alternatives_view, with_field, Reaches, IsTooMuch}
+use Rattle.cs_embeddings.specs.Views.{origin_view, alternative_view, alternatives_view, with_field, Reaches, IsTooMuch}
 use Rattle.cs_embeddings.specs.declared.found.Found.{Found}
 use Rattle.cs_embeddings.proofs.Joins.{is_put_together, no_steps, no_form, at_struct, at_merged, at_paren, at_disjunction, at_conjunction, at_reference, met_alone, unmet_bodies, field_step, embedded_step, body_step, conjunct_step, operand_step, too_much_of_right, declarations_too_much, all_too_much, bodies_too_much, met_too_much}
 use Rattle.cs_embeddings.proofs.Left.{too_much_here}
@@ -51,8 +51,9 @@ join-returns-in_ok-add-in-Struct t c ds tells can =
     let x = c.in-Struct in
     let is = ap expr_view x.is ∙ view-Struct x.at x.fields x.opened in
     let a = alternative_view c.args.before in
-    let here = at_struct ds c.args.steps c.in-Some.left c.args.place a one (expr_view c.args.expr.now) x.at (fields_view x.fields.items) x.opened is in
-    let fields = ap (λ fs. Spec.with_fields c.args.place (fields_view fs) a) c.deref.ensures.value in
+    let here = at_struct ds c.args.steps c.in-Some.left (origin_view c.args.origin) a one (expr_view c.args.expr.now) x.at
+    (fields_view x.fields.items) x.opened is in
+    let fields = ap (λ fs. Spec.with_fields (origin_view c.args.origin) (fields_view fs) a) c.deref.ensures.value in
     let made = here ∙ ap (λ b. Spec.opened_if x.opened b ∷ []) (sym (c.in_ok-add-in-Struct.ensures ∙ fields)) in
     subst (λ xs. Reaches c.push.result c.args.self.room (alternatives_view c.args.found.now.alternatives.items ++ xs)
     (alternatives_view c.push.new.self.alternatives.items)) (sym made) c.push.ensures
@@ -67,9 +68,9 @@ join-returns-in_err-joined-in-Wide-Merged t c ds tells can =
     let cs = declarations_view c.deref-in-Wide-Merged.result.now in
     let is : expr_view c.args.expr.now ≡ wide (merged x.field-0-0 (declarations_view x.declarations.items) x.opened) = search (rules, Exprs.the_lemmas) in
     let read = ap (λ ts. wide (merged x.field-0-0 (declarations_view ts) x.opened)) (sym c.deref-in-Wide-Merged.ensures.value) in
-    let here = at_merged ds c.args.steps c.in-Some.left c.args.place a one (expr_view c.args.expr.now) x.field-0-0 cs x.opened (is ∙ read) can in
+    let here = at_merged ds c.args.steps c.in-Some.left (origin_view c.args.origin) a one (expr_view c.args.expr.now) x.field-0-0 cs x.opened (is ∙ read) can in
     let found = alternatives_view c.args.found.now.alternatives.items in
-    let all = Spec.alternatives ds c.args.steps c.args.place (expr_view c.args.expr.now) a in
+    let all = Spec.alternatives ds c.args.steps (origin_view c.args.origin) (expr_view c.args.expr.now) a in
     rw (p.1, p.2) (too_much_of_right e c.args.self.room found all
     (subst (IsTooMuch e c.args.self.room) (sym here.1) (c.in_err-joined-in-Wide-Merged.ensures ds tells here.0)))
 
@@ -81,7 +82,7 @@ join-returns-in_ok-joined-in-Wide-Merged t c ds tells can =
     let cs = declarations_view c.deref-in-Wide-Merged.result.now in
     let is : expr_view c.args.expr.now ≡ wide (merged x.field-0-0 (declarations_view x.declarations.items) x.opened) = search (rules, Exprs.the_lemmas) in
     let read = ap (λ ts. wide (merged x.field-0-0 (declarations_view ts) x.opened)) (sym c.deref-in-Wide-Merged.ensures.value) in
-    let here = at_merged ds c.args.steps c.in-Some.left c.args.place a one (expr_view c.args.expr.now) x.field-0-0 cs x.opened (is ∙ read) can in
+    let here = at_merged ds c.args.steps c.in-Some.left (origin_view c.args.origin) a one (expr_view c.args.expr.now) x.field-0-0 cs x.opened (is ∙ read) can in
     let all = c.in_ok-joined-in-Wide-Merged.ensures ds tells here.0 ∙ sym here.1 in
     subst (λ xs. Reaches c.append.result c.args.self.room (alternatives_view c.args.found.now.alternatives.items ++ xs)
     (alternatives_view c.append.new.self.alternatives.items)) all c.append.ensures
@@ -93,7 +94,7 @@ join-returns-in-Paren t c ds tells can =
     let f = expr_view c.deref-in-Paren.result.now in
     let read = ap (λ e. paren (expr_view e)) (sym c.deref-in-Paren.ensures) in
     let is = ap expr_view c.in-Paren.is ∙ view-Paren c.in-Paren.inside ∙ read in
-    let here = at_paren ds c.args.steps c.in-Some.left c.args.place a one (expr_view c.args.expr.now) f is can in
+    let here = at_paren ds c.args.steps c.in-Some.left (origin_view c.args.origin) a one (expr_view c.args.expr.now) f is can in
     subst (λ xs. Reaches c.join.result c.args.self.room (alternatives_view c.args.found.now.alternatives.items ++ xs)
     (alternatives_view c.join.new.found.alternatives.items)) (sym here.1) (c.join.ensures ds tells here.0)
 
@@ -104,7 +105,7 @@ join-returns-in-Or t c ds tells can =
     let es = exprs_view c.deref-in-Or.result.now in
     let read = ap (λ ts. disjunction (exprs_view ts)) (sym c.deref-in-Or.ensures.value) in
     let is = ap expr_view c.in-Or.is ∙ view-Or c.in-Or.operands ∙ read in
-    let here = at_disjunction ds c.args.steps c.in-Some.left c.args.place a one (expr_view c.args.expr.now) es is can in
+    let here = at_disjunction ds c.args.steps c.in-Some.left (origin_view c.args.origin) a one (expr_view c.args.expr.now) es is can in
     subst (λ xs. Reaches c.join_operands.result c.args.self.room (alternatives_view c.args.found.now.alternatives.items ++ xs)
     (alternatives_view c.join_operands.new.found.alternatives.items)) (sym here.1) (c.join_operands.ensures ds tells here.0)
 
@@ -117,9 +118,9 @@ join-returns-in_err-joined-in-And t c ds tells can =
     let es = exprs_view c.deref-in-And.result.now in
     let read = ap (λ ts. conjunction (exprs_view ts)) (sym c.deref-in-And.ensures.value) in
     let is = ap expr_view c.in-And.is ∙ view-And c.in-And.operands ∙ read in
-    let here = at_conjunction ds c.args.steps c.in-Some.left c.args.place a one (expr_view c.args.expr.now) es is can in
+    let here = at_conjunction ds c.args.steps c.in-Some.left (origin_view c.args.origin) a one (expr_view c.args.expr.now) es is can in
     let found = alternatives_view c.args.found.now.alternatives.items in
-    let all = Spec.alternatives ds c.args.steps c.args.place (expr_view c.args.expr.now) a in
+    let all = Spec.alternatives ds c.args.steps (origin_view c.args.origin) (expr_view c.args.expr.now) a in
     rw (p.1, p.2) (too_much_of_right e c.args.self.room found all
     (subst (IsTooMuch e c.args.self.room) (sym here.1) (c.in_err-joined-in-And.ensures ds tells here.0)))
 
@@ -130,7 +131,7 @@ join-returns-in_ok-joined-in-And t c ds tells can =
     let es = exprs_view c.deref-in-And.result.now in
     let read = ap (λ ts. conjunction (exprs_view ts)) (sym c.deref-in-And.ensures.value) in
     let is = ap expr_view c.in-And.is ∙ view-And c.in-And.operands ∙ read in
-    let here = at_conjunction ds c.args.steps c.in-Some.left c.args.place a one (expr_view c.args.expr.now) es is can in
+    let here = at_conjunction ds c.args.steps c.in-Some.left (origin_view c.args.origin) a one (expr_view c.args.expr.now) es is can in
     let all = c.in_ok-joined-in-And.ensures ds tells here.0 ∙ sym here.1 in
     subst (λ xs. Reaches c.append-in-And.result c.args.self.room (alternatives_view c.args.found.now.alternatives.items ++ xs)
     (alternatives_view c.append-in-And.new.self.alternatives.items)) all c.append-in-And.ensures
@@ -143,9 +144,8 @@ join-returns-in-Reference t c ds tells can =
     let s = c.deref-in-Reference.result.now in
     let read = ap (λ t. reference t x.at) (sym c.deref-in-Reference.ensures) in
     let is = ap expr_view x.is ∙ view-Reference x.text x.at ∙ read in
-    let here = at_reference ds c.args.steps c.in-Some.left c.args.place a one (expr_view c.args.expr.now) s x.at is can in
-    let placed : Spec.at c.args.place x.at ≡ c.unwrap_or.result = sym c.unwrap_or.ensures in
-    let made = here.1 ∙ ap (λ o. Spec.join_definition (Spec.alternatives ds c.in-Some.left) s o (bodies s ds) a) placed in
+    let here = at_reference ds c.args.steps c.in-Some.left (origin_view c.args.origin) a one (expr_view c.args.expr.now) s x.at is can in
+    let made = here.1 ∙ ap (λ p. Spec.join_definition (Spec.alternatives ds c.in-Some.left) s p (bodies s ds) a) (sym c.referred_at.ensures) in
     subst (λ xs. Reaches c.join_definition.result c.args.self.room (alternatives_view c.args.found.now.alternatives.items ++ xs)
     (alternatives_view c.join_definition.new.found.alternatives.items)) (sym made) (c.join_definition.ensures ds tells here.0)
 
@@ -157,7 +157,7 @@ join_definition-returns-then-meets t c ds tells well =
     let s = c.args.name.now in
     let a = alternative_view c.args.before in
     let found = alternatives_view c.args.found.now.alternatives.items in
-    let alone = met_alone inner s c.args.at (bodies s ds) a (sym c.if-meets.ensures) in
+    let alone = met_alone inner s (origin_view c.args.origin) (bodies s ds) a (sym c.if-meets.ensures) in
     subst (λ xs. Reaches c.push.result c.args.self.room (found ++ xs) (alternatives_view c.push.new.self.alternatives.items)) (sym alone) c.push.ensures
 
 pub join_definition-returns-in_err-joined : goal.join_definition-returns-in_err-joined
@@ -168,8 +168,8 @@ join_definition-returns-in_err-joined t c ds tells well =
     let s = c.args.name.now in
     let a = alternative_view c.args.before in
     let found = alternatives_view c.args.found.now.alternatives.items in
-    let joined = unmet_bodies inner s c.args.at (bodies s ds) a (sym c.if-meets.ensures) in
-    let all = Spec.join_definition inner s c.args.at (bodies s ds) a in
+    let joined = unmet_bodies inner s (origin_view c.args.origin) (bodies s ds) a (sym c.if-meets.ensures) in
+    let all = Spec.join_definition inner s (origin_view c.args.origin) (bodies s ds) a in
     rw (p.1, p.2) (too_much_of_right e c.args.self.room found all (subst (IsTooMuch e c.args.self.room) (sym joined) (c.in_err-joined.ensures ds tells well)))
 
 pub join_definition-returns : goal.join_definition-returns
@@ -178,7 +178,7 @@ join_definition-returns t c ds tells well =
     let s = c.args.name.now in
     let a = alternative_view c.args.before in
     let found = alternatives_view c.args.found.now.alternatives.items in
-    let joined = c.in_ok-joined.ensures ds tells well ∙ sym (unmet_bodies inner s c.args.at (bodies s ds) a (sym c.if-meets.ensures)) in
+    let joined = c.in_ok-joined.ensures ds tells well ∙ sym (unmet_bodies inner s (origin_view c.args.origin) (bodies s ds) a (sym c.if-meets.ensures)) in
     subst (λ xs. Reaches c.append.result c.args.self.room (found ++ xs) (alternatives_view c.append.new.self.alternatives.items)) joined c.append.ensures
 
 -- ---- each of those before it
@@ -186,7 +186,7 @@ join_definition-returns t c ds tells well =
 pub join_each-returns-in_err-join : goal.join_each-returns-in_err-join
 join_each-returns-in_err-join t c ds tells can =
     let p = err_from_is_err_and c.from_residual.result c.from_residual.ensures.1 in
-    let f = Spec.alternatives ds c.args.steps c.args.place (expr_view c.args.expr.now) in
+    let f = Spec.alternatives ds c.args.steps (origin_view c.args.origin) (expr_view c.args.expr.now) in
     let found = alternatives_view c.loop-alternative.found.alternatives.items in
     let own = f (alternative_view c.in-Some.alternative) in
     let rest = flat_map f (alternatives_view (into_iter_items c.next.new.self)) in
@@ -203,7 +203,7 @@ join_declarations-returns-in_err-push t c ds tells well =
     let a = alternative_view c.args.before in
     let here = subst (λ xs. IsTooMuch e c.args.self.room (xs ++ a ∷ [])) c.nothing-found.ensures c.in_err-push.ensures in
     rw (p.1, p.2) (declarations_too_much (can_be_embedded ds c.args.steps) (Spec.alternatives ds c.args.steps)
-    (alternatives_grow ds c.args.steps) c.args.place e c.args.self.room (a ∷ []) _ (declarations_view c.args.declarations.now) well refl here)
+    (alternatives_grow ds c.args.steps) (origin_view c.args.origin) e c.args.self.room (a ∷ []) _ (declarations_view c.args.declarations.now) well refl here)
 
 pub join_declarations-returns-in_err-found-in-Field : goal.join_declarations-returns-in_err-found-in-Field
 join_declarations-returns-in_err-found-in-Field t c ds tells well =
@@ -215,12 +215,13 @@ join_declarations-returns-in_err-found-in-Field t c ds tells well =
     let i = c.loop-declaration.declaration-index in
     let d = c.declaration-item.result in
     let found = alternatives_view c.loop-declaration.found.alternatives.items in
-    let all = Spec.join_declarations inner c.args.place (declarations_view cs) (alternative_view c.args.before ∷ []) in
+    let all = Spec.join_declarations inner (origin_view c.args.origin) (declarations_view cs) (alternative_view c.args.before ∷ []) in
     let before = c.loop-declaration.invariant ds tells well in
     let f = c.in-Field.field in
-    let s = field_step can inner c.args.place cs i d c.loop-declaration-test.true c.declaration-item.is found all before.0 before.1 f c.in-Field.is in
-    rw (p.1, p.2) (declarations_too_much can inner (alternatives_grow ds c.args.steps) c.args.place e c.args.self.room
-    (map (with_field c.args.place (field_view f)) found) all (declarations_view (drop (i + 1) cs)) s.0 s.1 c.in_err-found-in-Field.ensures)
+    let s = field_step can inner (origin_view c.args.origin) cs i d c.loop-declaration-test.true c.declaration-item.is found all
+    before.0 before.1 f c.in-Field.is in
+    rw (p.1, p.2) (declarations_too_much can inner (alternatives_grow ds c.args.steps) (origin_view c.args.origin) e c.args.self.room
+    (map (with_field (origin_view c.args.origin) (field_view f)) found) all (declarations_view (drop (i + 1) cs)) s.0 s.1 c.in_err-found-in-Field.ensures)
 
 pub join_declarations-returns-in_err-found-in-Embedded : goal.join_declarations-returns-in_err-found-in-Embedded
 join_declarations-returns-in_err-found-in-Embedded t c ds tells well =
@@ -232,13 +233,15 @@ join_declarations-returns-in_err-found-in-Embedded t c ds tells well =
     let i = c.loop-declaration.declaration-index in
     let d = c.declaration-item.result in
     let found = alternatives_view c.loop-declaration.found.alternatives.items in
-    let all = Spec.join_declarations inner c.args.place (declarations_view cs) (alternative_view c.args.before ∷ []) in
+    let all = Spec.join_declarations inner (origin_view c.args.origin) (declarations_view cs) (alternative_view c.args.before ∷ []) in
     let before = c.loop-declaration.invariant ds tells well in
     let x = c.in-Embedded in
-    let s = embedded_step can inner c.args.place cs i d c.loop-declaration-test.true c.declaration-item.is found all before.0 before.1 x.at x.value x.is in
-    rw (p.1, p.2) (declarations_too_much can inner (alternatives_grow ds c.args.steps) c.args.place e c.args.self.room
-    (flat_map (inner c.args.place (expr_view x.value)) found) all (declarations_view (drop (i + 1) cs)) s.1 s.2
-    (c.in_err-found-in-Embedded.ensures ds tells s.0))
+    let s = embedded_step can inner (origin_view c.args.origin) cs i d c.loop-declaration-test.true c.declaration-item.is found all
+    before.0 before.1 x.at x.value x.is in
+    rw (p.1, p.2) (declarations_too_much can inner (alternatives_grow ds c.args.steps) (origin_view c.args.origin) e c.args.self.room
+    (flat_map (inner (Spec.embedded_at (origin_view c.args.origin) x.at) (expr_view x.value)) found) all (declarations_view (drop (i + 1) cs)) s.1 s.2
+    (subst (λ q. IsTooMuch e c.args.self.room (flat_map (inner q (expr_view x.value)) found)) c.embedded_at.ensures
+    (c.in_err-found-in-Embedded.ensures ds tells s.0)))
 
 pub join_declarations-loop-declaration-preserved : goal.join_declarations-loop-declaration-preserved
 join_declarations-loop-declaration-preserved t c ds tells well =
@@ -248,21 +251,22 @@ join_declarations-loop-declaration-preserved t c ds tells well =
     let i = c.loop-declaration.declaration-index in
     let d = c.declaration-item.result in
     let found = alternatives_view c.loop-declaration.found.alternatives.items in
-    let all = Spec.join_declarations inner c.args.place (declarations_view cs) (alternative_view c.args.before ∷ []) in
+    let all = Spec.join_declarations inner (origin_view c.args.origin) (declarations_view cs) (alternative_view c.args.before ∷ []) in
     let before = c.loop-declaration.invariant ds tells well in
     let rest = declarations_view (drop (i + 1) cs) in
-    let add_field = field_step can inner c.args.place cs i d c.loop-declaration-test.true c.declaration-item.is found all before.0 before.1 in
-    let embed = embedded_step can inner c.args.place cs i d c.loop-declaration-test.true c.declaration-item.is found all before.0 before.1 in
+    let add_field = field_step can inner (origin_view c.args.origin) cs i d c.loop-declaration-test.true c.declaration-item.is found all before.0 before.1 in
+    let embed = embedded_step can inner (origin_view c.args.origin) cs i d c.loop-declaration-test.true c.declaration-item.is found all before.0 before.1 in
     elim c.match-declaration.branch [
       | join_declarations-in-Field+in_ok-found-in-Field w ↦
           let s = add_field w.in-Field.field w.in-Field.is in
           let made = ap (λ (f : Found). alternatives_view f.alternatives.items) w.found-is ∙ w.in_ok-found-in-Field.ensures in
-          (s.0, ap (Spec.join_declarations inner c.args.place rest) made ∙ s.1)
+          (s.0, ap (Spec.join_declarations inner (origin_view c.args.origin) rest) made ∙ s.1)
       | join_declarations-in-Embedded+in_ok-found-in-Embedded w ↦
           let x = w.in-Embedded in
           let s = embed x.at x.value x.is in
-          let made = ap (λ (f : Found). alternatives_view f.alternatives.items) w.found-is ∙ w.in_ok-found-in-Embedded.ensures ds tells s.0 in
-          (s.1, ap (Spec.join_declarations inner c.args.place rest) made ∙ s.2)
+          let made = ap (λ (f : Found). alternatives_view f.alternatives.items) w.found-is ∙ w.in_ok-found-in-Embedded.ensures ds tells s.0
+          ∙ ap (λ q. flat_map (inner q (expr_view x.value)) found) w.embedded_at.ensures in
+          (s.1, ap (Spec.join_declarations inner (origin_view c.args.origin) rest) made ∙ s.2)
     ]
 
 -- ---- the bodies of a definition
@@ -274,7 +278,7 @@ join_bodies-returns-in_err-found t c ds tells well =
     let inner = Spec.alternatives ds c.args.steps in
     let a = alternative_view c.args.before in
     let can = subst (λ es. list_all (can_be_embedded ds c.args.steps) es ≡ true) (sym read) well in
-    let made = subst (λ es. IsTooMuch c.in_err-found.field-0.0 c.args.self.room (Spec.join_bodies inner (Some c.args.at) es (a ∷ []))) read
+    let made = subst (λ es. IsTooMuch c.in_err-found.field-0.0 c.args.self.room (Spec.join_bodies inner (origin_view c.args.origin) es (a ∷ []))) read
     (c.in_err-found.ensures ds tells can) in
     rw (p.1, p.2) (met_too_much c.in_err-found.field-0.0 c.args.self.room c.args.name.now _ made)
 
@@ -284,7 +288,7 @@ join_bodies-returns t c ds tells well =
     let inner = Spec.alternatives ds c.args.steps in
     let a = alternative_view c.args.before in
     let can = subst (λ es. list_all (can_be_embedded ds c.args.steps) es ≡ true) (sym read) well in
-    let made = c.in_ok-found.ensures ds tells can ∙ ap (λ es. Spec.join_bodies inner (Some c.args.at) es (a ∷ [])) read in
+    let made = c.in_ok-found.ensures ds tells can ∙ ap (λ es. Spec.join_bodies inner (origin_view c.args.origin) es (a ∷ [])) read in
     subst (λ xs. ReachesAll c.meet.result c.args.self.room (map (Spec.meet c.args.name.now) xs)) made c.meet.ensures
 
 -- ---- values one behind the other
@@ -296,7 +300,7 @@ join_values-returns-in_err-push t c ds tells well =
     let a = alternative_view c.args.before in
     let here = subst (λ xs. IsTooMuch e c.args.self.room (xs ++ a ∷ [])) c.nothing-found.ensures c.in_err-push.ensures in
     rw (p.1, p.2) (bodies_too_much (can_be_embedded ds c.args.steps) (Spec.alternatives ds c.args.steps) (alternatives_grow ds c.args.steps)
-    c.args.place e c.args.self.room (a ∷ []) _ (bodies_view c.args.values.now) well refl here)
+    (origin_view c.args.origin) e c.args.self.room (a ∷ []) _ (bodies_view c.args.values.now) well refl here)
 
 pub join_values-returns-in_err-found : goal.join_values-returns-in_err-found
 join_values-returns-in_err-found t c ds tells well =
@@ -309,9 +313,9 @@ join_values-returns-in_err-found t c ds tells well =
     let b = c.value-item.result in
     let found = alternatives_view c.loop-value.found.alternatives.items in
     let before = c.loop-value.invariant ds tells well in
-    let s = body_step can inner c.args.place bs i b c.loop-value-test.true c.value-item.is found _ before.0 before.1 in
-    rw (p.1, p.2) (bodies_too_much can inner (alternatives_grow ds c.args.steps) c.args.place e c.args.self.room
-    (flat_map (inner c.args.place (expr_view b.now)) found) _ (bodies_view (drop (i + 1) bs)) s.1 s.2 (c.in_err-found.ensures ds tells s.0))
+    let s = body_step can inner (origin_view c.args.origin) bs i b c.loop-value-test.true c.value-item.is found _ before.0 before.1 in
+    rw (p.1, p.2) (bodies_too_much can inner (alternatives_grow ds c.args.steps) (origin_view c.args.origin) e c.args.self.room
+    (flat_map (inner (origin_view c.args.origin) (expr_view b.now)) found) _ (bodies_view (drop (i + 1) bs)) s.1 s.2 (c.in_err-found.ensures ds tells s.0))
 
 -- ---- operands one behind the other
 
@@ -322,7 +326,7 @@ join_all-returns-in_err-push t c ds tells well =
     let a = alternative_view c.args.before in
     let here = subst (λ xs. IsTooMuch e c.args.self.room (xs ++ a ∷ [])) c.nothing-found.ensures c.in_err-push.ensures in
     rw (p.1, p.2) (all_too_much (can_be_embedded ds c.args.steps) (Spec.alternatives ds c.args.steps)
-    (alternatives_grow ds c.args.steps) c.args.place e c.args.self.room (a ∷ []) _ (exprs_view c.args.operands.now) well refl here)
+    (alternatives_grow ds c.args.steps) (origin_view c.args.origin) e c.args.self.room (a ∷ []) _ (exprs_view c.args.operands.now) well refl here)
 
 pub join_all-returns-in_err-found : goal.join_all-returns-in_err-found
 join_all-returns-in_err-found t c ds tells well =
@@ -335,9 +339,9 @@ join_all-returns-in_err-found t c ds tells well =
     let o = c.operand-item.result in
     let found = alternatives_view c.loop-operand.found.alternatives.items in
     let before = c.loop-operand.invariant ds tells well in
-    let s = conjunct_step can inner c.args.place es i o c.loop-operand-test.true c.operand-item.is found _ before.0 before.1 in
-    rw (p.1, p.2) (all_too_much can inner (alternatives_grow ds c.args.steps) c.args.place e c.args.self.room
-    (flat_map (inner c.args.place (expr_view o)) found) _ (exprs_view (drop (i + 1) es)) s.1 s.2 (c.in_err-found.ensures ds tells s.0))
+    let s = conjunct_step can inner (origin_view c.args.origin) es i o c.loop-operand-test.true c.operand-item.is found _ before.0 before.1 in
+    rw (p.1, p.2) (all_too_much can inner (alternatives_grow ds c.args.steps) (origin_view c.args.origin) e c.args.self.room
+    (flat_map (inner (origin_view c.args.origin) (expr_view o)) found) _ (exprs_view (drop (i + 1) es)) s.1 s.2 (c.in_err-found.ensures ds tells s.0))
 
 -- ---- operands
 
@@ -353,8 +357,8 @@ join_operands-returns-in_err-join t c ds tells well =
     let a = alternative_view c.args.before.now in
     let found = alternatives_view c.loop-operand.found.alternatives.items in
     let before = c.loop-operand.invariant ds tells well in
-    let s = operand_step can inner c.args.place es i o c.loop-operand-test.true c.operand-item.is a found _ before.0 before.1 in
-    let here = subst (λ b. IsTooMuch e c.args.self.room (found ++ inner c.args.place (expr_view o) b)) c.in_ok-copy.ensures
+    let s = operand_step can inner (origin_view c.args.origin) es i o c.loop-operand-test.true c.operand-item.is a found _ before.0 before.1 in
+    let here = subst (λ b. IsTooMuch e c.args.self.room (found ++ inner (origin_view c.args.origin) (expr_view o) b)) c.in_ok-copy.ensures
     (c.in_err-join.ensures ds tells s.0) in
-    rw (p.1, p.2) (too_much_here e c.args.self.room found (inner c.args.place (expr_view o) a)
-    (Spec.join_operands inner c.args.place (exprs_view (drop (i + 1) es)) a) _ s.2 here)
+    rw (p.1, p.2) (too_much_here e c.args.self.room found (inner (origin_view c.args.origin) (expr_view o) a)
+    (Spec.join_operands inner (origin_view c.args.origin) (exprs_view (drop (i + 1) es)) a) _ s.2 here)
