@@ -866,11 +866,11 @@ try 'wide: 64,000 alternatives of three definitions: widen' 0 'error 14' 'widen 
 { printf '#P: '; listed 20000 '{a%d: int}' ' & '; printf '\n'; } > wide.cue
 try 'wide: 20,000 operands put together: widen' 0 'shows a19999: int' 'widen --profile=wide wide.cue'
 { printf '#P: '; listed 40 '({a%d: int} | {b: int})' ' & '; printf '\n'; } > wide.cue
-try 'wide: 40 operands of two alternatives: widen' 0 'error 14' 'widen --profile=wide wide.cue'
+try 'wide: 40 operands of two alternatives: widen' 1000000 'error 14' 'widen --profile=wide wide.cue'
 listed 20000 '#A: {a%d: int}' '\n' > wide.cue
 try 'wide: 20,000 bodies of one definition: widen' 0 'error 11 at 4' 'widen --profile=wide wide.cue'
 listed 64 '#A: {a%d: int} | {b: int}' '\n' > wide.cue
-try 'wide: 64 bodies of two alternatives: widen' 0 'error 14' 'widen --profile=wide wide.cue'
+try 'wide: 64 bodies of two alternatives: widen' 1000000 'error 14' 'widen --profile=wide wide.cue'
 awk 'BEGIN { for (i = 0; i < 15000; i++) printf "#A%d: {a%d?: int}\n", i % 900, i }' > wide.cue
 try 'wide: 15,000 bodies of 900 definitions: widen' 0 'shows a14999?: int' 'widen --profile=wide wide.cue'
 awk 'BEGIN { printf "#A: {"; for (i = 0; i < 12000; i++) printf "x%d: {a%d?: int}, ", i % 500, i; print "}" }' > wide.cue
