@@ -1,13 +1,13 @@
 // What is said of a form at its place, with the names that the source has there.
-use crate::bases::{put_not_opened, put_together};
-use crate::labels::{field_without, label_over, labels_inside, text_between};
+use crate::bases::put_not_opened;
+use crate::labels::{field_without, labels_inside, text_between};
 use crate::names::{put_field_reference, put_unknown};
 use crate::text::{put_around, put_filled, put_tokens};
-use cs_forms::{Form, Found, closed_around, flaw_of_embedding, said_of_form, said_of_shown};
+use cs_forms::{Form, Found, said_of_form, said_of_shown};
 use cs_grammar::{Sort, Token};
-use cs_sources::{Inside, Near, Source, declared_in, end_of, follows_label, separates};
-use cs_text::Written;
-use std::alloc::{AllocError, Global};
+use cs_sources::{Near, Source, end_of, follows_label, separates};
+use cs_text::{Written, put_all};
+use std::alloc::AllocError;
 
 /// How many bytes of the other fields are shown.
 const MOST_SHOWN: usize = 60;
@@ -16,71 +16,43 @@ const MOST_NAMED: usize = 3;
 
 /// Puts what is said of a form that was found in a source, which is one of these: what it is, and what to write instead, with the
 /// names that the sources have there. Only memory can run out.
-pub fn put_advice(
-    text: &mut String,
-    source: &Source<'_>,
-    sources: &[Source<'_>],
-    found: Found,
-) -> Written {
-    let shown = text_between(source, found.start, found.end);
+pub fn put_advice(text: &mut String, sources: &[Source<'_>], found: Found<'_, '_>) -> Written {
+    let Found { near, shown, .. } = found;
     let said = said_of_form(found.form);
-    let Some(near) = Near::at(source, found.start) else {
-        return put_filled(text, said, &[shown]);
-    };
     match found.form {
-        Form::DefaultMark => put_default(text, near),
-        Form::ExcludedDefault => put_excluded(text, said, sources, near),
+        Form::DefaultMark => put_default(text, said, near),
         Form::Let => {
             let more = "; write `#{}: ..` at the top of a file, and `#{}` for `{}`";
             put_with_name(text, said, near.behind(1), more)
         }
         Form::TopLevelField => put_with_name(text, said, near.here(), ", so write `#{}: ..`"),
-        Form::HiddenName => put_hidden(text, near),
-        Form::Limit | Form::LimitKind => put_limit(text, said, near),
-        Form::EmbeddedDefinition => put_embedded_definition(text, said, near),
-        Form::EmbeddedNoStruct
-        | Form::EmbeddedItself
-        | Form::EmbeddedTwice
-        | Form::EmbeddedBesideEvery => put_flaw(text, said, sources, near),
-        Form::EmbeddedStruct => put_embedded_struct(text, near),
-        Form::FieldReference => put_field_reference(text, near),
-        Form::NotOpened => put_not_opened(text, sources, near),
-        Form::Joined => put_together(text, sources, near),
-        Form::ClosedOperand => put_closed_operand(text, said, near),
+        Form::HiddenName => put_hidden(text, said, near),
+        Form::EmbeddedDefinition => {
+            let remedy = put_embedded(text, said, near)?;
+            put_around(text, remedy, shown, other_fields(near).unwrap_or(".."))
+        }
+        Form::EmbeddedStruct => {
+            let remedy = put_embedded(text, said, near)?;
+            put_labels(text, remedy, near)
+        }
+        Form::FieldReference => put_field_reference(text, said, near),
+        Form::NotOpened => put_not_opened(text, said, sources, near, false),
+        Form::Joined => put_not_opened(text, said, sources, near, true),
         Form::UnknownName | Form::UnknownDefinition => put_unknown(text, shown, said, sources),
+        Form::ExcludedDefault => put_filled(text, said, &[shown; 3]),
         Form::StrayCharacter => text.push_str(said_of_shown(found.form, shown)),
         form => put_around(text, said, shown, said_of_shown(form, shown)),
     }
 }
 
 /// Puts that a default mark is left out, and what to write: that its field may be left out, with the rest of its value.
-fn put_default(text: &mut String, mark: Near<'_, '_>) -> Written {
-    text.push_str(said_of_form(Form::DefaultMark))?;
-    let said = "; a document may leave the field out, so write `{}?: {}{}`";
+fn put_default(text: &mut String, said: &str, mark: Near<'_, '_>) -> Written {
+    text.push_str(said)?;
+    let more = "; a document may leave the field out, so write `{}?: {}{}`";
     match field_without(mark) {
-        Some(field) => put_filled(text, said, &[field.label, field.before, field.behind]),
+        Some((label, before, behind)) => put_filled(text, more, &[label, before, behind]),
         None => text.push_str("; take it out"),
     }
-}
-
-/// Puts what could exclude a default, with the label that has it.
-fn put_excluded(
-    text: &mut String,
-    said: &str,
-    sources: &[Source<'_>],
-    near: Near<'_, '_>,
-) -> Written {
-    if near.begins_declaration() && near.inside() == Inside::File {
-        // It stands for what it is put together from, which is at fault.
-        let said = "a default in `{}` is out of place, or another declaration could exclude it";
-        return put_filled(text, said, &[near.here().text]);
-    }
-    let label = match label_over(near) {
-        Some(label) => label,
-        // Where it was embedded, it is that of two declarations.
-        None => shown_of_flaw(*text.allocator(), sources, near)?.unwrap_or("x"),
-    };
-    put_filled(text, said, &[label; 3])
 }
 
 /// Puts what is said of a form, and behind it more, where a token is a name, which that names.
@@ -93,7 +65,7 @@ fn put_with_name(text: &mut String, said: &str, token: Token<'_>, more: &str) ->
 }
 
 /// Puts what to write for a hidden name.
-fn put_hidden(text: &mut String, near: Near<'_, '_>) -> Written {
+fn put_hidden(text: &mut String, said: &str, near: Near<'_, '_>) -> Written {
     let name = near.here().text;
     let is_label = follows_label(near.behind(1));
     let said = match near.bracket() {
@@ -103,7 +75,7 @@ fn put_hidden(text: &mut String, near: Near<'_, '_>) -> Written {
             "hidden fields are left out: documents don't have them, so take it out",
         None if is_label =>
             "a hidden field at the top of a file: a root is a definition, so write `#{}: ..`",
-        Some(_) | None => said_of_form(Form::HiddenName),
+        Some(_) | None => said,
     };
     put_filled(text, said, &[shown_name(name)])
 }
@@ -115,19 +87,6 @@ fn shown_name(name: &str) -> &str {
         [b'A'..=b'Z' | b'a'..=b'z', ..] => bare,
         _ => name,
     }
-}
-
-/// Puts what a limit has to be, with its relation.
-fn put_limit(text: &mut String, said: &str, near: Near<'_, '_>) -> Written {
-    let relation = match near.before(1).text {
-        "-" => near.before(2).text,
-        relation => relation,
-    };
-    let limits = match relation {
-        "!=" => "an integer, a text or `null`",
-        _ => "an integer",
-    };
-    put_filled(text, said, &[relation, limits])
 }
 
 /// The other fields of the struct in which a definition is embedded first, where they are few, on one line, and not open.
@@ -145,9 +104,6 @@ fn other_fields<'a>(near: Near<'_, 'a>) -> Option<&'a str> {
     is_shown.then_some(fields)
 }
 
-/// What is said first where the wide profile takes what is embedded.
-const TAKEN: &str = "`--profile wide` takes embeddings; without it ";
-
 /// Whether the wide profile takes what a struct embeds from a token on, by its form: definitions, literals and what parentheses hold, as alternatives,
 /// and what `&` joins with one definition at most.
 fn is_taken(near: Near<'_, '_>) -> bool {
@@ -161,94 +117,41 @@ fn is_taken(near: Near<'_, '_>) -> bool {
             break;
         };
         let here = token.here();
-        let is_definition = here.sort == Sort::Definition;
-        if !is_taken_token(here) || is_definition && has_definition {
-            return false;
+        match here.text.as_bytes() {
+            [b'{' | b'(' | b'&'] => {}
+            [b'|'] => has_definition = false,
+            _ if here.sort == Sort::Definition && !has_definition => has_definition = true,
+            _ => return false,
         }
-        has_definition = (has_definition || is_definition) && here.text != "|";
         next = token.next();
     }
     true
 }
 
-/// Whether embeddings have a token, outside of brackets.
-fn is_taken_token(token: Token<'_>) -> bool {
-    token.sort == Sort::Definition || matches!(token.text.as_bytes(), [b'{' | b'(' | b'|' | b'&'])
-}
-
-/// Puts what to write for an embedded definition.
-fn put_embedded_definition(text: &mut String, said: &str, near: Near<'_, '_>) -> Written {
-    let others = other_fields(near).unwrap_or("..");
-    let name = near.here().text;
-    match said.split_once(": ") {
-        Some((_, remedy)) if is_taken(near) => {
-            text.push_str(TAKEN)?;
-            put_around(text, remedy, name, others)
-        }
-        _ => put_around(text, said, name, others),
-    }
-}
-
-/// What is wrong about something where it is embedded, if that is short and on one line.
-fn shown_of_flaw<'a>(
-    alloc: Global,
-    sources: &[Source<'a>],
+/// Puts what something is that a struct embeds, or that the wide profile takes it, and gives what is said of it behind that.
+fn put_embedded<'w>(
+    text: &mut String,
+    said: &'w str,
     near: Near<'_, '_>,
-) -> Result<Option<&'a str>, AllocError> {
-    let Some(source) = sources.get(near.source.file) else {
-        return Ok(None);
-    };
-    let place = near.place;
-    let Some(flaw) = flaw_of_embedding(alloc, Near { source, place }, sources)? else {
-        return Ok(None);
-    };
-    let Some(source) = sources.get(flaw.file) else {
-        return Ok(None);
-    };
-    let shown = source.whole().between(flaw.from, flaw.to).text();
-    Ok(is_shown(shown).then_some(shown))
-}
-
-/// Whether a text is shown: it is short and on one line.
-fn is_shown(text: &str) -> bool {
-    !text.is_empty() && text.len() <= MOST_SHOWN && !text.contains('\n')
-}
-
-/// Puts that a definition closed what a struct is joined with: the operand, or its reference alone where that is long.
-fn put_closed_operand(text: &mut String, said: &str, near: Near<'_, '_>) -> Written {
-    let shown = match closed_around(near) {
-        Some((operand, _)) if is_shown(operand.text()) => operand.text(),
-        Some((_, reference)) => reference.here().text,
-        None => "..",
-    };
-    put_filled(text, said, &[shown])
-}
-
-/// Puts what is wrong where something is embedded.
-fn put_flaw(text: &mut String, said: &str, sources: &[Source<'_>], near: Near<'_, '_>) -> Written {
-    let shown = shown_of_flaw(*text.allocator(), sources, near)?;
-    put_filled(text, said, &[shown.unwrap_or("..")])?;
-    let is_joined = shown.is_some_and(|shown| shown.contains('&'));
-    text.push_str(if is_joined {
-        "; what `&` joins is embedded one by one"
+) -> Result<&'w str, AllocError> {
+    let (front, remedy) = said.split_once(": ").unwrap_or(("", said));
+    if is_taken(near) {
+        text.push_str("`--profile wide` takes embeddings; without it ")?;
     } else {
-        ""
-    })
+        put_all(text, &[front, ": "])?;
+    }
+    Ok(remedy)
 }
 
-/// Puts what to write for an embedded struct: the labels around it, where they are few.
-fn put_embedded_struct(text: &mut String, near: Near<'_, '_>) -> Written {
+/// Puts what to write for an embedded struct: with the labels around it, where they are few.
+fn put_labels(text: &mut String, remedy: &str, near: Near<'_, '_>) -> Written {
     let alloc = *text.allocator();
     let labels = labels_inside(alloc, near.bracket())?;
-    let front = if is_taken(near) {
-        TAKEN
-    } else {
-        "an embedded struct: "
-    };
-    text.push_str(front)?;
+    let mut named = String::new(alloc);
     if labels.is_empty() || labels.len() > MOST_NAMED {
-        return text.push_str("put the fields around it into each alternative");
+        named.push_str("the fields around it")?;
+    } else {
+        put_tokens(&mut named, "", &labels, " and ")?;
     }
-    put_tokens(text, "put ", &labels, " and ")?;
-    text.push_str(" into each alternative")
+    put_filled(text, remedy, &[named.as_str()])
 }

@@ -1,59 +1,46 @@
 // What is said of struct literals that have to end with `...` (11).
 use crate::labels::{labels_inside, literal_of};
 use crate::text::{put_filled, put_tokens};
-use cs_forms::{Form, said_of_form};
-use cs_grammar::{Sort, Token};
-use cs_sources::{Declared, Near, Source, declared_in, follows_label, separates};
+use cs_forms::outward;
+use cs_grammar::Sort;
+use cs_sources::Separator::Amp;
+use cs_sources::{Declared, Near, Source, declared_in, follows_label};
 use cs_text::Written;
 use std::alloc::{AllocError, Global};
 
 /// How many operands are looked at on each side.
 const MOST_OPERANDS: usize = 16;
-/// How many brackets are left to find a definition that is joined.
-const MOST_BRACKETS: usize = 32;
 /// How many definitions, or keys, are named.
 const MOST_NAMED: usize = 3;
 
-/// Puts what to do where a struct literal has to end with `...`.
+/// Puts what to do where a struct literal has to end with `...`: whether the wide profile puts it together with others is given, and what is said
+/// where nothing more is known of it.
 pub(crate) fn put_not_opened(
     text: &mut String,
+    said: &str,
     sources: &[Source<'_>],
     near: Near<'_, '_>,
+    is_joined: bool,
 ) -> Written {
     let alloc = *text.allocator();
     let declared = declared_in(alloc, sources)?;
     if let Some(repeated) = repeated_at(alloc, &declared, near)? {
-        return put_repeated(text, &repeated);
+        return put_repeated(text, &repeated, is_joined);
     }
-    let bases = bases_of(alloc, near)?;
-    put_joined(text, &declared, &bases)
-}
-
-/// Puts what to do where the wide profile puts a struct literal together with others.
-pub(crate) fn put_together(
-    text: &mut String,
-    sources: &[Source<'_>],
-    near: Near<'_, '_>,
-) -> Written {
-    let alloc = *text.allocator();
-    let declared = declared_in(alloc, sources)?;
-    match repeated_at(alloc, &declared, near)? {
-        Some(repeated) => put_repeated_together(text, &repeated),
-        None => text.push_str(said_of_form(Form::Joined)),
-    }
-}
-
-/// The same for a struct literal that is joined with these definitions.
-fn put_joined(text: &mut String, declared: &Declared<'_, '_>, bases: &[Near<'_, '_>]) -> Written {
-    let [base, others @ ..] = bases else {
-        return text.push_str(said_of_form(Form::NotOpened));
+    let bases = if is_joined {
+        Vec::new(alloc)
+    } else {
+        bases_of(alloc, near)?
+    };
+    let [base, others @ ..] = bases.as_slice() else {
+        return text.push_str(said);
     };
     text.push_str("this struct adds keys: end it")?;
-    if bases.iter().all(|base| is_opened(declared, *base)) {
+    if bases.iter().all(|base| is_opened(&declared, *base)) {
         text.push_str(" with `...` too, or write ")?;
     } else {
         let front = if others.is_empty() { " and " } else { ", " };
-        put_tokens(text, front, bases, " and ")?;
+        put_tokens(text, front, &bases, " and ")?;
         text.push_str(" with `...`; or write ")?;
     }
     if others.is_empty() {
@@ -65,65 +52,43 @@ fn put_joined(text: &mut String, declared: &Declared<'_, '_>, bases: &[Near<'_, 
 
 /// Whether a definition is one struct literal that ends with `...`, where it is declared first.
 fn is_opened(declared: &Declared<'_, '_>, base: Near<'_, '_>) -> bool {
-    let Some(label) = declared.of(base.here().text) else {
-        return false;
-    };
-    match literal_of(label) {
+    match declared
+        .of(base.here().text)
+        .and_then(|label| literal_of(label))
+    {
         // A comma may be behind the `...`.
         Some((_, closing)) => closing.before(1).text == "..." || closing.before(2).text == "...",
         None => false,
     }
 }
 
-/// The definitions that the struct at a token is joined with, in the innermost conjunction that has any.
+/// The definitions that the struct at a token is joined with, in the innermost conjunction that has any: those before it, of which the nearest
+/// comes first, and those behind it.
 fn bases_of<'s, 'a>(alloc: Global, near: Near<'s, 'a>) -> Result<Vec<Near<'s, 'a>>, AllocError> {
-    let mut bases = Vec::new(alloc);
-    let mut inner = Some(near);
-    for _ in 0..MOST_BRACKETS {
-        let Some(operand) = inner else { break };
-        add_joined(operand, true, &mut bases)?;
-        add_joined(operand, false, &mut bases)?;
+    let mut bases: Vec<Near<'s, 'a>> = Vec::new(alloc);
+    for inner in outward(near) {
+        let Some(operands) = inner.conjunction() else {
+            continue;
+        };
+        let own = operands.between(operands.from, inner.place).count(Amp);
+        let before = (0..own).rev().take(MOST_OPERANDS);
+        let behind = (own..=operands.count(Amp)).skip(1).take(MOST_OPERANDS);
+        for place in before.chain(behind) {
+            let operand = operands.part(Amp, place);
+            let Some(base) = operand.and_then(|operand| operand.first()) else {
+                continue;
+            };
+            let token = base.here();
+            let is_old = bases.iter().any(|old| old.here().text == token.text);
+            if token.sort == Sort::Definition && !is_old && bases.len() < MOST_NAMED {
+                bases.push(base)?;
+            }
+        }
         if !bases.is_empty() {
             break;
         }
-        inner = operand.bracket();
     }
     Ok(bases)
-}
-
-/// Adds the definitions that are joined before an operand, the nearest first, or those behind it, outside of the brackets there: unless
-/// they are there, or there are many.
-fn add_joined<'s, 'a>(
-    operand: Near<'s, 'a>,
-    is_before: bool,
-    bases: &mut Vec<Near<'s, 'a>>,
-) -> Written {
-    let mut operands = 0usize;
-    let mut last = operand;
-    for _ in 0..operand.source.tokens.len() {
-        let beside = if is_before {
-            last.previous()
-        } else {
-            last.next()
-        };
-        let Some(near) = beside else { break };
-        let token = near.here();
-        operands = operands.saturating_add(usize::from(token.text == "&"));
-        if operands > MOST_OPERANDS || !is_joined(token) {
-            break;
-        }
-        let is_old = bases.iter().any(|base| base.here().text == token.text);
-        if token.sort == Sort::Definition && !is_old && bases.len() < MOST_NAMED {
-            bases.push(near)?;
-        }
-        last = near;
-    }
-    Ok(())
-}
-
-/// Whether operands of one `&` aren't parted by a token.
-fn is_joined(token: Token<'_>) -> bool {
-    !separates(token) && !matches!(token.text.as_bytes(), [b':' | b'|'] | [b'.', b'.', b'.'])
 }
 
 /// A label of a struct or a definition that is declared several times.
@@ -142,11 +107,11 @@ fn repeated_at<'s, 'a>(
     near: Near<'s, 'a>,
 ) -> Result<Option<Repeated<'s, 'a>>, AllocError> {
     let source = near.source;
-    let label = match near.place.checked_sub(1) {
-        Some(colon) if near.before(1).text == ":" => source.label_before(colon),
-        Some(_) | None => None,
-    };
-    let Some(label) = label else {
+    let colon = near
+        .place
+        .checked_sub(1)
+        .filter(|_| near.before(1).text == ":");
+    let Some(label) = colon.and_then(|colon| source.label_before(colon)) else {
         return Ok(None);
     };
     let name = source.token(label).text;
@@ -157,58 +122,42 @@ fn repeated_at<'s, 'a>(
         Some(_) => labels.len(),
         None => declared.times(name),
     };
-    Ok(
-        (times > 1).then_some(Repeated {
-            name,
-            times,
-            labels,
-        }),
-    )
-}
-
-/// Puts that a label or a definition is declared several times, and what to write instead.
-fn put_repeated(text: &mut String, repeated: &Repeated<'_, '_>) -> Written {
-    let often = if repeated.times == 2 {
-        "twice"
-    } else {
-        "several times"
+    let repeated = Repeated {
+        name,
+        times,
+        labels,
     };
-    put_filled(text, "`{}` is declared {}: ", &[repeated.name, often])?;
-    if repeated.labels.is_empty() {
-        return text.push_str("join its bodies to one, or end each of their structs with `...`");
-    }
-    put_keys(text, repeated)
+    Ok((times > 1).then_some(repeated))
 }
 
-/// Puts that the wide profile puts together what is declared several times, and what to write without it.
-fn put_repeated_together(text: &mut String, repeated: &Repeated<'_, '_>) -> Written {
-    let all = if repeated.times == 2 { "both" } else { "all" };
-    let is_definition = repeated.labels.is_empty();
-    let parts = if is_definition { "bodies" } else { "values" };
-    put_filled(
-        text,
-        "`--profile wide` puts {} {} of `{}` together; without it ",
-        &[all, parts, repeated.name],
-    )?;
+/// Puts that a label or a definition is declared several times, or that the wide profile puts it together, and what to write instead: one, or the
+/// struct of the keys behind the labels, where each has one and they are few.
+fn put_repeated(text: &mut String, repeated: &Repeated<'_, '_>, is_joined: bool) -> Written {
+    let Repeated { name, labels, .. } = repeated;
+    let is_definition = labels.is_empty();
+    let (often, all) = match repeated.times {
+        2 => ("twice", "both"),
+        _ => ("several times", "all"),
+    };
+    if is_joined {
+        let parts = if is_definition { "bodies" } else { "values" };
+        let said = "`--profile wide` puts {} {} of `{}` together; without it ";
+        put_filled(text, said, &[all, parts, *name])?;
+    } else {
+        put_filled(text, "`{}` is declared {}: ", &[*name, often])?;
+    }
     if is_definition {
-        return text.push_str("join them to one, or end each of their structs with `...`");
+        let bodies = if is_joined { "them" } else { "its bodies" };
+        let said = "join {} to one, or end each of their structs with `...`";
+        return put_filled(text, said, &[bodies]);
     }
-    put_keys(text, repeated)
-}
-
-/// Puts the struct of the keys behind the labels of a name, where each has one and they are few.
-fn put_keys(text: &mut String, repeated: &Repeated<'_, '_>) -> Written {
-    let labels = &repeated.labels;
-    put_filled(text, "join to `{}{}: {", &[repeated.name, mark_of(labels)])?;
+    put_filled(text, "join to `{}{}: {", &[*name, mark_of(labels)])?;
     if labels.len() > MOST_NAMED || !labels.iter().all(|label| is_short(*label)) {
         return text.push_str("..}`");
     }
     let mut front = "";
     for label in labels {
-        let mark = match label.behind(3).text {
-            ":" => "",
-            mark => mark,
-        };
+        let mark = label.behind(3).text.trim_matches(':');
         put_filled(text, "{}{}{}: ..", &[front, label.behind(2).text, mark])?;
         front = ", ";
     }
@@ -218,11 +167,8 @@ fn put_keys(text: &mut String, repeated: &Repeated<'_, '_>) -> Written {
 /// The mark of labels that become one: `?` where all have it, or else that of the first one which has another or none.
 fn mark_of<'a>(labels: &[Near<'_, 'a>]) -> &'a str {
     let mut marks = labels.iter().map(|label| label.behind(1).text);
-    match marks.find(|mark| *mark != "?") {
-        Some(":") => "",
-        Some(mark) => mark,
-        None => "?",
-    }
+    let other = marks.find(|mark| *mark != "?");
+    other.map_or("?", |mark| mark.trim_matches(':'))
 }
 
 /// Whether another label follows a label and its colon.

@@ -72,29 +72,23 @@ fn put_way(
 
 /// Puts the name of a definition, with its place where the sources declare it: the line that declares it, and of several files which.
 fn put_named(text: &mut String, declared: &Declared<'_, '_>, name: &str) -> Written {
+    put_filled(text, "`{}`", &[name])?;
     let Some(declaration) = declared.of(name) else {
-        return put_filled(text, "`{}`", &[name]);
+        return Ok(());
     };
     let named = declaration.source.named;
-    let (file, colon) = match declared.sources {
-        [_] => ("", ""),
-        _ => (named.name, ":"),
+    let file = if declared.sources.len() == 1 {
+        ""
+    } else {
+        named.name
     };
-    let place = position_of(named.text, declaration.here().start);
-    let mut buffer = Buffer::new();
-    let line = buffer.format(place.line);
-    put_declared(text, name, file, colon, line)
-}
-
-/// Puts the name of a definition, with the file and the line that declare it.
-fn put_declared<'x>(
-    text: &mut String,
-    name: &'x str,
-    file: &'x str,
-    colon: &'x str,
-    line: &'x str,
-) -> Written {
-    put_filled(text, "`{}` ({}{}{})", &[name, file, colon, line])
+    let colon = if declared.sources.len() == 1 { "" } else { ":" };
+    let line = position_of(named.text, declaration.here().start).line;
+    put_filled(
+        text,
+        " ({}{}{})",
+        &[file, colon, Buffer::new().format(line)],
+    )
 }
 
 /// Puts the first name of a cycle again, and how the cycle is ended: by the field of its last definition that has the first one as

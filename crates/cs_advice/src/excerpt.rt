@@ -48,17 +48,9 @@ fn put_side(text: &mut String, side: &str, left: usize, is_blank: bool) -> Writt
         if at >= MOST_BESIDE {
             return text.push_str("..");
         }
-        text.push(shown(character, is_blank))?;
+        // What isn't shown as it is is a blank, so that the mark stays below what it marks. A tab stays.
+        let is_left = character == '\t' || !is_blank && !is_hidden(character);
+        text.push(if is_left { character } else { ' ' })?;
     }
     Ok(())
-}
-
-/// A character of a line, with a blank for one that isn't shown as it is, so that the mark stays below what it marks, and for each where
-/// blanks are asked for. A tab stays.
-fn shown(character: char, is_blank: bool) -> char {
-    match character {
-        '\t' => '\t',
-        _ if is_blank || is_hidden(character) => ' ',
-        _ => character,
-    }
 }

@@ -1,4 +1,5 @@
 // Labels, and the values under them.
+use cs_forms::outward;
 use cs_grammar::Sort;
 use cs_sources::{Near, Separator, Source, end_of, ends_value, follows_label, separates};
 use std::alloc::{AllocError, Global};
@@ -6,26 +7,15 @@ use std::str;
 
 /// How many bytes of a value are shown.
 const MOST_SHOWN: usize = 80;
-/// How many structs around a name are looked at for a field that it names.
-const MOST_AROUND: usize = 64;
 
 /// The text of a source from one offset up to another.
 pub(crate) fn text_between<'a>(source: &Source<'a>, start: usize, end: usize) -> &'a str {
     str::from_utf8(source.named.text.get(start..end).unwrap_or(&[])).unwrap_or("")
 }
 
-/// A field with a mark in its value.
-#[derive(Clone, Copy)]
-pub(crate) struct Marked<'a> {
-    pub(crate) label: &'a str,
-    /// What of the value is before the mark.
-    pub(crate) before: &'a str,
-    /// What of it is behind the mark; `..` for both where they are long or have several lines.
-    pub(crate) behind: &'a str,
-}
-
-/// The field that a mark is in the value of. None where no field can be left out there.
-pub(crate) fn field_without<'a>(mark: Near<'_, 'a>) -> Option<Marked<'a>> {
+/// The label of the field that a mark is in the value of, and what of the value is before the mark and behind it: nothing and `..` where they
+/// are long or have several lines. None where no field can be left out there.
+pub(crate) fn field_without<'a>(mark: Near<'_, 'a>) -> Option<(&'a str, &'a str, &'a str)> {
     let (source, here, colon) = (mark.source, mark.here(), mark.colon()?);
     let name = source.token(source.label_before(colon.place)?);
     let is_field = ends_value(name) && !matches!(name.sort, Sort::Mark | Sort::Definition);
@@ -33,38 +23,16 @@ pub(crate) fn field_without<'a>(mark: Near<'_, 'a>) -> Option<Marked<'a>> {
     if !is_field || colon.before(1).text == "!" {
         return None;
     }
-    let label = name.text;
     let before = text_between(source, end_of(colon.here()), here.start);
     let behind = text_between(source, end_of(here), mark.part().end());
     let is_long = before.len().saturating_add(behind.len()) > MOST_SHOWN;
     if is_long || before.contains('\n') || behind.contains('\n') {
-        return Some(Marked {
-            label,
-            before: "",
-            behind: "..",
-        });
+        return Some((name.text, "", ".."));
     }
-    let trimmed = behind.trim_ascii_start();
     Some(match before.trim_ascii_start() {
-        "" => Marked {
-            label,
-            before: "",
-            behind: trimmed,
-        },
-        before => Marked {
-            label,
-            before,
-            behind,
-        },
+        "" => (name.text, "", behind.trim_ascii_start()),
+        before => (name.text, before, behind),
     })
-}
-
-/// The label of the field whose value a token is in, in parentheses or in none.
-pub(crate) fn label_over<'a>(near: Near<'_, 'a>) -> Option<&'a str> {
-    let source = near.source;
-    let place = source.held_in_declaration(near.place);
-    let colon = Near { source, place }.colon()?;
-    Some(source.token(source.label_before(colon.place)?).text)
 }
 
 /// The labels of the struct that a bracket opens, in their order; one that it has twice is there twice. None without a bracket.
@@ -93,16 +61,14 @@ pub(crate) fn field_named<'s, 'a>(
     near: Near<'s, 'a>,
 ) -> Result<Option<Near<'s, 'a>>, AllocError> {
     let name = near.here().text;
-    let mut around = near.bracket();
-    for _ in 0..MOST_AROUND {
-        let Some(bracket) = around else { break };
-        if bracket.here().text == "{" {
-            let labels = labels_inside(alloc, around)?;
-            if let Some(label) = labels.iter().find(|label| label.here().text == name) {
-                return Ok(Some(*label));
-            }
+    for bracket in outward(near)
+        .skip(1)
+        .filter(|bracket| bracket.here().text == "{")
+    {
+        let labels = labels_inside(alloc, Some(bracket))?;
+        if let Some(label) = labels.iter().find(|label| label.here().text == name) {
+            return Ok(Some(*label));
         }
-        around = bracket.bracket();
     }
     Ok(None)
 }
@@ -114,16 +80,11 @@ pub(crate) fn field_with<'a>(
     definition: Near<'_, 'a>,
     reference: &str,
 ) -> Result<Option<&'a str>, AllocError> {
-    let opening = match literal_of(definition) {
-        Some((opening, closing)) if separates(closing.behind(1)) => Some(opening),
-        Some(_) | None => None,
-    };
-    for label in labels_inside(alloc, opening)? {
-        if label.behind(2).text == reference && is_whole_value(label) {
-            return Ok(Some(label.here().text));
-        }
-    }
-    Ok(None)
+    let literal = literal_of(definition).filter(|(_, closing)| separates(closing.behind(1)));
+    let labels = labels_inside(alloc, literal.map(|(opening, _)| opening))?;
+    let label = labels.iter().find(|label| label.behind(2).text == reference
+        && is_whole_value(**label));
+    Ok(label.map(|label| label.here().text))
 }
 
 /// The brackets that open and close the struct literal at the front of a definition.

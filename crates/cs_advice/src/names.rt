@@ -1,7 +1,7 @@
 // What is said of names that aren't declared, and of those of fields.
 use crate::labels::field_named;
 use crate::text::put_filled;
-use cs_forms::{Form, kind_meant, said_of_form};
+use cs_forms::kind_meant;
 use cs_grammar::Sort;
 use cs_place::position_of;
 use cs_sources::{Declared, Near, Source, declared_in};
@@ -21,17 +21,14 @@ pub(crate) fn nearest<'a>(
     name: &str,
     declared: &Declared<'_, 'a>,
 ) -> Result<Option<&'a str>, AllocError> {
-    let name = bare(name);
     let mut best = None;
-    let mut fewest = (name.len() / 3).saturating_add(1);
+    let mut fewest = (bare(name).len() / 3).saturating_add(1);
     for declaration in &declared.firsts {
         let other = declaration.here().text;
-        match few_edits(alloc, name, bare(other))? {
-            Some(edits) if edits < fewest => {
-                fewest = edits;
-                best = Some(other);
-            }
-            _ => {}
+        let edits = few_edits(alloc, bare(name), bare(other))?;
+        if let Some(edits) = edits.filter(|edits| *edits < fewest) {
+            fewest = edits;
+            best = Some(other);
         }
     }
     Ok(best)
@@ -46,14 +43,14 @@ fn is_kind(name: &str) -> bool {
     .contains(&name)
 }
 
-/// Puts that a name names a field, and where that is.
-pub(crate) fn put_field_reference(text: &mut String, near: Near<'_, '_>) -> Written {
+/// Puts that a name names a field, which is said first, and where that is.
+pub(crate) fn put_field_reference(text: &mut String, said: &str, near: Near<'_, '_>) -> Written {
     let name = near.here().text;
     if near.here().sort == Sort::Definition {
         // It stands for what it is put together from, which is at fault.
         return put_filled(text, "a name in `{}` is a field there", &[name]);
     }
-    put_filled(text, said_of_form(Form::FieldReference), &[name])?;
+    put_filled(text, said, &[name])?;
     if let Some(label) = field_named(*text.allocator(), near)? {
         let source = near.source;
         let line = position_of(source.named.text, label.here().start).line;
@@ -79,10 +76,12 @@ pub(crate) fn put_unknown(
     if declared.times(name) > 0 {
         return put_filled(text, "a name in `{}` isn't declared", &[name]);
     }
-    let nearest = nearest(alloc, name, &declared)?;
-    let Some(meant) = nearest.or(kind_meant(name)) else {
-        return put_filled(text, said, &[name]);
-    };
-    let said = "`{}` isn't declared; did you mean `{}`?";
-    put_filled(text, said, &[name, meant])
+    match nearest(alloc, name, &declared)?.or(kind_meant(name)) {
+        Some(meant) => put_filled(
+            text,
+            "`{}` isn't declared; did you mean `{}`?",
+            &[name, meant],
+        ),
+        None => put_filled(text, said, &[name]),
+    }
 }

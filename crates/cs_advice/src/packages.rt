@@ -23,7 +23,11 @@ pub fn tell_too_high<'a>(told: &mut Told<'a>, source: Option<&Source<'a>>) -> Wr
         return told.hint.push_str(said);
     }
     let Some(near) = first_too_high(told.alloc(), source)? else {
-        return put_high_embedded(&mut told.hint, source);
+        let mut tokens = (0..source.tokens.len()).map(|place| Near { source, place });
+        let embeds = tokens.any(|token| token.begins_embedding());
+        let said =
+            "with what is embedded brackets, short fields, `&`, `|` and the value inside make more than 28 levels: give an inner part a definition";
+        return told.hint.push_str(if embeds { said } else { "" });
     };
     told.place_at(near);
     let is_bracket = near.held().is_some();
@@ -31,14 +35,6 @@ pub fn tell_too_high<'a>(told: &mut Told<'a>, source: Option<&Source<'a>>) -> Wr
     let said =
         "level 29 is in this {}: brackets, short fields, `&`, `|` and the value inside make 28 at most; give an inner part a definition";
     put_filled(&mut told.hint, said, &[part])
-}
-
-/// Puts that a source nests too deep by what it embeds, where it embeds something.
-fn put_high_embedded(text: &mut String, source: &Source<'_>) -> Written {
-    let embeds = (0..source.tokens.len()).any(|place| Near { source, place }.begins_embedding());
-    let said =
-        "with what is embedded brackets, short fields, `&`, `|` and the value inside make more than 28 levels: give an inner part a definition";
-    text.push_str(if embeds { said } else { "" })
 }
 
 /// The name in the package clause of a source.
@@ -106,9 +102,7 @@ pub fn put_too_large(text: &mut String, definitions: usize, sources: &[Source<'_
     if definitions > MOST_DEFINITIONS {
         return put_grouped(text, definitions, &[" definitions, and 1,000", remedy]);
     }
-    let nodes = sources.iter().fold(
-        0usize,
-        |nodes, source| nodes.saturating_add(nodes_of(source)),
-    );
+    let nodes = sources.iter().map(|source| nodes_of(source));
+    let nodes = nodes.fold(0usize, |all, more| all.saturating_add(more));
     put_grouped(text, nodes, &[" nodes of expressions, and 50,000", remedy])
 }

@@ -7,9 +7,7 @@ use itoa::Buffer;
 /// Puts words as they are shown, with these parts in place of each `{}` in them, in their order. Only memory can run out.
 pub fn put_filled(text: &mut String, words: &str, parts: &[&str]) -> Written {
     for (at, piece) in words.split("{}").enumerate() {
-        if at > 0
-            && let Some(part) = parts.get(at - 1)
-        {
+        if let Some(part) = at.checked_sub(1).and_then(|before| parts.get(before)) {
             put_line(text, &[*part])?;
         }
         put_line(text, &[piece])?;

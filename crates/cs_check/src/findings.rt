@@ -6,11 +6,11 @@ ghost use Rattle.cs_tool.specs.CallRefusals.{IsSchemaText};
 ghost use Rattle.cs_tool.specs.Given.{bytes_in};
 ghost use Rattle.cs_widen.specs.Schemas.{SchemaMeans};
 
-use crate::joined::WideFaults;
+use crate::joined::{is_put_together, wide_faults};
 use crate::schema::check_schema;
 use crate::sources::{check, check_wide};
 use crate::warnings::{put_warning, warned};
-use cs_fault_words::{Profile, Reading, put_finding};
+use cs_fault_words::{About, Profile, put_finding};
 use cs_guard::Guarded;
 use cs_place::Named;
 use cs_sources::{declared_in, sources_of};
@@ -43,11 +43,11 @@ pub struct Findings {
 ///
 /// # Errors
 /// Memory alone.
-pub fn source_findings(
+pub fn source_findings<'a>(
     alloc: Global,
     sources: &[&[u8]],
-    named: &[Named<'_>],
-    root: Option<&str>,
+    named: &'a [Named<'a>],
+    root: Option<&'a str>,
 ) -> Result<Findings, Fault>
     ensures accepted { IfOk result
         (λ f. ¬ (f.checked ≡ Checked.Faulty) → AreAccepted (bytes_in sources.now)) }
@@ -56,14 +56,7 @@ pub fn source_findings(
 {
     let faults = check(alloc, sources)?;
     if !faults.is_empty() {
-        return faulty(
-            alloc,
-            &faults,
-            Profile::Default,
-            root.unwrap_or(""),
-            None,
-            named,
-        );
+        return faulty(alloc, &faults, known(Profile::Default, named, root));
     }
     package_findings(alloc, sources, named, root)
 }
@@ -74,25 +67,18 @@ pub fn source_findings(
 ///
 /// # Errors
 /// Memory alone.
-pub fn wide_findings(
+pub fn wide_findings<'a>(
     alloc: Global,
     sources: &[&[u8]],
-    named: &[Named<'_>],
-    root: Option<&str>,
+    named: &'a [Named<'a>],
+    root: Option<&'a str>,
 ) -> Result<Findings, Fault>
     ensures { IfOk result
         (λ f. ¬ (f.checked ≡ Checked.Faulty) → AreWideAccepted (bytes_in sources.now)) }
 {
     let faults = check_wide(alloc, sources)?;
     if !faults.is_empty() {
-        return faulty(
-            alloc,
-            &faults,
-            Profile::Wide,
-            root.unwrap_or(""),
-            None,
-            named,
-        );
+        return faulty(alloc, &faults, known(Profile::Wide, named, root));
     }
     match stands_for(alloc, sources)? {
         Some(meant) => package_findings(alloc, &[meant.as_bytes()], named, root),
@@ -101,28 +87,22 @@ pub fn wide_findings(
 }
 
 /// What is found in the package of sources without faults: that it hasn't the root, or else its warnings.
-fn package_findings(
+fn package_findings<'a>(
     alloc: Global,
     sources: &[&[u8]],
-    named: &[Named<'_>],
-    root: Option<&str>,
+    named: &'a [Named<'a>],
+    root: Option<&'a str>,
 ) -> Result<Findings, Fault>
     ensures { root.entry ≡ None → IfOk result (λ f. ¬ (f.checked ≡ Checked.Faulty)) }
 {
     let package = accepted_package(alloc, sources)?;
-    match root {
-        Some(root) if package.package().find(root).is_none() => {
-            faulty(
-                alloc,
-                &[Fault::UnknownRoot],
-                Profile::Default,
-                root,
-                None,
-                named,
-            )
-        }
-        Some(_) | None => unfaulty(alloc, &package, named),
+    if let Some(name) = root
+        && package.package().find(name).is_none()
+    {
+        let about = known(Profile::Default, named, root);
+        return faulty(alloc, &[Fault::UnknownRoot], about);
     }
+    unfaulty(alloc, &package, named)
 }
 
 /// What is found in a schema: a line for each fault, 50 at most.
@@ -168,27 +148,49 @@ fn findings_of(alloc: Global, shown: Named<'_>, text: &[u8]) -> Result<Findings,
         let (checked, lines) = (Checked::Well, String::new(alloc));
         return Ok(Findings { checked, lines });
     }
-    faulty(alloc, &faults, Profile::Default, "", Some(shown), &[])
+    faulty(alloc, &faults, known_of_schema(shown))
 }
 
-/// Faults of a schema, or of sources in a profile and the root that was asked for, with a line for each.
-fn faulty<'a>(
-    alloc: Global,
-    faults: &[Fault],
-    profile: Profile,
-    root: &str,
-    schema: Option<Named<'a>>,
-    named: &[Named<'a>],
-) -> Result<Findings, Fault>
+/// What is known of a check of a schema.
+fn known_of_schema<'a>(schema: Named<'a>) -> About<'a> {
+    About {
+        sources: &[],
+        root: "",
+        profile: Profile::Default,
+        is_joined: false,
+        schema: Some(schema),
+        document: None,
+        path: None,
+        cause: "",
+        sizes: &[],
+    }
+}
+
+/// What is known of a check of sources in a profile, and the root that was asked for.
+fn known<'a>(profile: Profile, sources: &'a [Named<'a>], root: Option<&'a str>) -> About<'a> {
+    About {
+        sources,
+        root: root.unwrap_or(""),
+        profile,
+        is_joined: false,
+        schema: None,
+        document: None,
+        path: None,
+        cause: "",
+        sizes: &[],
+    }
+}
+
+/// Faults of what is known, with a line for each.
+fn faulty(alloc: Global, faults: &[Fault], about: About<'_>) -> Result<Findings, Fault>
     ensures { IfOk result (λ f. f.checked ≡ Checked.Faulty) }
 {
     let mut lines = String::new(alloc);
-    let sources = sources_of(alloc, profile, named)?;
-    let wide = WideFaults::of(alloc, profile, faults, named)?;
+    let sources = sources_of(alloc, about.profile, about.sources)?;
+    let wide = wide_faults(alloc, about, faults)?;
     for fault in faults {
-        let is_joined = wide.lack(fault);
-        let reading = Reading { profile, is_joined };
-        put_finding(alloc, &mut lines, fault, reading, root, schema, &sources)?;
+        let is_joined = is_put_together(&wide, fault);
+        put_finding(&mut lines, fault, About { is_joined, ..about }, &sources)?;
     }
     let checked = Checked::Faulty;
     Ok(Findings { checked, lines })

@@ -10,15 +10,6 @@ struct Declared {
     values: Vec<Notes>,
 }
 
-impl Declared {
-    fn nothing(alloc: Global) -> Declared {
-        Declared {
-            texts: Vec::new(alloc),
-            values: Vec::new(alloc),
-        }
-    }
-}
-
 /// The declarations of some names: of the definitions of a package, or of the fields of a struct.
 #[derive(Drop)]
 pub(crate) struct Declarations {
@@ -47,28 +38,37 @@ impl Declarations {
         }
     }
 
-    /// Adds the text of a declaration.
+    /// What is declared under a name so far.
+    fn under(&mut self, alloc: Global, name: &str) -> Result<&mut Declared, AllocError> {
+        let name = String::from_str(alloc, name)?;
+        let nothing = Declared {
+            texts: Vec::new(alloc),
+            values: Vec::new(alloc),
+        };
+        Ok(self.names.entry(name)?.or_insert(nothing))
+    }
+
+    /// Adds the text of a declaration, where it has one.
     pub(crate) fn add_text(
         &mut self,
         alloc: Global,
-        name: String,
-        text: String,
+        name: &str,
+        text: Option<String>,
     ) -> Result<(), AllocError> {
-        let nothing = Declared::nothing(alloc);
-        let declared = self.names.entry(name)?.or_insert(nothing);
-        Ok(declared.texts.push(text)?)
+        match text {
+            Some(text) => Ok(self.under(alloc, name)?.texts.push(text)?),
+            None => Ok(()),
+        }
     }
 
     /// Adds the notes of the value of a declaration.
     pub(crate) fn add_value(
         &mut self,
         alloc: Global,
-        name: String,
+        name: &str,
         value: Notes,
     ) -> Result<(), AllocError> {
-        let nothing = Declared::nothing(alloc);
-        let declared = self.names.entry(name)?.or_insert(nothing);
-        Ok(declared.values.push(value)?)
+        Ok(self.under(alloc, name)?.values.push(value)?)
     }
 
     /// The notes under each name.

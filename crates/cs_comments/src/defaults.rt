@@ -9,7 +9,7 @@ use std::collections::BTreeMap;
 pub(crate) fn default_among(
     alloc: Global,
     operands: &[Expr],
-    comments: &mut Comments,
+    comments: &mut Comments<'_>,
 ) -> Result<Option<Doc>, AllocError> {
     for operand in operands {
         if let Expr::Wide(Wide::Marked { value, .. }) = operand {
@@ -24,7 +24,7 @@ pub(crate) fn default_among(
 fn value_of(
     alloc: Global,
     literal: &Expr,
-    comments: &mut Comments,
+    comments: &mut Comments<'_>,
 ) -> Result<Option<Doc>, AllocError> {
     Ok(match literal {
         Expr::Null => Some(Doc::Null),
@@ -58,7 +58,7 @@ fn value_of(
 fn values_of(
     alloc: Global,
     literals: &[Expr],
-    comments: &mut Comments,
+    comments: &mut Comments<'_>,
 ) -> Result<Option<Doc>, AllocError> {
     let mut items = Vec::with_capacity(alloc, literals.len())?;
     for literal in literals {
@@ -71,7 +71,11 @@ fn values_of(
 }
 
 /// The document that a text is, if notes have room for it.
-fn text_of(alloc: Global, text: &str, comments: &mut Comments) -> Result<Option<Doc>, AllocError> {
+fn text_of(
+    alloc: Global,
+    text: &str,
+    comments: &mut Comments<'_>,
+) -> Result<Option<Doc>, AllocError> {
     if comments.has_room(text.len()) {
         Ok(Some(Doc::Text(String::from_str(alloc, text)?)))
     } else {

@@ -1,12 +1,10 @@
 // The comments of CUE sources and the values of their default marks, as notes for the places of schemas.
 #![tactic(auto)]
 
-mod carrying;
 mod comments;
 mod declared;
 mod defaults;
 mod lines;
-mod members;
 mod packages;
 mod texts;
 mod values;

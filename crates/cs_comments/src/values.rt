@@ -1,17 +1,17 @@
 // The notes of values, as their translation to schemas has places for them.
-use crate::comments::{Comments, carried_number};
+use crate::comments::Comments;
+use crate::declared::Declarations;
 use crate::defaults::default_among;
-use crate::members::Members;
 use cs_describe::Notes;
-use cs_grammar::{Declaration, Expr, Field, FieldMark, ListEnd, Wide};
+use cs_grammar::{Declaration, Expr, Field, FieldMark, ListEnd, Wide, atom};
 use std::alloc::{AllocError, Global};
 
-/// The notes of a value that carries the comments on the fields in it.
+/// The notes of a value.
 #[cycle(values)]
 pub(crate) fn notes_of_value(
     alloc: Global,
     value: &Expr,
-    comments: &mut Comments,
+    comments: &mut Comments<'_>,
 ) -> Result<Notes, AllocError> {
     let mut notes = Notes::new(alloc);
     match value {
@@ -19,33 +19,23 @@ pub(crate) fn notes_of_value(
         Expr::Or(operands) => {
             notes.any_of = notes_of_each(alloc, operands, comments)?;
             notes.default = default_among(alloc, operands, comments)?;
-        },
-        Expr::Paren(inside) => return notes_of_value(alloc, inside, comments),
-        // Nothing but its parentheses is left of `close` where it is widened.
-        Expr::Wide(Wide::Shut { value, .. }) => return notes_of_value(alloc, value, comments),
-        // A mark of a default is dropped where it is widened; its value is a note of the disjunction.
-        Expr::Wide(Wide::Marked { value, .. }) => return notes_of_value(alloc, value, comments),
+        }
+        // Nothing but its parentheses is left of `close` where it is widened, and nothing of a mark of a default; the value of that is a note
+        // of the disjunction.
+        Expr::Paren(value)
+        | Expr::Wide(Wide::Shut { value, .. })
+        | Expr::Wide(Wide::Marked { value, .. }) => return notes_of_value(alloc, value, comments),
         Expr::Wide(Wide::Merged { declarations, .. }) => {
-            return notes_of_declarations(alloc, declarations, comments);
-        },
-        Expr::Struct { fields, .. } => return notes_of_fields(alloc, fields, comments),
+            notes = notes_of_declarations(alloc, declarations, comments)?;
+        }
+        Expr::Struct { fields, .. } => notes = notes_of_fields(alloc, fields, comments)?,
         Expr::List { front, end } => {
             notes.prefix = notes_of_each(alloc, front, comments)?;
             notes.rest = notes_of_rest(alloc, end, comments)?;
-        },
-        Expr::Top
-        | Expr::Bottom
-        | Expr::Null
-        | Expr::Bool(_)
-        | Expr::Int(_)
-        | Expr::Text(_)
-        | Expr::Name { .. }
-        | Expr::Reference { .. }
-        | Expr::Bound { .. }
-        | Expr::NotInt(_)
-        | Expr::NotText(_)
-        | Expr::NotNull => {},
+        }
+        atom!() | Expr::Name { .. } | Expr::Reference { .. } => {}
     }
+    comments.count();
     Ok(notes)
 }
 
@@ -54,7 +44,7 @@ pub(crate) fn notes_of_value(
 fn notes_of_each(
     alloc: Global,
     values: &[Expr],
-    comments: &mut Comments,
+    comments: &mut Comments<'_>,
 ) -> Result<Vec<Notes>, AllocError> {
     let mut each = Vec::with_capacity(alloc, values.len())?;
     for value in values {
@@ -68,29 +58,31 @@ fn notes_of_each(
 fn notes_of_rest(
     alloc: Global,
     end: &ListEnd,
-    comments: &mut Comments,
+    comments: &mut Comments<'_>,
 ) -> Result<Option<Box<Notes>>, AllocError> {
     match end {
         ListEnd::Each(value) => {
             let notes = notes_of_value(alloc, value, comments)?;
             Ok(Some(Box::new(alloc, notes)?))
-        },
+        }
         ListEnd::Closed | ListEnd::Any => Ok(None),
     }
 }
 
-/// The notes of a struct.
+/// The notes of a struct: under `properties` those of its labels, and for each `[string]: T` one under `allOf`.
 #[cycle(values)]
 fn notes_of_fields(
     alloc: Global,
     fields: &[Field],
-    comments: &mut Comments,
+    comments: &mut Comments<'_>,
 ) -> Result<Notes, AllocError> {
-    let mut members = Members::new(alloc);
+    let mut labels = Declarations::new(alloc);
+    let mut notes = Notes::new(alloc);
     for field in fields {
-        add_field(alloc, field, comments, &mut members)?;
+        add_field(alloc, field, comments, &mut labels, &mut notes.all_of)?;
     }
-    members.into_notes(alloc)
+    notes.properties = labels.into_notes(alloc)?;
+    Ok(notes)
 }
 
 /// The same of a literal with embeddings, which is met only where nothing is put together: those of its own fields.
@@ -98,40 +90,68 @@ fn notes_of_fields(
 fn notes_of_declarations(
     alloc: Global,
     declarations: &[Declaration],
-    comments: &mut Comments,
+    comments: &mut Comments<'_>,
 ) -> Result<Notes, AllocError> {
-    let mut members = Members::new(alloc);
+    let mut labels = Declarations::new(alloc);
+    let mut notes = Notes::new(alloc);
     for declaration in declarations {
         match declaration {
-            Declaration::Field(field) => add_field(alloc, field, comments, &mut members)?,
+            Declaration::Field(field) => {
+                add_field(alloc, field, comments, &mut labels, &mut notes.all_of)?;
+            },
             Declaration::Embedded { .. } => {},
         }
     }
-    members.into_notes(alloc)
+    notes.properties = labels.into_notes(alloc)?;
+    Ok(notes)
 }
 
-/// Adds a field to a struct, or the comment on the next one.
+/// Adds a field to those of a struct: the comment on its first declaration, the notes of its value, and the comments on its other declarations.
 #[cycle(values)]
 fn add_field(
     alloc: Global,
     field: &Field,
-    comments: &mut Comments,
-    members: &mut Members,
+    comments: &mut Comments<'_>,
+    labels: &mut Declarations,
+    every: &mut Vec<Notes>,
 ) -> Result<(), AllocError> {
-    if let Some(number) = carried_number(field) {
-        return match comments.read(number)? {
-            Some(comment) => members.add_comment(alloc, comment),
-            None => Ok(()),
-        };
+    let label = field.label.as_str();
+    let all = &field.site.all;
+    let text = comments.read(*all.first().unwrap_or(&field.site.at), label)?;
+    if matches!(field.mark, FieldMark::Every { .. }) {
+        let value = notes_of_value(alloc, &field.value, comments)?;
+        return Ok(every.push(notes_of_every(alloc, Notes { text, ..value })?)?);
     }
-    if !comments.has_room(field.label.len()) {
-        return Ok(());
+    labels.add_text(alloc, label, text)?;
+    if let Some(value) = notes_of_labelled(alloc, field, comments)? {
+        labels.add_value(alloc, label, value)?;
     }
-    let value = notes_of_value(alloc, &field.value, comments)?;
-    match field.mark {
-        FieldMark::Every { .. } => members.add_every(alloc, value),
-        FieldMark::Regular | FieldMark::Optional | FieldMark::Required => {
-            members.add_value(alloc, field.label.clone()?, value)
-        },
+    for at in all.get(1..).unwrap_or(&[]) {
+        let text = comments.read(*at, label)?;
+        labels.add_text(alloc, label, text)?;
     }
+    Ok(())
+}
+
+/// The notes of `[string]: T` by those of its value.
+fn notes_of_every(alloc: Global, value: Notes) -> Result<Notes, AllocError> {
+    let mut notes = Notes::new(alloc);
+    notes.additional = Some(Box::new(alloc, value)?);
+    Ok(notes)
+}
+
+/// The notes of the value of a field, if notes have room for its label. What is in it is met in any case.
+#[cycle(values)]
+fn notes_of_labelled(
+    alloc: Global,
+    field: &Field,
+    comments: &mut Comments<'_>,
+) -> Result<Option<Notes>, AllocError> {
+    if comments.has_room(field.label.len()) {
+        return Ok(Some(notes_of_value(alloc, &field.value, comments)?));
+    }
+    let mut left_out = comments.without_room();
+    drop(notes_of_value(alloc, &field.value, &mut left_out)?);
+    comments.nodes = left_out.nodes;
+    Ok(None)
 }

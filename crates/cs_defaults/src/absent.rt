@@ -7,7 +7,7 @@ ghost use Rattle.cs_defaults.specs.Checks.{FindsIn, place_list, TellsHanding, Te
 
 use crate::DefaultFault;
 use crate::leading::Handing;
-use cs_grammar::{Expr, Field, FieldMark, ListEnd, Wide};
+use cs_grammar::{Expr, Field, FieldMark, ListEnd, Wide, atom};
 use std::alloc::{AllocError, Global};
 use std::collections::BTreeSet;
 
@@ -114,18 +114,9 @@ impl Clashes<'_, '_> {
             Expr::Wide(Wide::Marked { value, .. } | Wide::Shut { value, .. }) => {
                 self.check(value)
             }
-            Expr::Top
-            | Expr::Bottom
-            | Expr::Null
-            | Expr::Bool(_)
-            | Expr::Int(_)
-            | Expr::Text(_)
+            atom!()
             | Expr::Name { .. }
             | Expr::Reference { .. }
-            | Expr::Bound { .. }
-            | Expr::NotInt(_)
-            | Expr::NotText(_)
-            | Expr::NotNull
             | Expr::Wide(Wide::Merged { .. }) => Ok(()),
         }
     }

@@ -7,7 +7,7 @@ ghost use Rattle.cs_defaults.specs.Leading as Spec;
 ghost use Rattle.cs_defaults.specs.Leading.{leads, to};
 ghost use Rattle.cs_defaults.specs.Checks.{leading_view, place_list, TellsBodies, TellsHanding, TellsHandingOf};
 
-use cs_grammar::{Definition, Expr, File, Wide};
+use cs_grammar::{Definition, Expr, File, Wide, atom};
 use std::alloc::{AllocError, Global};
 use std::collections::{BTreeMap, BTreeSet};
 
@@ -37,17 +37,8 @@ pub(crate) fn leading(expr: &Expr) -> Lead<'_>
             name: text,
             at: *at,
         },
-        Expr::Top
-        | Expr::Bottom
-        | Expr::Null
-        | Expr::Bool(_)
-        | Expr::Int(_)
-        | Expr::Text(_)
+        atom!()
         | Expr::Name { .. }
-        | Expr::Bound { .. }
-        | Expr::NotInt(_)
-        | Expr::NotText(_)
-        | Expr::NotNull
         | Expr::And(_)
         | Expr::Struct { .. }
         | Expr::List { .. }

@@ -5,7 +5,7 @@ ghost use Rattle.cs_defaults.specs.Checks.{Finds};
 ghost use Rattle.cs_defaults.specs.Marks as Marks;
 ghost use Rattle.cs_defaults.specs.Marks.{misplaced, misplaced_each, misplaced_operands, misplaced_fields, misplaced_end, is_no_field};
 
-use cs_grammar::{Expr, Field, ListEnd, Wide};
+use cs_grammar::{Expr, Field, ListEnd, Wide, atom, bound, literal};
 
 /// Whether there is no field.
 fn are_no_fields(fields: &[Field]) -> bool
@@ -20,18 +20,15 @@ fn is_literal(expr: &Expr) -> bool
     ensures { result ≡ Marks.is_literal (expr_view expr.now) }
 {
     match expr {
-        Expr::Null | Expr::Bool(_) | Expr::Int(_) | Expr::Text(_) => true,
+        literal!() => true,
         Expr::Paren(inside) => is_literal(inside),
         Expr::Struct { fields, opened, .. } => are_no_fields(fields) && !*opened,
         Expr::List { front, end } => matches!(end, ListEnd::Closed) && are_literals(front),
         Expr::Top
         | Expr::Bottom
+        | bound!()
         | Expr::Name { .. }
         | Expr::Reference { .. }
-        | Expr::Bound { .. }
-        | Expr::NotInt(_)
-        | Expr::NotText(_)
-        | Expr::NotNull
         | Expr::And(_)
         | Expr::Or(_)
         | Expr::Wide(_) => false,
@@ -62,18 +59,9 @@ fn is_default(expr: &Expr) -> bool
 {
     match expr {
         Expr::Wide(Wide::Marked { value, .. }) => is_literal(value),
-        Expr::Top
-        | Expr::Bottom
-        | Expr::Null
-        | Expr::Bool(_)
-        | Expr::Int(_)
-        | Expr::Text(_)
+        atom!()
         | Expr::Name { .. }
         | Expr::Reference { .. }
-        | Expr::Bound { .. }
-        | Expr::NotInt(_)
-        | Expr::NotText(_)
-        | Expr::NotNull
         | Expr::And(_)
         | Expr::Or(_)
         | Expr::Paren(_)
@@ -99,18 +87,7 @@ pub(crate) fn check_marks(expr: &Expr, is_whole: bool) -> Result<(), usize>
         }
         Expr::Wide(Wide::Marked { at, .. } | Wide::Merged { at, .. }) => Err(*at),
         Expr::Wide(Wide::Shut { value, .. }) => check_marks(value, false),
-        Expr::Top
-        | Expr::Bottom
-        | Expr::Null
-        | Expr::Bool(_)
-        | Expr::Int(_)
-        | Expr::Text(_)
-        | Expr::Name { .. }
-        | Expr::Reference { .. }
-        | Expr::Bound { .. }
-        | Expr::NotInt(_)
-        | Expr::NotText(_)
-        | Expr::NotNull => Ok(()),
+        atom!() | Expr::Name { .. } | Expr::Reference { .. } => Ok(()),
     }
 }
 

@@ -7,7 +7,7 @@ ghost use Rattle.cs_defaults.specs.Unmarked.{optional_if, unmarked_each, unmarke
 ghost use Rattle.cs_defaults.specs.Checks.{TellsHanding, unmarked_seen};
 
 use crate::leading::Handing;
-use cs_grammar::{Definition, Expr, Field, FieldMark, File, ListEnd, Wide};
+use cs_grammar::{Definition, Expr, Field, FieldMark, File, ListEnd, Wide, atom};
 use std::alloc::{AllocError, Global};
 
 /// A regular declaration whose value has a default is an optional one.
@@ -52,12 +52,7 @@ impl Unmarking<'_, '_> {
                 Ok(Expr::List { front, end })
             }
             Expr::Wide(form) => self.unmarked_form(form),
-            Expr::Top => Ok(Expr::Top),
-            Expr::Bottom => Ok(Expr::Bottom),
-            Expr::Null => Ok(Expr::Null),
-            Expr::Bool(truth) => Ok(Expr::Bool(*truth)),
-            Expr::Int(integer) => Ok(Expr::Int(*integer)),
-            Expr::Text(text) => Ok(Expr::Text(text.clone()?)),
+            atom!() => expr.copy_atom(),
             Expr::Name { text, at } => Ok(Expr::Name {
                 text: text.clone()?,
                 at: *at,
@@ -66,13 +61,6 @@ impl Unmarking<'_, '_> {
                 text: text.clone()?,
                 at: *at,
             }),
-            Expr::Bound { relation, limit } => Ok(Expr::Bound {
-                relation: *relation,
-                limit: *limit,
-            }),
-            Expr::NotInt(integer) => Ok(Expr::NotInt(*integer)),
-            Expr::NotText(text) => Ok(Expr::NotText(text.clone()?)),
-            Expr::NotNull => Ok(Expr::NotNull),
         }
     }
 
@@ -130,6 +118,7 @@ impl Unmarking<'_, '_> {
             quoted: field.quoted,
             mark,
             value,
+            site: field.site.copy()?,
         })
     }
 

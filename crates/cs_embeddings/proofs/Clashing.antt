@@ -13,7 +13,7 @@ use Rattle.std.proofs.lemmas.Slice.Eq.{bytes_eq-Decides}
 use Rattle.cs_embeddings.specs.Alternatives.{Brought}
 use Rattle.cs_embeddings.specs.Gathered.{is_every}
 use Rattle.cs_embeddings.specs.Clashes.{is_same_reference, is_same_embedding, are_apart, may_open, differ, held, place_in, clashes_behind}
-use Rattle.cs_embeddings.specs.ClashTable.{is_unlike, is_elsewhere, is_beside, is_not_beside, opens, has_label, is_of_every, TellsValues, TellsEmbeddings, TellsFrom, TellsFirst, TellsGroup, TellsGroups, TellsLabel}
+use Rattle.cs_embeddings.specs.ClashTable.{is_unlike, is_elsewhere, is_beside, is_not_beside, opens, is_of_label, is_of_every, TellsValues, TellsEmbeddings, TellsFrom, TellsFirst, TellsGroup, TellsGroups, TellsLabel}
 use Rattle.cs_embeddings.specs.Held.{holds, is_plain}
 use Rattle.cs_embeddings.specs.Views.{brought_view}
 use Rattle.cs_embeddings.specs.declared.alternatives.Brought as rust
@@ -152,11 +152,11 @@ differs_every ds d h = any_same (opens d) (λ c. differ c d) same ds
         sym (ap (λ b. b && opens d c) (or_right (is_every c.mark) (is_every d.mark || bytes_eq c.label.text d.label.text) one))
 
 pub differs_label : (ds : List Brought) (d : Brought) (s : List ℕ) → d.label.text ≡ s → is_every d.mark ≡ false
-    → (list_any (opens d) (filter is_of_every ds) || list_any (opens d) (filter (has_label s) ds)) ≡ list_any (λ c. differ c d) ds
+    → (list_any (opens d) (filter is_of_every ds) || list_any (opens d) (filter (is_of_label s) ds)) ≡ list_any (λ c. differ c d) ds
 differs_label ds d s is one =
-    ap₂ (λ a b. a || b) (any_filter is_of_every (opens d) ds) (any_filter (has_label s) (opens d) ds)
-    ∙ any_either (λ c. is_of_every c && opens d c) (λ c. has_label s c && opens d c) ds
-    ∙ any_same (λ c. (is_of_every c && opens d c) || (has_label s c && opens d c)) (λ c. differ c d) same ds
+    ap₂ (λ a b. a || b) (any_filter is_of_every (opens d) ds) (any_filter (is_of_label s) (opens d) ds)
+    ∙ any_either (λ c. is_of_every c && opens d c) (λ c. is_of_label s c && opens d c) ds
+    ∙ any_same (λ c. (is_of_every c && opens d c) || (is_of_label s c && opens d c)) (λ c. differ c d) same ds
   where
     by : (a b o : Bool) → ((a && o) || (b && o)) ≡ ((a || b) && o)
     by true true true = refl
@@ -165,7 +165,7 @@ differs_label ds d s is one =
     by true false false = refl
     by false b o = refl
 
-    same : (c : Brought) → ((is_of_every c && opens d c) || (has_label s c && opens d c)) ≡ differ c d
+    same : (c : Brought) → ((is_of_every c && opens d c) || (is_of_label s c && opens d c)) ≡ differ c d
     same c =
         by (is_every c.mark) (bytes_eq c.label.text s) (opens d c)
         ∙ ap₂ (λ t b. (is_every c.mark || (b || bytes_eq c.label.text t)) && opens d c) (sym is) (sym one)
@@ -178,17 +178,17 @@ known_at s m = get_by (λ k. slice_cmp nat_cmp s k.now) m
 
 -- one more of its label
 pub labels_more : (m n : ByLabel) (ds : List Brought) (d : Brought) (s : List ℕ) (g : Groups) → d.label.text ≡ s
-    → ((t : List ℕ) → TellsLabel (known_at t m) (filter (has_label t) ds)) → TellsGroups g (filter (has_label s) ds ++ d ∷ [])
+    → ((t : List ℕ) → TellsLabel (known_at t m) (filter (is_of_label t) ds)) → TellsGroups g (filter (is_of_label s) ds ++ d ∷ [])
     → ((t : List ℕ) → known_at t n ≡ update bytes_eq (λ u. known_at u m) s (Some g) t)
-    → (t : List ℕ) → TellsLabel (known_at t n) (filter (has_label t) (ds ++ d ∷ []))
+    → (t : List ℕ) → TellsLabel (known_at t n) (filter (is_of_label t) (ds ++ d ∷ []))
 labels_more m n ds d s g is told grown puts t =
-    subst (λ (o : Option Groups). TellsLabel o (filter (has_label t) (ds ++ d ∷ []))) (sym (puts t)) (by (bytes_eq s t) refl)
+    subst (λ (o : Option Groups). TellsLabel o (filter (is_of_label t) (ds ++ d ∷ []))) (sym (puts t)) (by (bytes_eq s t) refl)
   where
-    by : (b : Bool) → bytes_eq s t ≡ b → TellsLabel (cond b (Some g) (known_at t m)) (filter (has_label t) (ds ++ d ∷ []))
+    by : (b : Bool) → bytes_eq s t ≡ b → TellsLabel (cond b (Some g) (known_at t m)) (filter (is_of_label t) (ds ++ d ∷ []))
     by true h =
         let same = (bytes_eq-Decides s t).0 h in
-        told_in (TellsGroups g) (has_label t) ds d (ap (λ u. bytes_eq u t) is ∙ h) (subst (λ u. TellsGroups g (filter (has_label u) ds ++ d ∷ [])) same grown)
-    by false h = told_out (TellsLabel (known_at t m)) (has_label t) ds d (ap (λ u. bytes_eq u t) is ∙ h) (told t)
+        told_in (TellsGroups g) (is_of_label t) ds d (ap (λ u. bytes_eq u t) is ∙ h) (subst (λ u. TellsGroups g (filter (is_of_label u) ds ++ d ∷ [])) same grown)
+    by false h = told_out (TellsLabel (known_at t m)) (is_of_label t) ds d (ap (λ u. bytes_eq u t) is ∙ h) (told t)
 
 -- ---- one after another
 

@@ -138,14 +138,14 @@ module _ (ds : List DefinitionTree) (n : ℕ) where
   -- the room for the parts
   module _ (room inside : Room) (nodes mid : ℕ) (goes : IsBelow room inside × (suc mid ≡ nodes)) (deep : room.levels ≤ n) where
     abbrev parts : Bool → Room
-    parts b = record { place = room.place; is_whole = b; levels = inside.levels }
+    parts b = record { place = room.place; by = inside.by; is_whole = b; levels = inside.levels }
 
     lower : inside.levels ≤ n
     lower = let l = goes.0.levels in omega arith
 
     module _ (b : Bool) (r : Room) (set : r ≡ record inside { is_whole = b }) where
       same : r ≡ parts b
-      same = set ∙ ap (λ p. let q : Room = record { place = p; is_whole = b; levels = inside.levels } in q) goes.0.place
+      same = set ∙ ap (λ p. let q : Room = record { place = p; by = inside.by; is_whole = b; levels = inside.levels } in q) goes.0.place
 
       at_parts : (Q : Room → Type 0) → (r.levels ≤ n → Q r) → Q (parts b)
       at_parts Q h = (subst (λ (q : Room). q.levels ≤ n → Q q) same h) lower

@@ -13,8 +13,9 @@ use Rattle.std.specs.Ordering.{nat_cmp}
 use Rattle.std.specs.Str.{bytes_eq}
 use Rattle.cs_grammar.specs.Tree.{Tree, DefinitionTree}
 use Rattle.cs_grammar.specs.Bodies.{bodies}
+use Rattle.cs_embeddings.specs.Held.{or_else}
 use Rattle.cs_embeddings.specs.Narrowed.{declares}
-use Rattle.cs_embeddings.specs.NarrowedTable.{ToldOf, number_in, or_number, number_of, AreNumbers, has_at, has_label, IsRow, Keeps, Grows, Adds, TellsRow, TellsRows, TellsLabels}
+use Rattle.cs_embeddings.specs.NarrowedTable.{ToldOf, number_in, number_of, AreNumbers, has_at, has_label, IsRow, Keeps, Grows, Adds, TellsRow, TellsRows, TellsLabels}
 use Rattle.cs_embeddings.specs.declared.labels.Labels.{Labels}
 use Rattle.cs_embeddings.specs.declared.numbers.Numbers.{Numbers}
 use Rattle.cs_embeddings.proofs.RowSteps.{behind}
@@ -51,7 +52,7 @@ module _ (m n : Numbers) (same : (s : List ℕ) → number_of n s ≡ number_of 
   pub keeps_as : Keeps m n
   keeps_as = record { more = omega (arith, count); same = λ row l s. ap (has_at row) (same s) }
 
-pub or_nothing : (o : Option ℕ) → or_number o None ≡ o
+pub or_nothing : (o : Option ℕ) → or_else o None ≡ o
 or_nothing None = refl
 or_nothing (Some i) = refl
 
@@ -61,7 +62,7 @@ module _ (m n : Numbers) (alone : m.below ≡ None) (below : (s : List ℕ) → 
   above_same : (s : List ℕ) → number_of n s ≡ number_of m s
   above_same s =
       let nothing : own_at s n ≡ None = rw empty refl in
-      ap₂ or_number (below s) nothing ∙ or_nothing (own_at s m) ∙ sym (ap (λ b. or_number (number_in b s) (own_at s m)) alone)
+      ap₂ or_else (below s) nothing ∙ or_nothing (own_at s m) ∙ sym (ap (λ b. or_else (number_in b s) (own_at s m)) alone)
 
   pub above_numbers : AreNumbers m → AreNumbers n
   above_numbers = numbers_as m n above_same count
@@ -69,7 +70,7 @@ module _ (m n : Numbers) (alone : m.below ≡ None) (below : (s : List ℕ) → 
   pub above_keeps : Keeps m n
   above_keeps = keeps_as m n above_same count
 
-or_none : (o a : Option ℕ) → or_number o a ≡ None → o ≡ None
+or_none : (o a : Option ℕ) → or_else o a ≡ None → o ≡ None
 or_none None a h = refl
 or_none (Some i) a h = cc
 
@@ -132,8 +133,8 @@ put_number m n t k none below puts s = by (bytes_eq t s) refl
     by true h =
         let same : s ≡ t = sym ((bytes_eq-Decides t s).0 h) in
         let nothing : number_in m.below s ≡ None = ap (number_in m.below) same ∙ or_none (number_in m.below t) (own_at t m) none in
-        ap₂ or_number (ap (λ b. number_in b s) below ∙ nothing) (puts s ∙ ap (λ b. cond b (Some k) (own_at s m)) h)
-    by false h = ap₂ or_number (ap (λ b. number_in b s) below) (puts s ∙ ap (λ b. cond b (Some k) (own_at s m)) h)
+        ap₂ or_else (ap (λ b. number_in b s) below ∙ nothing) (puts s ∙ ap (λ b. cond b (Some k) (own_at s m)) h)
+    by false h = ap₂ or_else (ap (λ b. number_in b s) below) (puts s ∙ ap (λ b. cond b (Some k) (own_at s m)) h)
 
 -- ---- what a row gets
 

@@ -61,7 +61,7 @@ brought_field p f =
 
 -- the same, as the code has it
 abbrev pub brought_by : rust_origin.Origin → Bor Field → brought.Brought
-brought_by p f = record { field = f; place = p.place; embedding = p.embedding }
+brought_by p f = record { field = f; place = p.place; embedding = p.embedding; by = p.by }
 
 seen_field : (f : Bor Field) (p : rust_origin.Origin) → brought_view (brought_by p f) ≡ brought_field (origin_view p) f.now
 seen_field f p =

@@ -39,8 +39,8 @@ is_not_beside c d = not (is_beside c d)
 abbrev pub opens : Brought → Brought → Bool
 opens d c = (may_open c || may_open d) && are_apart c d
 
-abbrev pub has_label : List ℕ → Brought → Bool
-has_label s d = bytes_eq d.label.text s
+abbrev pub is_of_label : List ℕ → Brought → Bool
+is_of_label s d = bytes_eq d.label.text s
 
 abbrev pub is_of_every : Brought → Bool
 is_of_every d = is_every d.mark
@@ -89,4 +89,4 @@ TellsLabel (Some g) ds = TellsGroups g ds
 pub record TellsSeen (seen : Seen) (before : List Brought) : Type 0 where
   pub all : TellsGroups seen.all before
   pub every : TellsGroups seen.every (filter is_of_every before)
-  pub labels : (s : List ℕ) → TellsLabel (get_by (λ k. slice_cmp nat_cmp s k.now) seen.by_label) (filter (has_label s) before)
+  pub labels : (s : List ℕ) → TellsLabel (get_by (λ k. slice_cmp nat_cmp s k.now) seen.by_label) (filter (is_of_label s) before)

@@ -19,4 +19,5 @@ pub mod NarrowedTable
 pub mod Made
 pub mod ClashTable
 pub mod GatheredTable
+pub mod Sited
 pub mod Standing

@@ -13,6 +13,7 @@ use Rattle.cs_grammar.specs.Bodies.{bodies}
 use Rattle.cs_embeddings.specs.Alternatives.{most_steps}
 use Rattle.cs_embeddings.specs.Checks.{TellsBodies, TellsSteps}
 use Rattle.cs_embeddings.specs.Embedded.{can_be_embedded}
+use Rattle.cs_embeddings.specs.Held.{or_else}
 use Rattle.cs_embeddings.specs.Narrowed.{declares, joins_well}
 use Rattle.cs_embeddings.specs.declared.flaws.Flaws.{Flaws}
 use Rattle.cs_embeddings.specs.declared.narrowed.Base.{Base}
@@ -40,13 +41,9 @@ abbrev pub number_in : Option (Bor (BTreeMap (Bor (List ℕ)) ℕ)) → List ℕ
 number_in None s = None
 number_in (Some m) s = get_by (λ k. slice_cmp nat_cmp s k.now) m.now
 
-abbrev pub or_number : Option ℕ → Option ℕ → Option ℕ
-or_number None o = o
-or_number (Some i) o = Some i
-
 -- the number of the label s, where it has one
 abbrev pub number_of : Numbers → List ℕ → Option ℕ
-number_of n s = or_number (number_in n.below s) (get_by (λ k. slice_cmp nat_cmp s k.now) n.own)
+number_of n s = or_else (number_in n.below s) (get_by (λ k. slice_cmp nat_cmp s k.now) n.own)
 
 -- different labels have different numbers
 pub record AreNumbers (n : Numbers) : Type 0 where

@@ -1,9 +1,10 @@
 // Declarations that stand together.
-ghost use Rattle.std.specs.Prelude.{◌≡◌, IfOk, OnOk};
+ghost use Rattle.std.specs.Prelude.{◌≡◌, Some, IfOk, OnOk, unwrap_or};
 ghost use Rattle.cs_grammar.specs.View.{fields_view};
 ghost use Rattle.cs_embeddings.specs.Alternatives as Spec;
 ghost use Rattle.cs_embeddings.specs.Views.{origin_view, alternative_view};
 
+use crate::gathered::Declared;
 use cs_grammar::Field;
 use std::alloc::{AllocError, Global};
 
@@ -16,17 +17,34 @@ pub(crate) struct Origin {
     pub(crate) embedding: Option<usize>,
     /// Whether a definition is embedded there: it is one with all that it embeds.
     in_definition: bool,
+    /// The offset of the reference that brought them. `place` is that of the first one where values are put together.
+    pub(crate) by: Option<usize>,
 }
 
 impl Origin {
     /// The literal itself, which a reference at a place brought.
-    pub(crate) fn itself(place: Option<usize>) -> Origin
-        ensures { origin_view result ≡ Spec.itself place }
+    pub(crate) fn itself(place: Option<usize>, by: Option<usize>) -> Origin
+        ensures seen { origin_view result ≡ Spec.itself place }
+        ensures sited { result.by ≡ by }
     {
         Origin {
             place,
             embedding: None,
             in_definition: false,
+            by,
+        }
+    }
+
+    /// The same for the value of a declaration, which another reference may have brought; or for all values.
+    pub(crate) fn of_value(self, declared: Option<&Declared<'_>>) -> Origin
+        ensures { origin_view result ≡ origin_view self }
+    {
+        match declared {
+            Some(declared) => Origin {
+                by: declared.by,
+                ..self
+            },
+            None => self,
         }
     }
 
@@ -46,11 +64,13 @@ impl Origin {
 
     /// What a reference there brings.
     pub(crate) fn referred_at(self, at: usize) -> Origin
-        ensures { origin_view result ≡ Spec.referred_at (origin_view self) at }
+        ensures seen { origin_view result ≡ Spec.referred_at (origin_view self) at }
+        ensures sited { result.by ≡ Some (unwrap_or self.by at) }
     {
         Origin {
             place: Some(self.place.unwrap_or(at)),
             in_definition: true,
+            by: Some(self.by.unwrap_or(at)),
             ..self
         }
     }
@@ -64,6 +84,8 @@ pub(crate) struct Brought<'a> {
     pub(crate) place: Option<usize>,
     /// The offset of the embedding that brought it; `None` where the literal itself declares it.
     pub(crate) embedding: Option<usize>,
+    /// The offset of the reference that brought it. `place` is that of the first one where values are put together.
+    pub(crate) by: Option<usize>,
 }
 
 /// Declarations that stand together, whether other keys are allowed, and the definitions that are embedded so far.
@@ -106,6 +128,7 @@ impl<'a> Alternative<'a> {
                 field,
                 place: origin.place,
                 embedding: origin.embedding,
+                by: origin.by,
             })?;
         }
         Ok(())

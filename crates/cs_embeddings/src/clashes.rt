@@ -3,7 +3,7 @@ ghost use Rattle.std.specs.Prelude.{◌≡◌, ℕ, List, [], ◌∷◌, ◌++�
 ghost use Rattle.std.specs.List.{filter, list_any};
 ghost use Rattle.cs_grammar.specs.View.{expr_view};
 ghost use Rattle.cs_embeddings.specs.Alternatives as Alternatives;
-ghost use Rattle.cs_embeddings.specs.ClashTable.{TellsEmbeddings, TellsGroup, TellsGroups, TellsSeen, TellsValues, has_label, is_elsewhere, is_of_every, is_unlike, opens};
+ghost use Rattle.cs_embeddings.specs.ClashTable.{TellsEmbeddings, TellsGroup, TellsGroups, TellsSeen, TellsValues, is_of_label, is_elsewhere, is_of_every, is_unlike, opens};
 ghost use Rattle.cs_embeddings.specs.Views.{brought_view};
 ghost use Rattle.cs_embeddings.specs.Clashes as Spec;
 ghost use Rattle.cs_embeddings.specs.Gathered.{is_every};
@@ -30,11 +30,7 @@ fn is_same_reference(first: &Expr, second: &Expr) -> bool
 fn is_same_embedding(first: Option<usize>, second: Option<usize>) -> bool
     ensures { result ≡ Spec.is_same_embedding first second }
 {
-    match (first, second) {
-        (None, None) => true,
-        (Some(at), Some(other)) => at == other,
-        (Some(_), None) | (None, Some(_)) => false,
-    }
+    first == second
 }
 
 /// Whether an embedding brought a declaration, and something that is shut stands in it.
@@ -261,7 +257,7 @@ struct Seen<'a> {
 impl<'a> Seen<'a> {
     /// Those of a label.
     fn of_label(&self, label: &str) -> Groups<'a>
-        ensures { (before : List Alternatives.Brought) → TellsSeen self.now before → TellsGroups result (filter (has_label label.now) before) }
+        ensures { (before : List Alternatives.Brought) → TellsSeen self.now before → TellsGroups result (filter (is_of_label label.now) before) }
     {
         match self.by_label.get(label) {
             Some(known) => *known,

@@ -15,7 +15,7 @@ ghost use Rattle.cs_embeddings.specs.Embedded.{can_be_embedded, all_embedded, em
 
 use crate::definitions::Bodies;
 use crate::shut::{all_open, any_shut};
-use cs_grammar::{Declaration, Expr, Field, ListEnd, Wide};
+use cs_grammar::{Declaration, Expr, Field, ListEnd, Wide, atom};
 use std::alloc::{AllocError, Global};
 use std::collections::BTreeMap;
 
@@ -108,17 +108,8 @@ impl<'b, 'a> Embeddable<'b, 'a> {
             Expr::Or(operands) => has_operand(operands) && self.can_embed_all(operands, left),
             Expr::And(operands) => self.can_embed_all(operands, left),
             Expr::Reference { text, .. } => self.takes(text, steps),
-            Expr::Top
-            | Expr::Bottom
-            | Expr::Null
-            | Expr::Bool(_)
-            | Expr::Int(_)
-            | Expr::Text(_)
+            atom!()
             | Expr::Name { .. }
-            | Expr::Bound { .. }
-            | Expr::NotInt(_)
-            | Expr::NotText(_)
-            | Expr::NotNull
             | Expr::List { .. }
             | Expr::Wide(Wide::Marked { .. } | Wide::Shut { .. }) => false,
         }
@@ -196,18 +187,7 @@ impl<'b, 'a> Embeddable<'b, 'a> {
                 self.declarations_embed_well(declarations, steps)
             }
             Expr::Wide(Wide::Shut { value, .. }) => self.embeds_well(value, steps),
-            Expr::Top
-            | Expr::Bottom
-            | Expr::Null
-            | Expr::Bool(_)
-            | Expr::Int(_)
-            | Expr::Text(_)
-            | Expr::Name { .. }
-            | Expr::Reference { .. }
-            | Expr::Bound { .. }
-            | Expr::NotInt(_)
-            | Expr::NotText(_)
-            | Expr::NotNull => true,
+            atom!() | Expr::Name { .. } | Expr::Reference { .. } => true,
         }
     }
 

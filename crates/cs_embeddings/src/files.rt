@@ -34,6 +34,9 @@ const MOST_NODES: usize = 50_000;
 /// can be, or the only one (CUE, structs: embedding), and so are the bodies of a definition that are put together, where the first of
 /// them is. Marks of defaults stay.
 ///
+/// Each field carries where it is declared (`Site`): a field of several declarations where the first of them is that isn't optional, or the
+/// first, and their labels in their order; what a reference brought, that reference, the outermost one. No clause speaks of it here.
+///
 /// # Errors
 /// `UnknownName` or `NoStruct` with the first embedding at fault, by file and then by text. Where there is none: `Reopened` with the first
 /// value that an embedding would open, `TooHigh` with a file of which a body would be higher than 28, or `TooLarge` where the bodies would
@@ -163,6 +166,7 @@ fn joined_definition<'a>(
 {
     let room = Room {
         place: kept.place,
+        by: None,
         is_whole: true,
         levels: MOST_HEIGHT,
     };

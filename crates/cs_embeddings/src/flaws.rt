@@ -9,7 +9,7 @@ ghost use Rattle.cs_embeddings.specs.Flaws as Spec;
 use crate::definitions::Bodies;
 use crate::embedded::{Embeddable, MOST_STEPS};
 use crate::narrowed::Narrowing;
-use cs_grammar::{Declaration, Expr, Field, ListEnd, Wide};
+use cs_grammar::{Declaration, Expr, Field, ListEnd, Wide, atom};
 use std::alloc::AllocError;
 
 /// What is at fault, with its offset.
@@ -60,18 +60,7 @@ impl<'a> Flaws<'_, '_, 'a> {
             Expr::Wide(Wide::Marked { value, .. }) => self.check(value),
             Expr::Wide(Wide::Merged { declarations, .. }) => self.check_declarations(declarations),
             Expr::Wide(Wide::Shut { value, .. }) => self.check(value),
-            Expr::Top
-            | Expr::Bottom
-            | Expr::Null
-            | Expr::Bool(_)
-            | Expr::Int(_)
-            | Expr::Text(_)
-            | Expr::Name { .. }
-            | Expr::Reference { .. }
-            | Expr::Bound { .. }
-            | Expr::NotInt(_)
-            | Expr::NotText(_)
-            | Expr::NotNull => Ok(()),
+            atom!() | Expr::Name { .. } | Expr::Reference { .. } => Ok(()),
         }
     }
 
@@ -160,18 +149,9 @@ impl<'a> Flaws<'_, '_, 'a> {
             }
             Expr::Paren(inside) => self.check_names(inside),
             Expr::And(operands) | Expr::Or(operands) => self.check_names_of(operands),
-            Expr::Top
-            | Expr::Bottom
-            | Expr::Null
-            | Expr::Bool(_)
-            | Expr::Int(_)
-            | Expr::Text(_)
+            atom!()
             | Expr::Name { .. }
             | Expr::Reference { .. }
-            | Expr::Bound { .. }
-            | Expr::NotInt(_)
-            | Expr::NotText(_)
-            | Expr::NotNull
             | Expr::Struct { .. }
             | Expr::List { .. }
             | Expr::Wide(_) => Ok(()),

@@ -9,12 +9,13 @@ ghost use Rattle.cs_embeddings.specs.GatheredTable.{IsTogether, TellsLabel, Tell
 ghost use Rattle.cs_embeddings.specs.Views.{brought_view};
 ghost use Rattle.cs_embeddings.specs.Gathered as Spec;
 ghost use Rattle.cs_embeddings.specs.Bodies.{as_declared};
+ghost use Rattle.cs_embeddings.specs.Sited as Sited;
 
 use crate::alternatives::Brought;
 use crate::clashes::is_every;
 use crate::embedded::Embeddable;
 use crate::held::is_plain;
-use cs_grammar::{Definition, Expr, FieldMark};
+use cs_grammar::{Definition, Expr, FieldMark, Site};
 use std::alloc::{AllocError, Global};
 use std::collections::BTreeMap;
 
@@ -31,6 +32,12 @@ fn mark_or(first: FieldMark, behind: FieldMark) -> FieldMark
     }
 }
 
+fn is_optional(mark: FieldMark) -> bool
+    ensures { result ≡ Sited.is_optional mark }
+{
+    matches!(mark, FieldMark::Optional)
+}
+
 /// A declaration of a label.
 #[derive(Clone, Copy)]
 pub(crate) struct Declared<'a> {
@@ -43,11 +50,16 @@ pub(crate) struct Declared<'a> {
     pub(crate) place: Option<usize>,
     /// The offset of the embedding that brought it.
     pub(crate) embedding: Option<usize>,
+    /// The offset of its label.
+    at: usize,
+    /// The offset of the reference that brought it into its literal.
+    pub(crate) by: Option<usize>,
 }
 
 impl<'a> Declared<'a> {
     fn of_brought(brought: Brought<'a>) -> Declared<'a>
-        ensures { declared_view result ≡ brought_view brought.entry }
+        ensures seen { declared_view result ≡ brought_view brought.entry }
+        ensures sited { (result.at ≡ brought.entry.field.now.site.at) × (result.by ≡ brought.entry.by) }
     {
         Declared {
             label: brought.field.label.as_str(),
@@ -56,6 +68,8 @@ impl<'a> Declared<'a> {
             value: &brought.field.value,
             place: brought.place,
             embedding: brought.embedding,
+            at: brought.field.site.at,
+            by: brought.by,
         }
     }
 
@@ -64,6 +78,17 @@ impl<'a> Declared<'a> {
         ensures { result ≡ Spec.stays_alone (declared_view self.entry) }
     {
         is_every(self.mark) || is_plain(self.value)
+    }
+
+    /// Where it is declared, with no other.
+    fn site(self, alloc: Global) -> Site
+        ensures { Sited.IsAt result (Some self.entry) × (result.all.items ≡ []) }
+    {
+        Site {
+            at: self.at,
+            by: self.by,
+            all: Vec::new(alloc),
+        }
     }
 
     pub(crate) fn of_definition(definition: &'a Definition) -> Declared<'a>
@@ -76,7 +101,23 @@ impl<'a> Declared<'a> {
             value: &definition.body,
             place: Some(definition.at),
             embedding: None,
+            at: definition.at,
+            by: None,
         }
+    }
+}
+
+/// The declaration that tells where its label is declared: the one that did before, unless that is optional and the further one isn't.
+fn lead_or<'a>(lead: Option<Declared<'a>>, further: Declared<'a>) -> Declared<'a>
+    ensures { result ≡ Sited.lead_or lead.entry further.entry }
+{
+    let Some(first) = lead else {
+        return further;
+    };
+    if is_optional(first.mark) && !is_optional(further.mark) {
+        further
+    } else {
+        first
     }
 }
 
@@ -105,12 +146,15 @@ pub(crate) struct Together<'a> {
     /// The offset of the first reference that brought one.
     pub(crate) place: Option<usize>,
     pub(crate) values: Vec<&'a Expr>,
+    /// They themselves, which have these values.
+    pub(crate) declared: Vec<Declared<'a>>,
 }
 
 impl<'a> Together<'a> {
     /// None yet.
     fn nothing(alloc: Global, label: &'a str) -> Together<'a>
-        ensures { IsTogether result label.now [] }
+        ensures seen { IsTogether result label.now [] }
+        ensures all { result.declared.items ≡ [] }
     {
         Together {
             label,
@@ -118,19 +162,42 @@ impl<'a> Together<'a> {
             mark: FieldMark::Optional,
             place: None,
             values: Vec::new(alloc),
+            declared: Vec::new(alloc),
         }
     }
 
     /// Adds a declaration.
     fn add(&mut self, declared: Declared<'a>) -> Result<(), AllocError>
-        ensures { OnOk result ((s : List ℕ) (bs : List Alternatives.Brought) → IsTogether self.old s bs
+        ensures seen { OnOk result ((s : List ℕ) (bs : List Alternatives.Brought) → IsTogether self.old s bs
             → IsTogether self.new s (bs ++ declared_view declared.entry ∷ [])) }
+        ensures all { OnOk result (self.new.declared.items ≡ self.old.declared.items ++ declared.entry ∷ []) }
     {
         self.quoted &= declared.quoted;
         self.mark = mark_or(self.mark, declared.mark);
         self.place = self.place.or(declared.place);
         self.values.push(declared.value)?;
+        self.declared.push(declared)?;
         Ok(())
+    }
+
+    /// Where they are declared.
+    fn site(&self, alloc: Global) -> Result<Site, AllocError>
+        ensures { IfOk result (λ s. Sited.IsSited s self.now.declared.items) }
+    {
+        let mut all = Vec::with_capacity(alloc, self.declared.len())?;
+        let mut lead = None;
+        for declared in &self.declared {
+            all.push(declared.at)?;
+            lead = Some(lead_or(lead, *declared));
+        }
+        match lead {
+            Some(Declared { at, by, .. }) => Ok(Site { at, by, all }),
+            None => Ok(Site {
+                at: 0,
+                by: None,
+                all,
+            }),
+        }
     }
 
     /// Whether they are put together.
@@ -184,6 +251,16 @@ impl<'a> Gathered<'a> {
         match self {
             Gathered::One(declared) => declared.place,
             Gathered::Several(together) => together.place,
+        }
+    }
+
+    /// Where it is declared. No definition speaks of it.
+    pub(crate) fn site(&self, alloc: Global) -> Result<Site, AllocError>
+        ensures { IfOk result (λ s. Sited.IsSiteOf s self.now) }
+    {
+        match self {
+            Gathered::One(declared) => Ok(declared.site(alloc)),
+            Gathered::Several(together) => together.site(alloc),
         }
     }
 }

@@ -5,7 +5,7 @@ ghost use Rattle.cs_embeddings.specs.Checks.{bodies_view};
 ghost use Rattle.cs_embeddings.specs.Held as Spec;
 ghost use Rattle.cs_embeddings.specs.Standing as Standing;
 
-use cs_grammar::{Expr, ListEnd, Wide};
+use cs_grammar::{Expr, ListEnd, Wide, atom};
 use std::alloc::{AllocError, Global};
 
 /// The offset of the first struct literal or reference of an expression, at any depth; `None` of a plain one.
@@ -24,17 +24,7 @@ pub(crate) fn holds(expr: &Expr) -> Option<usize>
         Expr::Wide(Wide::Marked { value, .. }) => holds(value),
         Expr::Wide(Wide::Merged { at, .. }) => Some(*at),
         Expr::Wide(Wide::Shut { value, .. }) => holds(value),
-        Expr::Top
-        | Expr::Bottom
-        | Expr::Null
-        | Expr::Bool(_)
-        | Expr::Int(_)
-        | Expr::Text(_)
-        | Expr::Name { .. }
-        | Expr::Bound { .. }
-        | Expr::NotInt(_)
-        | Expr::NotText(_)
-        | Expr::NotNull => None,
+        atom!() | Expr::Name { .. } => None,
     }
 }
 

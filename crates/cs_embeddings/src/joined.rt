@@ -24,17 +24,19 @@ use crate::alternatives::{Alternative, Origin};
 use crate::clashes::first_clash;
 use crate::embedded::Embeddable;
 use crate::found::Found;
-use crate::gathered::{Gathered, declared_of, gather};
+use crate::gathered::{Declared, Gathered, declared_of, gather};
 use crate::held::{Operand, first_place, holding, standing};
 use crate::joining::Joining;
-use cs_grammar::{Declaration, Expr, Field, FieldMark, ListEnd, Wide};
+use cs_grammar::{Declaration, Expr, Field, FieldMark, ListEnd, Site, Wide};
 use std::alloc::{AllocError, Global};
 
 /// Where an expression stands, and how high it may be with what it embeds.
 #[derive(Clone, Copy)]
 pub(crate) struct Room {
-    /// The offset of the reference that brought it; `None` where it stands in the text.
+    /// The offset of the reference that brought it; `None` where it stands in the text. It is that of the first one where values are put together.
     pub(crate) place: Option<usize>,
+    /// The offset of the reference that brought it.
+    pub(crate) by: Option<usize>,
     /// Whether it is a whole value, so that a disjunction needs no parentheses.
     pub(crate) is_whole: bool,
     /// How high it may be.
@@ -137,7 +139,7 @@ impl<'b, 'a> Joiner<'b, 'a> {
             Expr::Struct { at, fields, opened } => {
                 let at = room.place.unwrap_or(*at);
                 let mut own = Alternative::nothing(self.alloc);
-                own.add(Origin::itself(room.place), fields)?;
+                own.add(Origin::itself(room.place, room.by), fields)?;
                 own.opened = *opened;
                 self.joined_alternative(at, &own, false, room, nodes)
             }
@@ -298,19 +300,20 @@ impl<'b, 'a> Joiner<'b, 'a> {
             (flat_map (clashes_of ds (clashes_value ds n) true) alternatives) }
     {
         let found = self
-            .joining(*nodes)
+            .joining(room, *nodes)
             .alternatives_of(room.place, declarations, is_opened)?;
         self.joined_found(at, &found, true, room, nodes)
     }
 
     /// What puts literals together, with so many nodes left.
-    fn joining(self, nodes: usize) -> Joining<'b, 'a>
+    fn joining(self, room: Room, nodes: usize) -> Joining<'b, 'a>
         ensures { (result.bodies ≡ self.entry.embeddable.now.bodies) × (result.room ≡ nodes) }
     {
         Joining {
             alloc: self.alloc,
             bodies: self.embeddable.bodies,
             room: nodes,
+            by: room.by,
         }
     }
 
@@ -330,7 +333,7 @@ impl<'b, 'a> Joiner<'b, 'a> {
     {
         let borrowed = self.borrowed(operands)?;
         if self.embeddable.unites(&borrowed) {
-            return self.joined_together(&borrowed, room, nodes);
+            return self.joined_together(&borrowed, &[], room, nodes);
         }
         let inside = self.inside(room, nodes)?.is_whole(false);
         let held = holding(self.alloc, operands)?;
@@ -383,7 +386,7 @@ impl<'b, 'a> Joiner<'b, 'a> {
     {
         match operand {
             Operand::Plain(expr) => self.joined(expr, room, nodes),
-            Operand::Together => self.joined_together(held, room, nodes),
+            Operand::Together => self.joined_together(held, &[], room, nodes),
         }
     }
 
@@ -398,11 +401,12 @@ impl<'b, 'a> Joiner<'b, 'a> {
         Ok(borrowed)
     }
 
-    /// What operands that are put together can be: their disjunction, or the only one.
+    /// What operands that are put together can be, or the values of these declarations: their disjunction, or the only one.
     #[cycle(joined)]
     fn joined_together(
         self,
         operands: &[&'a Expr],
+        declared: &[Declared<'a>],
         room: Room,
         nodes: &mut usize,
     ) -> Result<Expr, EmbeddingFault>
@@ -413,7 +417,9 @@ impl<'b, 'a> Joiner<'b, 'a> {
             (clashes_with ds (clashes_value ds n) room.place (Tree.conjunction (trees_of (bodies_view operands.now)))) }
     {
         let at = room.place.unwrap_or(first_place(operands));
-        let found = self.joining(*nodes).united(room.place, operands)?;
+        let found = self
+            .joining(room, *nodes)
+            .united(room.place, operands, declared)?;
         self.joined_found(at, &found, false, room, nodes)
     }
 
@@ -527,14 +533,22 @@ impl<'b, 'a> Joiner<'b, 'a> {
             (Made.with_value d.place value (Made.seen d)) (clashes_with ds (clashes_value ds n) d.place d.value) }
     {
         let place = declaration.place();
+        let site = declaration.site(self.alloc)?;
         let room = Room {
             place,
+            by: site.by,
             is_whole: true,
             ..room
         };
         let value = self.joined_standing(declaration, room, nodes)?;
         let mark = placed(place, declaration.mark());
-        Ok(self.field(declaration.label(), declaration.is_quoted(), mark, value)?)
+        Ok(self.field(
+            declaration.label(),
+            declaration.is_quoted(),
+            mark,
+            value,
+            site,
+        )?)
     }
 
     /// What the value of a declaration stands for, or those of one label together.
@@ -553,7 +567,9 @@ impl<'b, 'a> Joiner<'b, 'a> {
     {
         match standing {
             Gathered::One(declared) => self.joined(declared.value, room, nodes),
-            Gathered::Several(together) => self.joined_together(&together.values, room, nodes),
+            Gathered::Several(together) => {
+                self.joined_together(&together.values, &together.declared, room, nodes)
+            }
         }
     }
 
@@ -564,8 +580,10 @@ impl<'b, 'a> Joiner<'b, 'a> {
         quoted: bool,
         mark: FieldMark,
         value: Expr,
+        site: Site,
     ) -> Result<Field, AllocError>
-        ensures { IfOk result (λ f. field_view f ≡ record { label = label_of label.now quoted; mark = mark; value = expr_view value }) }
+        ensures seen { IfOk result (λ f. field_view f ≡ record { label = label_of label.now quoted; mark = mark; value = expr_view value }) }
+        ensures sited { IfOk result (λ f. f.site ≡ site) }
     {
         let label = String::from_str(self.alloc, label)?;
         Ok(Field {
@@ -573,6 +591,7 @@ impl<'b, 'a> Joiner<'b, 'a> {
             quoted,
             mark,
             value,
+            site,
         })
     }
 }

@@ -15,7 +15,8 @@ use crate::alternatives::{Alternative, Brought, Origin};
 use crate::definitions::Bodies;
 use crate::embedded::MOST_STEPS;
 use crate::found::Found;
-use cs_grammar::{Declaration, Expr, Field, Wide};
+use crate::gathered::Declared;
+use cs_grammar::{Declaration, Expr, Field, Wide, atom};
 use std::alloc::Global;
 
 /// Puts literals together.
@@ -25,6 +26,8 @@ pub(crate) struct Joining<'b, 'a> {
     pub(crate) bodies: &'b Bodies<'a>,
     /// How much the alternatives of one literal may be.
     pub(crate) room: usize,
+    /// The offset of the reference that brought the literal.
+    pub(crate) by: Option<usize>,
 }
 
 impl<'a> Joining<'_, 'a> {
@@ -41,14 +44,16 @@ impl<'a> Joining<'_, 'a> {
     {
         let mut nothing = Alternative::nothing(self.alloc);
         nothing.opened = is_opened;
-        self.join_declarations(MOST_STEPS, Origin::itself(place), declarations, nothing)
+        let origin = Origin::itself(place, self.by);
+        self.join_declarations(MOST_STEPS, origin, declarations, nothing)
     }
 
-    /// What operands that are put together can be. `TooLarge` where that is more than there is room for.
+    /// What operands that are put together can be, or the values of these declarations. `TooLarge` where that is more than there is room for.
     pub(crate) fn united(
         self,
         place: Option<usize>,
         operands: &[&'a Expr],
+        declared: &[Declared<'a>],
     ) -> Result<Found<'a>, EmbeddingFault>
         ensures { (ds : List DefinitionTree) → TellsBodies self.entry.bodies.now ds
             → can_be_embedded ds Spec.most_steps (conjunction (trees_of (bodies_view operands.now))) ≡ true
@@ -56,8 +61,9 @@ impl<'a> Joining<'_, 'a> {
     {
         self.join_values(
             MOST_STEPS - 1,
-            Origin::itself(place),
+            Origin::itself(place, self.by),
             operands,
+            declared,
             Alternative::nothing(self.alloc),
         )
     }
@@ -106,17 +112,8 @@ impl<'a> Joining<'_, 'a> {
             Expr::Reference { text, at } => {
                 self.join_definition(left, origin.referred_at(*at), text, before, found)
             }
-            Expr::Top
-            | Expr::Bottom
-            | Expr::Null
-            | Expr::Bool(_)
-            | Expr::Int(_)
-            | Expr::Text(_)
+            atom!()
             | Expr::Name { .. }
-            | Expr::Bound { .. }
-            | Expr::NotInt(_)
-            | Expr::NotText(_)
-            | Expr::NotNull
             | Expr::List { .. }
             | Expr::Wide(Wide::Marked { .. } | Wide::Shut { .. }) => Ok(()),
         }
@@ -185,6 +182,7 @@ impl<'a> Joining<'_, 'a> {
                 field,
                 place: origin.place,
                 embedding: origin.embedding,
+                by: origin.by,
             })?;
             found.push(self.room, alternative)?;
         }
@@ -226,17 +224,18 @@ impl<'a> Joining<'_, 'a> {
             → ReachesAll result self.entry.room (map (Spec.meet name.now) (Spec.join_bodies (Spec.alternatives ds steps) (origin_view origin) (bodies name.now ds)
             (alternative_view before.entry ∷ []))) }
     {
-        let found = self.join_values(steps, origin, self.bodies.of_name(name), before)?;
+        let found = self.join_values(steps, origin, self.bodies.of_name(name), &[], before)?;
         self.meet(name, found)
     }
 
-    /// Values one behind the other, behind what is before them.
+    /// Values one behind the other, behind what is before them; or those of these declarations, each brought by the reference that brought that.
     #[cycle(join)]
     fn join_values(
         self,
         steps: usize,
         origin: Origin,
         values: &[&'a Expr],
+        declared: &[Declared<'a>],
         before: Alternative<'a>,
     ) -> Result<Found<'a>, EmbeddingFault>
         ensures { (ds : List DefinitionTree) → TellsBodies self.entry.bodies.now ds
@@ -246,8 +245,10 @@ impl<'a> Joining<'_, 'a> {
     {
         let mut found = Found::nothing(self.alloc);
         found.push(self.room, before)?;
+        let mut further = declared.iter();
         for value in values {
-            found = self.join_each(steps, origin, *value, found)?;
+            let own = origin.of_value(further.next());
+            found = self.join_each(steps, own, *value, found)?;
         }
         Ok(found)
     }

@@ -13,7 +13,7 @@ use crate::clashes::is_every;
 use crate::definitions::Bodies;
 use crate::numbers::Numbers;
 use crate::rows::{meet, set, unite};
-use cs_grammar::{Declaration, Expr, Field, Wide};
+use cs_grammar::{Declaration, Expr, Field, Wide, atom};
 use std::alloc::{AllocError, Global};
 use std::collections::BTreeMap;
 
@@ -102,17 +102,8 @@ impl<'a> Labels<'_, 'a> {
             Expr::Or(operands) => self.add_alternatives(left, operands, row, numbers),
             Expr::And(operands) => self.add_all(left, operands, row, numbers),
             Expr::Reference { text, .. } => self.add_definition(left, text, row, numbers),
-            Expr::Top
-            | Expr::Bottom
-            | Expr::Null
-            | Expr::Bool(_)
-            | Expr::Int(_)
-            | Expr::Text(_)
+            atom!()
             | Expr::Name { .. }
-            | Expr::Bound { .. }
-            | Expr::NotInt(_)
-            | Expr::NotText(_)
-            | Expr::NotNull
             | Expr::List { .. }
             | Expr::Wide(Wide::Marked { .. } | Wide::Shut { .. }) => Ok(()),
         }

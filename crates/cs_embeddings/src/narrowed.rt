@@ -19,7 +19,7 @@ use crate::labels::{Labels, Rows};
 use crate::numbers::Numbers;
 use crate::rows::has;
 use crate::shut::is_shut;
-use cs_grammar::{Declaration, Expr, Field, Wide};
+use cs_grammar::{Declaration, Expr, Field, Wide, atom};
 use cs_resolve::referred;
 use std::alloc::{AllocError, Global};
 use std::collections::BTreeMap;
@@ -80,18 +80,9 @@ impl Base<'_, '_> {
                     ..
                 },
             ) => !*opened && self.declarations_narrow(declarations),
-            Expr::Top
-            | Expr::Bottom
-            | Expr::Null
-            | Expr::Bool(_)
-            | Expr::Int(_)
-            | Expr::Text(_)
+            atom!()
             | Expr::Name { .. }
             | Expr::Reference { .. }
-            | Expr::Bound { .. }
-            | Expr::NotInt(_)
-            | Expr::NotText(_)
-            | Expr::NotNull
             | Expr::List { .. }
             | Expr::Wide(Wide::Marked { .. } | Wide::Shut { .. }) => false,
         }
@@ -232,20 +223,8 @@ impl<'b, 'a> Narrowing<'b, 'a> {
             Expr::Or(operands) => self.all_join(left, operands),
             Expr::Paren(inside) => self.joins_well(left, inside),
             Expr::Reference { text, .. } => self.definition_joins(left, text),
-            Expr::Top
-            | Expr::Bottom
-            | Expr::Null
-            | Expr::Bool(_)
-            | Expr::Int(_)
-            | Expr::Text(_)
-            | Expr::Name { .. }
-            | Expr::Bound { .. }
-            | Expr::NotInt(_)
-            | Expr::NotText(_)
-            | Expr::NotNull
-            | Expr::Struct { .. }
-            | Expr::List { .. }
-            | Expr::Wide(_) => Ok(true),
+            atom!() | Expr::Name { .. } | Expr::Struct { .. } | Expr::List { .. } | Expr::Wide(_) =>
+                Ok(true),
         }
     }
 

@@ -4,7 +4,7 @@ ghost use Rattle.cs_grammar.specs.View.{expr_view, exprs_view, fields_view, decl
 ghost use Rattle.cs_embeddings.specs.Checks.{bodies_view};
 ghost use Rattle.cs_embeddings.specs.Shut as Spec;
 
-use cs_grammar::{Declaration, Expr, Field, ListEnd, Wide};
+use cs_grammar::{Declaration, Expr, Field, ListEnd, Wide, atom};
 
 /// Whether an expression is a reference or `close(..)`, or holds one, through `&`, `|` and what a literal embeds; where `deep`, also in what a literal declares.
 #[cycle(shut)]
@@ -19,17 +19,7 @@ pub(crate) fn is_shut(deep: bool, expr: &Expr) -> bool
         Expr::List { front, end } => deep && (some_shut(deep, front) || end_shut(deep, end)),
         Expr::Wide(Wide::Marked { value, .. }) => is_shut(deep, value),
         Expr::Wide(Wide::Merged { declarations, .. }) => declarations_shut(deep, declarations),
-        Expr::Top
-        | Expr::Bottom
-        | Expr::Null
-        | Expr::Bool(_)
-        | Expr::Int(_)
-        | Expr::Text(_)
-        | Expr::Name { .. }
-        | Expr::Bound { .. }
-        | Expr::NotInt(_)
-        | Expr::NotText(_)
-        | Expr::NotNull => false,
+        atom!() | Expr::Name { .. } => false,
     }
 }
 
@@ -96,18 +86,7 @@ fn is_open(expr: &Expr) -> bool
         Expr::Wide(Wide::Marked { value, .. }) => is_open(value),
         Expr::Wide(Wide::Merged { .. }) => false,
         Expr::Wide(Wide::Shut { value, .. }) => is_open(value),
-        Expr::Top
-        | Expr::Bottom
-        | Expr::Null
-        | Expr::Bool(_)
-        | Expr::Int(_)
-        | Expr::Text(_)
-        | Expr::Name { .. }
-        | Expr::Reference { .. }
-        | Expr::Bound { .. }
-        | Expr::NotInt(_)
-        | Expr::NotText(_)
-        | Expr::NotNull => true,
+        atom!() | Expr::Name { .. } | Expr::Reference { .. } => true,
     }
 }
 

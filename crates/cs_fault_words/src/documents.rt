@@ -27,17 +27,17 @@ pub(crate) fn tell_not_json<'a>(
     is_cut: bool,
 ) -> Written {
     let Some(named) = named else { return Ok(()) };
-    told.place(named, offset, offset);
-    if named.text.starts_with(&[0xef, 0xbb, 0xbf]) {
-        told.place(named, 0, 3);
-        let said = "a byte order mark: save the file as UTF-8 without it";
-        return told.hint.push_str(said);
-    }
-    told.hint.push_str(if is_cut {
-        "the JSON ends too early"
-    } else {
-        "this is no JSON here, or nests more than 127 levels deep"
-    })
+    let (start, end, said) = match named.text {
+        [0xef, 0xbb, 0xbf, ..] => (0, 3, "a byte order mark: save the file as UTF-8 without it"),
+        _ if is_cut => (offset, offset, "the JSON ends too early"),
+        _ => (
+            offset,
+            offset,
+            "this is no JSON here, or nests more than 127 levels deep",
+        ),
+    };
+    told.place(named, start, end);
+    told.hint.push_str(said)
 }
 
 /// Tells that the number at an offset isn't an integer of 64 signed bits (26), with its pointer.

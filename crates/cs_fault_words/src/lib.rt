@@ -8,6 +8,6 @@ mod schemas;
 mod told;
 
 pub use cs_grammar::Profile;
-pub use lines::{Reading, explained, put_finding, why_refused};
+pub use lines::{explained, put_finding, why_refused};
 pub use objects::write_refusal_json;
 pub use told::About;

@@ -1,10 +1,8 @@
 // Refusals in lines, for people and for problem matchers.
-use crate::told::{About, tell};
+use crate::told::{About, told_of};
 use cs_advice::{Told, Written, put_all, put_excerpt, put_filled, put_offset};
 use cs_forms::Form;
-use cs_grammar::Profile;
 use cs_meanings::EXPLANATIONS;
-use cs_place::Named;
 use cs_sources::{Source, sources_of};
 use cs_tool::Fault;
 use itoa::Buffer;
@@ -26,56 +24,35 @@ pub fn explained(alloc: Global, number: u32) -> Result<Option<String>, AllocErro
 }
 
 /// Why a call was refused: a line with the place, as `FILE:LINE:COLUMN: `, and what to do; where a source, a schema or a document
-/// has the place, its line and a mark below. What isn't known is left out. Only memory can run out.
+/// has the place, its line and a mark below. The last lines are for files with their bytes. What isn't known is left out. Only memory can run out.
 pub fn why_refused(alloc: Global, fault: &Fault, about: About<'_>) -> Result<String, AllocError> {
     let sources = sources_of(alloc, about.profile, about.sources)?;
-    let mut told = Told::new(alloc);
-    tell(&mut told, fault, about, about.root, &sources)?;
+    let told = told_of(alloc, fault, about, &sources)?;
     let mut text = String::new(alloc);
-    put_refusal(&mut text, &told, about.sizes)?;
+    put_told(&mut text, &told, told.start, &[])?;
+    if let (Some(named), Some(start)) = (told.named, told.start) {
+        put_excerpt(&mut text, named.text, start, told.end)?;
+    }
+    for (path, size) in about.sizes {
+        put_filled(
+            &mut text,
+            "{}: {} bytes",
+            &[path, Buffer::new().format(*size)],
+        )?;
+        text.push('\n')?;
+    }
     Ok(text)
 }
 
-/// Puts the lines of a refusal: the last ones are for files with their bytes.
-fn put_refusal(text: &mut String, told: &Told<'_>, sizes: &[(&str, u64)]) -> Written {
-    put_told(text, told, told.start, &[])?;
-    if let (Some(named), Some(start)) = (told.named, told.start) {
-        put_excerpt(text, named.text, start, told.end)?;
-    }
-    for (path, size) in sizes {
-        put_filled(text, "{}: {} bytes", &[path, Buffer::new().format(*size)])?;
-        text.push('\n')?;
-    }
-    Ok(())
-}
-
-/// How sources were read, and what the other profile says of them.
-#[derive(Clone, Copy)]
-pub struct Reading {
-    /// The profile that they were read in.
-    pub profile: Profile,
-    /// Whether the wide profile puts together what has to be opened in the default one.
-    pub is_joined: bool,
-}
-
-/// Puts a line for a fault of sources, of the root that was asked for, or of a schema: its place, as `FILE:LINE:COLUMN: `, its number, and what to
-/// do. `sources` are those of the call, cut into tokens. Only memory can run out.
+/// Puts a line for a fault of what was given: its place, as `FILE:LINE:COLUMN: `, its number, and what to do. `sources` are those of the call, cut
+/// into tokens. Only memory can run out.
 pub fn put_finding<'a>(
-    alloc: Global,
     text: &mut String,
     fault: &Fault,
-    reading: Reading,
-    root: &str,
-    schema: Option<Named<'a>>,
+    about: About<'a>,
     sources: &[Source<'a>],
 ) -> Written {
-    let mut told = Told::new(alloc);
-    let about = About {
-        profile: reading.profile,
-        is_joined: reading.is_joined,
-        ..about_schema(schema)
-    };
-    tell(&mut told, fault, about, root, sources)?;
+    let told = told_of(*text.allocator(), fault, about, sources)?;
     let mut buffer = Buffer::new();
     let (number, taken) = (buffer.format(fault.number()), taken_by(told.form));
     let words = ["error ", number, ": ", taken];
@@ -89,23 +66,6 @@ fn taken_by(form: Option<Form>) -> &'static str {
         Some(Form::Attribute) => "`--profile wide` takes attributes; without it ",
         Some(Form::Close) => "`--profile wide` takes `close`; without it ",
         Some(_) | None => "",
-    }
-}
-
-/// What is known where a schema is, or nothing but the sources.
-fn about_schema<'a>(schema: Option<Named<'a>>) -> About<'a> {
-    let sources: &'a [Named<'a>] = &[];
-    let sizes: &'a [(&'a str, u64)] = &[];
-    About {
-        sources,
-        root: "",
-        profile: Profile::Default,
-        is_joined: false,
-        schema,
-        document: None,
-        path: None,
-        cause: "",
-        sizes,
     }
 }
 

@@ -1,12 +1,12 @@
 // Refusals as objects of JSON, for programs.
-use crate::told::{About, tell};
+use crate::told::{About, told_of};
 use cs_advice::{Told, Written, line_and_column, put_all, put_count, put_quoted, put_string};
 use cs_forms::form_name;
 use cs_place::Named;
 use cs_sources::sources_of;
 use cs_tool::{Fault, write_fault_json};
 use itoa::Buffer;
-use std::alloc::{AllocError, Global};
+use std::alloc::Global;
 use std::io::Write;
 
 /// Writes the object that tells the fault, and a newline: the members that [`write_fault_json`] writes, and behind them as far as
@@ -37,7 +37,11 @@ fn refusal_object(
     names: &[&str],
     about: About<'_>,
 ) -> Result<Vec<u8>, Fault> {
-    let members = members_of(alloc, fault, about)?;
+    let sources = sources_of(alloc, about.profile, about.sources)?;
+    let told = told_of(alloc, fault, about, &sources)?;
+    let mut members = String::new(alloc);
+    put_members(&mut members, fault, &told)?;
+    put_sizes(&mut members, about.sizes)?;
     let mut object = Vec::new(alloc);
     write_fault_json(alloc, fault, names, &mut object)?;
     // Without its closing bracket and newline.
@@ -45,17 +49,6 @@ fn refusal_object(
     object.truncate(end);
     object.extend_from_slice(members.as_bytes())?;
     Ok(object)
-}
-
-/// The further members of a fault, each behind a comma, and the end of its object.
-fn members_of(alloc: Global, fault: &Fault, about: About<'_>) -> Result<String, AllocError> {
-    let sources = sources_of(alloc, about.profile, about.sources)?;
-    let mut told = Told::new(alloc);
-    tell(&mut told, fault, about, about.root, &sources)?;
-    let mut text = String::new(alloc);
-    put_members(&mut text, fault, &told)?;
-    put_sizes(&mut text, about.sizes)?;
-    Ok(text)
 }
 
 /// Puts the place of a fault, the form, the pointer and what to do.
@@ -74,10 +67,9 @@ fn put_members(text: &mut String, fault: &Fault, told: &Told<'_>) -> Written {
 
 /// Puts the file of a fault that doesn't name it itself, and the line and the column of its place.
 fn put_place(text: &mut String, fault: &Fault, named: Named<'_>, start: Option<usize>) -> Written {
-    match fault {
-        Fault::ReadFailed | Fault::InputTooLong => put_string(text, "path", named.name)?,
-        _ if fault.file().is_some() => {}
-        _ => put_string(text, "file", named.name)?,
+    let is_unread = matches!(fault, Fault::ReadFailed | Fault::InputTooLong);
+    if fault.file().is_none() {
+        put_string(text, if is_unread { "path" } else { "file" }, named.name)?;
     }
     let Some(start) = start else { return Ok(()) };
     let (line, column) = line_and_column(named, start);

@@ -13,6 +13,7 @@ use cs_meanings::explanation;
 use cs_place::Named;
 use cs_sources::{Near, Source};
 use cs_tool::Fault;
+use std::alloc::{AllocError, Global};
 
 /// What a call was given, as far as it is known.
 #[derive(Clone, Copy)]
@@ -35,15 +36,15 @@ pub struct About<'a> {
     pub sizes: &'a [(&'a str, u64)],
 }
 
-/// What is told of a fault, where this root was asked for. What isn't known is left out; where that is all, it is what the number means.
-pub(crate) fn tell<'a>(
-    told: &mut Told<'a>,
+/// What is told of a fault. What isn't known is left out; where that is all, it is what the number means.
+pub(crate) fn told_of<'a>(
+    alloc: Global,
     fault: &Fault,
     about: About<'a>,
-    root: &str,
     sources: &[Source<'a>],
-) -> Written {
-    tell_by_kind(told, fault, about, root, sources)?;
+) -> Result<Told<'a>, AllocError> {
+    let mut told = Told::new(alloc);
+    tell_by_kind(&mut told, fault, about, sources)?;
     if told.hint.is_empty() && told.named.is_none() {
         told.named = about.path.map(|name| Named {
             name,
@@ -52,21 +53,21 @@ pub(crate) fn tell<'a>(
         });
         put_filled(&mut told.hint, "{}", &[about.cause])?;
     }
-    match explanation(fault.number()) {
-        Some(row) if told.hint.is_empty() => {
-            put_all(&mut told.hint, &[row.meaning, " ", row.remedy])
-        }
-        _ => Ok(()),
+    if let Some(row) = explanation(fault.number())
+        && told.hint.is_empty()
+    {
+        put_all(&mut told.hint, &[row.meaning, " ", row.remedy])?;
     }
+    Ok(told)
 }
 
 /// Tells the form of CUE at the place of a fault; nothing without its source, and where that has no token there or behind.
-fn tell_form<'a>(
+fn tell_form<'s, 'a>(
     told: &mut Told<'a>,
     fault: &Fault,
     about: About<'a>,
-    source: Option<&Source<'a>>,
-    sources: &[Source<'a>],
+    source: Option<&'s Source<'a>>,
+    sources: &'s [Source<'a>],
 ) -> Written {
     let (Some(source), Some(offset)) = (source, fault.offset()) else {
         return Ok(());
@@ -74,22 +75,22 @@ fn tell_form<'a>(
     let Some(near) = Near::at(source, offset) else {
         return Ok(());
     };
-    let profile = about.profile;
+    let (alloc, profile) = (told.alloc(), about.profile);
     let found = match fault {
-        Fault::NoToken { .. } => form_stuck(profile, source.named.text, offset),
+        Fault::NoToken { .. } => form_stuck(profile, near, offset),
         Fault::IntegerRange { .. } => Found::at(near, Form::LargeInteger),
         Fault::Syntax { .. } => form_out_of_place(near),
-        Fault::LeftOut { .. } => form_left_out_in(profile, near),
+        Fault::LeftOut { .. } => form_left_out_in(alloc, profile, near, sources)?,
         Fault::UnknownName { .. } => form_unknown(near),
         Fault::FieldReference { .. } => Found::at(near, Form::FieldReference),
         Fault::NotOpened { .. } => {
-            form_not_opened(told.alloc(), profile, about.is_joined, near, sources)?
+            form_not_opened(alloc, profile, about.is_joined, near, sources)?
         }
         _ => return Ok(()),
     };
     told.place(source.named, found.start, found.end);
     told.form = Some(found.form);
-    put_advice(&mut told.hint, source, sources, found)
+    put_advice(&mut told.hint, sources, found)
 }
 
 /// Tells what is known of a fault.
@@ -97,7 +98,6 @@ fn tell_by_kind<'a>(
     told: &mut Told<'a>,
     fault: &Fault,
     about: About<'a>,
-    root: &str,
     sources: &[Source<'a>],
 ) -> Written {
     let source = fault.file().and_then(|file| sources.get(file));
@@ -115,7 +115,7 @@ fn tell_by_kind<'a>(
         Fault::PackageName { .. } => tell_package_name(told, source, sources),
         Fault::Cycle { names } => tell_cycle(told, sources, names),
         Fault::ChainTooLong { names } => tell_chain(told, sources, names),
-        Fault::UnknownRoot => put_no_root(&mut told.hint, sources, root),
+        Fault::UnknownRoot => put_no_root(&mut told.hint, sources, about.root),
         Fault::TooLarge { definitions } => put_too_large(&mut told.hint, *definitions, sources),
         Fault::TooManyPairs {
             items,

@@ -1,6 +1,5 @@
 // Forms of CUE that are refused.
-use cs_grammar::Token;
-use cs_sources::{Near, end_of};
+use cs_sources::Near;
 
 /// A form that is refused: one of CUE that the profile leaves out, or a mistake.
 #[derive(Clone, Copy)]
@@ -42,6 +41,8 @@ pub enum Form {
     DefaultValue,
     /// `{x: *1 | int, x?: >3}`: a default that another declaration could exclude.
     ExcludedDefault,
+    /// `#A` where a default in it is out of place or could be excluded. For programs it is the same form.
+    DefaultInside,
     /// `import "net"`.
     Import,
     /// `net.FQDN`.
@@ -150,31 +151,44 @@ pub enum Form {
     EmbeddedBesideEvery,
 }
 
-/// A form, and the bytes of the source that show it: from `start` up to `end`, which is behind the last one.
+/// A form at a place of a source, and the bytes that show it: from `start` up to `end`, which is behind the last one.
 #[derive(Clone, Copy)]
-pub struct Found {
+pub struct Found<'s, 'a> {
     pub form: Form,
+    /// The first token there.
+    pub near: Near<'s, 'a>,
     pub start: usize,
     pub end: usize,
+    /// What stands for the first `{}` in what is said of the form: these bytes, unless something else there says more.
+    pub shown: &'a str,
 }
 
-impl Found {
-    /// A form that the tokens from one up to another show.
-    pub(crate) fn between(form: Form, first: Token<'_>, last: Token<'_>) -> Found {
+impl<'s, 'a> Found<'s, 'a> {
+    /// A form that the tokens show from one place up to another.
+    pub(crate) fn between(form: Form, near: Near<'s, 'a>, to: usize) -> Found<'s, 'a> {
+        let part = near.source.whole().between(near.place, to);
         Found {
             form,
-            start: first.start,
-            end: end_of(last),
+            near,
+            start: near.here().start,
+            end: part.end(),
+            shown: part.text(),
         }
     }
 
     /// A form that a token shows.
-    pub fn at(near: Near<'_, '_>, form: Form) -> Found {
-        Found::between(form, near.here(), near.here())
+    pub fn at(near: Near<'s, 'a>, form: Form) -> Found<'s, 'a> {
+        Found::between(form, near, near.place.saturating_add(1))
     }
 
     /// A form that the token before one shows.
-    pub(crate) fn before(near: Near<'_, '_>, form: Form) -> Found {
-        Found::between(form, near.before(1), near.before(1))
+    pub(crate) fn before(near: Near<'s, 'a>, form: Form) -> Found<'s, 'a> {
+        let place = near.place.saturating_sub(1);
+        Found::at(Near { place, ..near }, form)
+    }
+
+    /// The same form, of which something else is shown.
+    pub(crate) fn showing(self, shown: &'a str) -> Found<'s, 'a> {
+        Found { shown, ..self }
     }
 }

@@ -1,7 +1,7 @@
 // Forms of CUE at the places of refusals, by the tokens there, and the words for them.
 #![tactic(auto)]
 
-mod closed;
+mod around;
 mod defaults;
 mod embeddings;
 mod forms;
@@ -11,9 +11,9 @@ mod syntax;
 mod values;
 mod words;
 
-pub use closed::closed_around;
+pub use around::{Around, outward};
 pub use defaults::form_left_out_in;
-pub use embeddings::{Flaw, flaw_of_embedding, form_not_opened};
+pub use embeddings::form_not_opened;
 pub use forms::{Form, Found};
 pub use names::form_unknown;
 pub use stuck::form_stuck;

@@ -5,7 +5,7 @@ use cs_grammar::Sort;
 use cs_sources::{Inside, Near, ends_value};
 
 /// The form of a name that isn't declared.
-pub fn form_unknown(near: Near<'_, '_>) -> Found {
+pub fn form_unknown<'s, 'a>(near: Near<'s, 'a>) -> Found<'s, 'a> {
     let name = near.here();
     let form = match name.sort {
         Sort::Definition => Form::UnknownDefinition,
@@ -16,30 +16,26 @@ pub fn form_unknown(near: Near<'_, '_>) -> Found {
 }
 
 /// The form at a token that the default profile leaves out, wherever it stands.
-pub(crate) fn form_left_out(near: Near<'_, '_>) -> Found {
+pub(crate) fn form_left_out<'s, 'a>(near: Near<'s, 'a>) -> Found<'s, 'a> {
     let here = near.here();
     let form = match here.sort {
         Sort::Hidden => Form::HiddenName,
-        Sort::Name => form_of_word(here.text),
+        Sort::Name if here.text == "import" => Form::Import,
+        Sort::Name => form_of_clause(here.text).unwrap_or(Form::Misplaced),
         _ if here.text == "." => return form_of_dot(near),
         _ => form_of_mark(near),
     };
     Found::at(near, form)
 }
 
-fn form_of_word(word: &str) -> Form {
-    match form_of_clause(word) {
-        Some(form) => form,
-        None if word == "import" => Form::Import,
-        None => Form::Misplaced,
-    }
-}
-
 /// The form of a clause that a word begins.
 pub(crate) fn form_of_clause(word: &str) -> Option<Form> {
-    let clauses = [("let", Form::Let), ("for", Form::For), ("if", Form::If)];
-    let (_, form) = clauses.iter().find(|(name, _)| *name == word)?;
-    Some(*form)
+    match word {
+        "let" => Some(Form::Let),
+        "for" => Some(Form::For),
+        "if" => Some(Form::If),
+        _ => None,
+    }
 }
 
 fn form_of_mark(near: Near<'_, '_>) -> Form {
@@ -55,21 +51,19 @@ fn form_of_mark(near: Near<'_, '_>) -> Form {
     }
 }
 
-fn form_of_dot(near: Near<'_, '_>) -> Found {
+fn form_of_dot<'s, 'a>(near: Near<'s, 'a>) -> Found<'s, 'a> {
     let (before, behind) = (near.before(1), near.behind(1));
     let form = match before.sort {
         _ if !ends_value(before) => return Found::at(near, Form::Float),
         _ if behind.sort != Sort::Name => return Found::at(near, Form::Selector),
         Sort::Name if near.behind(2).text == "(" => Form::PackageCall,
-        Sort::Name if is_exported(behind.text) || is_package(before.text) => Form::PackageValue,
+        Sort::Name if is_package(before.text) => Form::PackageValue,
+        // What packages give begins with a capital letter.
+        Sort::Name if matches!(behind.text.as_bytes(), [b'A'..=b'Z', ..]) => Form::PackageValue,
         _ => Form::Selector,
     };
-    Found::between(form, before, behind)
-}
-
-/// Whether a name begins with a capital letter, as what packages give does.
-fn is_exported(name: &str) -> bool {
-    matches!(name.as_bytes(), [b'A'..=b'Z', ..])
+    let place = near.place.saturating_sub(1);
+    Found::between(form, Near { place, ..near }, near.place.saturating_add(2))
 }
 
 /// Whether a name is that of a package which comes with CUE.

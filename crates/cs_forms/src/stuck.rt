@@ -1,14 +1,20 @@
 // Forms where no token of the profile begins (3).
 use crate::forms::{Form, Found};
 use cs_grammar::Profile;
+use cs_sources::Near;
+use std::str;
 
-/// The form at an offset of a source where no token of a profile begins. The source needn't be cut into tokens.
-pub fn form_stuck(profile: Profile, source: &[u8], offset: usize) -> Found {
-    let (form, len) = form_at(profile, source.get(offset..).unwrap_or(&[]));
+/// The form at an offset of a source where no token of a profile begins; another one stands there in its place.
+pub fn form_stuck<'s, 'a>(profile: Profile, near: Near<'s, 'a>, offset: usize) -> Found<'s, 'a> {
+    let named = near.source.named;
+    let rest = named.text.get(offset..).unwrap_or(&[]);
+    let (form, len) = form_at(profile, rest);
     Found {
         form,
+        near,
         start: offset,
         end: offset.saturating_add(len),
+        shown: str::from_utf8(rest.get(..len).unwrap_or(&[])).unwrap_or(""),
     }
 }
 
@@ -18,9 +24,12 @@ fn form_at(profile: Profile, bytes: &[u8]) -> (Form, usize) {
         [0xef, 0xbb, 0xbf, ..] => (Form::ByteOrderMark, 3),
         [b'@', ..] if profile == Profile::Wide => (Form::BrokenAttribute, 1),
         [b'@', ..] => (Form::Attribute, attribute_len(bytes)),
-        [b'\'', ..] => (Form::Bytes, text_len(bytes)),
+        [b'\'', ..] => (Form::Bytes, text_at(bytes).1),
         [b'"', b'"', b'"', ..] => (Form::MultiLineText, 3),
-        [b'"', ..] => form_of_text(bytes),
+        [b'"', ..] => match text_at(bytes) {
+            (Form::UnclosedText, _) => (Form::UnclosedText, line_len(bytes)),
+            found => found,
+        },
         [b'#', ..] if is_raw(bytes) => (Form::RawText, 2),
         [b'0'..=b'9', ..] => form_of_number(bytes),
         _ => (Form::StrayCharacter, character_len(bytes)),
@@ -56,28 +65,11 @@ fn is_float(number: &[u8]) -> bool {
     number.iter().all(is_part) && !number.iter().all(is_digit)
 }
 
-/// The form of a text behind a quote.
-fn form_of_text(bytes: &[u8]) -> (Form, usize) {
-    let mut is_escaped = false;
-    for byte in bytes.iter().skip(1) {
-        match *byte {
-            b'(' if is_escaped => return (Form::Interpolation, text_len(bytes)),
-            b'"' if !is_escaped => return (Form::Escape, text_len(bytes)),
-            b'\n' => break,
-            _ => is_escaped = *byte == b'\\' && !is_escaped,
-        }
-    }
-    (Form::UnclosedText, line_len(bytes))
-}
-
 /// The length of the first character.
 fn character_len(bytes: &[u8]) -> usize {
-    let rest = bytes.get(1..).unwrap_or(&[]);
-    let behind = rest
-        .iter()
-        .take_while(|byte| matches!(**byte, 128..=191))
-        .count();
-    behind.saturating_add(1).min(bytes.len())
+    let behind = bytes.iter().skip(1);
+    let behind = behind.take_while(|byte| matches!(**byte, 128..=191));
+    behind.count().saturating_add(1).min(bytes.len())
 }
 
 /// The length of what is left of the line, without blanks at its end.
@@ -94,18 +86,21 @@ fn attribute_len(bytes: &[u8]) -> usize {
     before.saturating_add(1).min(len)
 }
 
-/// The length of a text with its quotes, or of what is left of its line.
-fn text_len(bytes: &[u8]) -> usize {
-    let [quote, ..] = bytes else { return 0 };
+/// The form of a text, as one in double quotes, and its length with its quotes, or that of what is left of its line.
+fn text_at(bytes: &[u8]) -> (Form, usize) {
+    let (mut opened, mut closed) = (Form::UnclosedText, Form::Escape);
     let mut is_escaped = false;
     for (at, byte) in bytes.iter().enumerate().skip(1) {
-        if *byte == b'\n' {
-            return at;
-        }
-        if *byte == *quote && !is_escaped {
-            return at.saturating_add(1);
+        match *byte {
+            b'\n' => return (opened, at),
+            b'(' if is_escaped => (opened, closed) = (Form::Interpolation, Form::Interpolation),
+            _ if !is_escaped && bytes.first() == Some(byte) => return (
+                closed,
+                at.saturating_add(1),
+            ),
+            _ => {}
         }
         is_escaped = *byte == b'\\' && !is_escaped;
     }
-    bytes.len()
+    (opened, bytes.len())
 }

@@ -5,7 +5,7 @@ use cs_grammar::{Sort, Token};
 use cs_sources::{Inside, Near, begins_value, ends_value, follows_label, separates};
 
 /// The form at a token that is out of place, though the profile has it elsewhere.
-pub fn form_out_of_place(near: Near<'_, '_>) -> Found {
+pub fn form_out_of_place<'s, 'a>(near: Near<'s, 'a>) -> Found<'s, 'a> {
     if let Some(found) = after_word(near) {
         return found;
     }
@@ -19,13 +19,17 @@ pub fn form_out_of_place(near: Near<'_, '_>) -> Found {
 }
 
 /// The form after a word that begins a clause, or of a value after the mark of a limit, or after its sign.
-fn after_word(near: Near<'_, '_>) -> Option<Found> {
+fn after_word<'s, 'a>(near: Near<'s, 'a>) -> Option<Found<'s, 'a>> {
     let (first, before, here) = (near.before(2), near.before(1), near.here());
     match form_of_clause(before.text) {
         Some(form) => Some(Found::before(near, form)),
         None if !begins_value(here) => None,
-        None if before.text == "-" && is_relation(first) => Some(Found::at(near, Form::Limit)),
-        None if is_relation(before) => Some(Found::at(near, form_of_limit(here))),
+        None if before.text == "-" && is_relation(first) => {
+            Some(Found::at(near, Form::Limit).showing(first.text))
+        }
+        None if is_relation(before) => {
+            Some(Found::at(near, form_of_limit(here)).showing(before.text))
+        }
         None => None,
     }
 }
@@ -44,7 +48,7 @@ fn form_of_limit(token: Token<'_>) -> Form {
 }
 
 /// The form at the first token of a declaration.
-fn form_of_declaration(near: Near<'_, '_>) -> Found {
+fn form_of_declaration<'s, 'a>(near: Near<'s, 'a>) -> Found<'s, 'a> {
     match near.here().text.as_bytes() {
         _ if near.before(2).text == "..." => Found::at(near, Form::EarlyEllipsis),
         [b'&' | b'|'] if near.before(1).sort == Sort::Inserted => Found::at(near, Form::BrokenLine),
@@ -71,19 +75,16 @@ fn form_in_struct(near: Near<'_, '_>) -> Form {
         Sort::Definition => Form::EmbeddedDefinition,
         Sort::Integer if behind.text == ":" => Form::DigitLabel,
         _ if here.text == "{" => Form::EmbeddedStruct,
-        _ if here.text == "(" && is_embedded(near) => Form::EmbeddedStruct,
+        // What parentheses hold is embedded, or a label.
+        _ if here.text == "(" && near.closing().and(near.embedding()).is_some() =>
+            Form::EmbeddedStruct,
         _ if here.text == "(" => Form::DynamicLabel,
         _ => Form::EmbeddedValue,
     }
 }
 
-/// Whether what parentheses hold is embedded, and no label.
-fn is_embedded(near: Near<'_, '_>) -> bool {
-    near.closing().is_some() && near.embedding().is_some()
-}
-
 /// The form inside of an expression, behind the end of a value.
-fn behind_value(near: Near<'_, '_>) -> Found {
+fn behind_value<'s, 'a>(near: Near<'s, 'a>) -> Found<'s, 'a> {
     let (before, here) = (near.before(1), near.here());
     match here.text {
         "(" if before.text == "close" => Found::before(near, Form::Close),
@@ -98,7 +99,7 @@ fn behind_value(near: Near<'_, '_>) -> Found {
 }
 
 /// The form at the colon behind what is no label.
-fn behind_label(near: Near<'_, '_>) -> Found {
+fn behind_label<'s, 'a>(near: Near<'s, 'a>) -> Found<'s, 'a> {
     let Some(first) = near.part().first() else {
         return plain(near);
     };
@@ -113,7 +114,7 @@ fn behind_label(near: Near<'_, '_>) -> Found {
 }
 
 /// The form inside of an expression, where no value ends before the token.
-fn behind_mark(near: Near<'_, '_>) -> Found {
+fn behind_mark<'s, 'a>(near: Near<'s, 'a>) -> Found<'s, 'a> {
     let (before, here) = (near.before(1), near.here());
     match here.text.as_bytes() {
         [b'!'] => Found::at(near, Form::Negation),
@@ -126,7 +127,7 @@ fn behind_mark(near: Near<'_, '_>) -> Found {
 }
 
 /// A mistake of plain syntax.
-fn plain(near: Near<'_, '_>) -> Found {
+fn plain<'s, 'a>(near: Near<'s, 'a>) -> Found<'s, 'a> {
     let (before, here) = (near.before(1), near.here());
     let is_parted = before.sort == Sort::Inserted && near.inside() == Inside::List;
     match here.text.as_bytes() {
@@ -151,24 +152,16 @@ fn is_label_before(near: Near<'_, '_>) -> bool {
 
 /// Whether an expression ends before a token.
 fn is_end(token: Token<'_>) -> bool {
-    separates(token)
-        || matches!(
-            token.text.as_bytes(),
-            [b'}' | b']' | b')' | b'&' | b'|' | b':']
-        )
+    separates(token) || ["}", "]", ")", "&", "|", ":"].contains(&token.text)
 }
 
 /// Whether a value has to follow a token.
 fn wants_value(token: Token<'_>) -> bool {
-    is_relation(token)
-        || matches!(
-            token.text.as_bytes(),
-            [b':' | b'&' | b'|' | b'-' | b'(' | b'*']
-        )
+    is_relation(token) || [":", "&", "|", "-", "(", "*"].contains(&token.text)
 }
 
 /// The form at the end of a source, or at a closing bracket that closes nothing.
-fn closing(near: Near<'_, '_>) -> Found {
+fn closing<'s, 'a>(near: Near<'s, 'a>) -> Found<'s, 'a> {
     match near.bracket() {
         Some(bracket) => Found::at(bracket, Form::Unclosed),
         None if near.here().text.is_empty() => Found::at(near, Form::Misplaced),

@@ -4,10 +4,10 @@ use cs_sources::{Brought, Part, Separator, is_mark};
 
 /// A field, and what its value holds.
 #[derive(Clone, Copy)]
-pub(crate) struct Value<'t> {
-    pub(crate) declaration: Part<'t, 't>,
+pub(crate) struct Value<'t, 'a> {
+    pub(crate) declaration: Part<'t, 'a>,
     /// Whether it holds a struct or a reference.
-    pub(crate) holds: bool,
+    holds: bool,
     /// Whether something in it is closed before anything is joined to it: a reference, or what `close` is called with.
     is_shut: bool,
     /// The token of the reference, or of the bracket, that brought it; none where it stands in the literal itself.
@@ -29,27 +29,13 @@ fn reference_of<'a>(declaration: Part<'_, 'a>) -> Option<&'a str> {
     (is_alone && token.sort == Sort::Definition).then_some(token.text)
 }
 
-/// What brought a field into the literal of a bracket: the token of a reference, or the bracket of another literal.
-fn bringing(field: Brought<'_, '_>, literal: usize) -> Option<usize> {
-    if let Some(reference) = field.by {
-        return Some(reference.place);
-    }
-    let source = field.part.source;
-    let bracket = source.around(field.part.from);
-    (bracket != literal).then_some(source.bracket(bracket).first)
-}
-
-/// Whether the values of two fields are references to one definition.
-fn is_same_reference(first: Part<'_, '_>, second: Part<'_, '_>) -> bool {
-    let name = reference_of(first);
-    name.is_some() && name == reference_of(second)
-}
-
-impl<'t> Value<'t> {
+impl<'t, 'a> Value<'t, 'a> {
     /// What the value of a field holds that stands in the literal of a bracket, by whatever brought it.
-    pub(crate) fn of(field: Brought<'t, 't>, literal: usize) -> Value<'t> {
+    pub(crate) fn of(field: Brought<'t, 'a>, literal: usize) -> Value<'t, 'a> {
         let declaration = field.part;
         let source = declaration.source;
+        let bracket = source.around(declaration.from);
+        let other = (bracket != literal).then_some(source.bracket(bracket).first);
         // A short form is a struct.
         let mut holds = declaration.count(Separator::Colon) > 1;
         let mut is_shut = false;
@@ -64,23 +50,19 @@ impl<'t> Value<'t> {
             declaration,
             holds,
             is_shut,
-            brought: bringing(field, literal),
+            brought: field.by.map_or(other, |reference| Some(reference.place)),
         }
     }
+}
 
-    /// Whether another value would open what is closed in it, which CUE does where an embedding brought it.
-    fn may_open(self) -> bool {
-        self.is_shut && self.brought.is_some()
-    }
-
-    /// Whether two values of one key would open one another, where each holds a struct or a reference: an embedding brought one of them, in which
-    /// something is closed, and the other one comes from elsewhere and isn't the same reference.
-    pub(crate) fn opens(self, other: Value<'_>) -> bool {
-        let is_opened = self.may_open() || other.may_open();
-        let (first, second) = (self.declaration, other.declaration);
-        is_opened
-            && self.brought != other.brought
-            && first.may_share_key(second)
-            && !is_same_reference(first, second)
-    }
+/// Whether two values of one key would open one another, where each holds a struct or a reference: an embedding brought one of them, in which
+/// something is closed, and the other one comes from elsewhere and isn't the same reference. CUE opens what an embedding brought.
+pub(crate) fn are_opened(first: Value<'_, '_>, second: Value<'_, '_>) -> bool {
+    let may_open = |value: Value<'_, '_>| value.is_shut && value.brought.is_some();
+    let name = reference_of(first.declaration);
+    first.holds
+        && second.holds
+        && (may_open(first) || may_open(second))
+        && first.brought != second.brought
+        && (name.is_none() || name != reference_of(second.declaration))
 }

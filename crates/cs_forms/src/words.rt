@@ -10,7 +10,7 @@ type Sayings = &'static [(&'static [&'static str], &'static str)];
 
 /// What programs call each form, and what is said of it, in their order: a `{}` stands for what its place tells. A form without a row is
 /// refused by the prover.
-const FORMS: [(&str, &str); 68] = rows! {
+const FORMS: [(&str, &str); 69] = rows! {
     "byte-order-mark" => "a byte order mark: save the file as UTF-8 without it",
     "float" => "floats are left out: scale it (percent, milliseconds)",
     "number-spelling" => "`{}`: {}",
@@ -28,6 +28,7 @@ const FORMS: [(&str, &str); 68] = rows! {
     "second-default" => "a value has one default, and an alternative before this one is marked: take one of the marks out",
     "default-value" => "a default is null, a truth value, an integer, a text, an empty struct or a list of these: take the mark out",
     "excluded-default" => "another declaration of `{}` that may be absent, as `{}?`, `[string]` or a default, could exclude this one: write `{}?` here",
+    "excluded-default" => "a default in `{}` is out of place, or another declaration could exclude it",
     "import" => "imports are left out; remove it and write what it gives by hand (`net.FQDN`, `time.Time`: `string`)",
     "package-value" => "`{}`: packages are left out{}",
     "package-call" => "`{}`: calls of packages are left out{}",
@@ -46,7 +47,7 @@ const FORMS: [(&str, &str); 68] = rows! {
     "for" => "`for`: comprehensions are left out; write the fields out, or `[string]: T`",
     "let" => "`let` is left out",
     "embedded-definition" => "an embedded definition: write its fields out, or `{} & {{}, ...}` with `...` in `{}` too",
-    "embedded-struct" => "an embedded struct: put the fields around it into each alternative",
+    "embedded-struct" => "an embedded struct: put {} into each alternative",
     "embedded-value" => "a field has to begin here: values that are embedded in a struct are left out",
     "nested-definition" => "a definition stands at the top of a file: move it there",
     "hidden-name" => "hidden fields are left out: give the value a definition and name it: `#{}`",
@@ -75,10 +76,10 @@ const FORMS: [(&str, &str); 68] = rows! {
     "not-opened" => "this struct is joined with others: end each of them with `...`, or write all fields into one",
     "not-opened" => "`--profile wide` puts these structs together; without it end each of them with `...`, or write all fields into one",
     "closed-operand" => "a struct can't be put together with what a definition closed: embed what `&` joins in one struct, as `{{}, ..}`, or end each of them with `...`",
-    "embedded-no-struct" => "`{}` can't be embedded: only struct literals can, alternatives of them, and definitions of these; give it a label, or write out its keys",
-    "embedded-itself" => "`{}` embeds itself, which never ends: give it a label in its place, or write out the keys that are meant",
-    "embedded-twice" => "embedding joins two values of `{}` that hold a struct or a reference, and one would open the other: write all of its keys in one place",
-    "embedded-twice" => "embedding joins the values of `[string]` and `{}`, which hold a struct or a reference each, and one would open the other: leave one of the two out",
+    "embedded-no-struct" => "`{}` can't be embedded: only struct literals can, alternatives of them, and definitions of these; give it a label, or write out its keys{}",
+    "embedded-itself" => "`{}` embeds itself, which never ends: give it a label in its place, or write out the keys that are meant{}",
+    "embedded-twice" => "embedding joins two values of `{}` that hold a struct or a reference, and one would open the other: write all of its keys in one place{}",
+    "embedded-twice" => "embedding joins the values of `[string]` and `{}`, which hold a struct or a reference each, and one would open the other: leave one of the two out{}",
 };
 
 /// What to write instead of what a package gives, by its name; it goes on with another sentence.
@@ -149,6 +150,13 @@ pub fn said_of_shown(form: Form, shown: &str) -> &'static str {
             "comparisons are left out: a limit is joined by `&`, and fields can't be compared",
         ),
         Form::UnknownKind => said_in(KINDS, shown).unwrap_or(""),
+        Form::LimitKind if shown == "!=" => "an integer, a text or `null`",
+        Form::LimitKind => "an integer",
+        Form::EmbeddedNoStruct
+        | Form::EmbeddedItself
+        | Form::EmbeddedTwice
+        | Form::EmbeddedBesideEvery
+            if shown.contains('&') => "; what `&` joins is embedded one by one",
         _ => "",
     }
 }

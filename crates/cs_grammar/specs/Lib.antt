@@ -12,6 +12,7 @@ pub mod Words
 pub mod TokenWords
 pub mod Taken
 pub mod Tree
+pub mod Atoms
 pub mod Bodies
 pub mod Spells
 pub mod Written

@@ -1,4 +1,9 @@
 // The tree that a file spells.
+ghost use Rattle.std.specs.Prelude.{◌≡◌, true, IfOk};
+ghost use Rattle.cs_grammar.specs.Atoms.{is_atom};
+ghost use Rattle.cs_grammar.specs.View.{expr_view};
+
+use std::alloc::AllocError;
 
 /// A file: its package clause, if it has one, and its definitions in order.
 #[derive(Drop)]
@@ -107,6 +112,97 @@ pub struct Field {
     pub quoted: bool,
     pub mark: FieldMark,
     pub value: Expr,
+    pub site: Site,
+}
+
+/// Where a field is declared. No rule goes by it: it is for those who tell people of the field.
+#[derive(Debug, Drop)]
+pub struct Site {
+    /// The offset of its label. Where it was put together from several declarations, that of the first one that isn't optional, or of the first.
+    pub at: usize,
+    /// The offset of the reference that brought it into its literal; `None` where it stands there itself.
+    pub by: Option<usize>,
+    /// The offsets of the labels of all declarations that it was put together from, in their order; none where it is one.
+    pub all: Vec<usize>,
+}
+
+impl Site {
+    /// The same place.
+    ///
+    /// # Errors
+    /// Memory ran out.
+    pub fn copy(&self) -> Result<Site, AllocError>
+        ensures { IfOk result (λ s. (s.at ≡ self.now.at) × (s.by ≡ self.now.by) × (s.all.items ≡ self.now.all.items)) }
+    {
+        Ok(Site {
+            at: self.at,
+            by: self.by,
+            all: self.all.clone()?,
+        })
+    }
+}
+
+/// The forms of literals (CUE, literals), as a pattern.
+#[macro_export]
+macro_rules! literal {
+    () => {
+        $crate::Expr::Null | $crate::Expr::Bool(_) | $crate::Expr::Int(_) | $crate::Expr::Text(_)
+    };
+}
+
+/// The forms of bounds (CUE, bounds), as a pattern: `<n` and its like, and what `!=` leaves out.
+#[macro_export]
+macro_rules! bound {
+    () => {
+        $crate::Expr::Bound { .. }
+            | $crate::Expr::NotInt(_)
+            | $crate::Expr::NotText(_)
+            | $crate::Expr::NotNull
+    };
+}
+
+/// The forms of expressions that have no parts and name nothing, as a pattern: most walks over expressions ask nothing more of them. A new
+/// such form is named here, or in the patterns of which this one consists.
+#[macro_export]
+macro_rules! atom {
+    () => {
+        $crate::Expr::Top | $crate::Expr::Bottom | $crate::literal!() | $crate::bound!()
+    };
+}
+
+impl Expr {
+    /// The same expression without parts.
+    ///
+    /// # Errors
+    /// Memory ran out.
+    pub fn copy_atom(&self) -> Result<Expr, AllocError>
+        requires { is_atom (expr_view self.now) ≡ true }
+        ensures { IfOk result (λ e. expr_view e ≡ expr_view self.now) }
+    {
+        match self {
+            Expr::Top => Ok(Expr::Top),
+            Expr::Bottom => Ok(Expr::Bottom),
+            Expr::Null => Ok(Expr::Null),
+            Expr::Bool(truth) => Ok(Expr::Bool(*truth)),
+            Expr::Int(integer) => Ok(Expr::Int(*integer)),
+            Expr::Text(text) => Ok(Expr::Text(text.clone()?)),
+            Expr::Bound { relation, limit } => Ok(Expr::Bound {
+                relation: *relation,
+                limit: *limit,
+            }),
+            Expr::NotInt(integer) => Ok(Expr::NotInt(*integer)),
+            Expr::NotText(text) => Ok(Expr::NotText(text.clone()?)),
+            Expr::NotNull => Ok(Expr::NotNull),
+            Expr::Name { .. }
+            | Expr::Reference { .. }
+            | Expr::And(_)
+            | Expr::Or(_)
+            | Expr::Paren(_)
+            | Expr::Struct { .. }
+            | Expr::List { .. }
+            | Expr::Wide(_) => unreachable!(),
+        }
+    }
 }
 
 /// What a field asks for: `a: T` and `a!: T` that it is there, `a?: T` only what its value is, and `[string]: T` what the

@@ -9,7 +9,9 @@ mod line;
 mod profile;
 mod token;
 
-pub use ast::{Declaration, Definition, Expr, Field, FieldMark, File, ListEnd, Relation, Wide};
+pub use ast::{
+    Declaration, Definition, Expr, Field, FieldMark, File, ListEnd, Relation, Site, Wide,
+};
 pub use attribute::{AttributeStep, Opened};
 pub use fault::SyntaxFault;
 pub use kind::Kind;

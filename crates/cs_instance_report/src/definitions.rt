@@ -1,14 +1,13 @@
 // The words of definitions: where causes lead, and what is wrong with a value by a cause that leads nowhere.
-use crate::places::Places;
-use crate::walk::{Node, embedding_of, name_of, place_of, put_label};
+use crate::walk::{Node, name_of, put_label};
 use crate::wants::{KINDS, mismatch_words, put_alternatives, put_shape};
+use crate::written::Written;
 use cs_flat::{Flat, Item};
 use cs_instance::RootRules;
 use cs_instance_reasons::{InstanceCause, wanted_by};
 use cs_package::{FieldMark, Package, Part, Shape};
 use cs_place::Step;
 use cs_reason_words::{Choice, Finding, MOST_COMPARISONS, Words, item_at, told_apart};
-use cs_sources::{Declared, Separator};
 use std::alloc::{AllocError, Global};
 
 /// A document and the definitions that refuse it, with their sources.
@@ -19,7 +18,7 @@ pub(crate) struct Definitions<'t> {
     flat: &'t Flat<'t>,
     package: &'t Package,
     root: usize,
-    places: Places<'t>,
+    written: &'t Written<'t>,
     /// How many more labels are compared with keys that aren't allowed.
     comparisons: usize,
 }
@@ -58,7 +57,7 @@ impl<'t> Definitions<'t> {
         alloc: Global,
         rules: &'t RootRules<'t>,
         flat: &'t Flat<'t>,
-        sources: &'t Declared<'t, 't>,
+        written: &'t Written<'t>,
     ) -> Definitions<'t> {
         let (guarded, root) = rules.root();
         Definitions {
@@ -67,7 +66,7 @@ impl<'t> Definitions<'t> {
             flat,
             package: guarded.package(),
             root,
-            places: Places::new(alloc, sources),
+            written,
             comparisons: MOST_COMPARISONS,
         }
     }
@@ -154,13 +153,11 @@ impl<'t> Words<'t> for Definitions<'t> {
     ) -> Result<Node<'t>, AllocError> {
         match cause {
             InstanceCause::Part { place, .. } => {
-                node.part(self.package, &mut self.places, *place, path)
+                node.part(self.package, self.written, *place, path)
             }
-            InstanceCause::Alternative { place, .. } => {
-                node.operand(&mut self.places, Separator::Bar, *place)
-            }
+            InstanceCause::Alternative { place, .. } => Ok(node.operand(*place)),
             InstanceCause::Member { declaration, .. } => {
-                node.member(&mut self.places, *declaration, path)
+                node.member(self.written, *declaration, path)
             }
             InstanceCause::Element { place, .. } => node.element(*place, path),
             InstanceCause::Unmet
@@ -182,11 +179,13 @@ impl<'t> Words<'t> for Definitions<'t> {
     ) -> Result<Option<Finding<'t>>, AllocError> {
         let value = item_at(self.flat, item);
         let fixed = node.fixed_count();
-        let mut source = self.places.first(node.source);
+        let mut source = node.spelled.and_then(|spelled| spelled.place());
+        let mut by = node.spelled.and_then(|spelled| spelled.by);
         let mut finding = match cause {
             InstanceCause::Missing { declaration, .. } => {
-                let field = node.field(&mut self.places, *declaration)?;
-                source = field.map(|field| field.declaration);
+                let site = node.field(*declaration).map(|field| &field.site);
+                source = site.and_then(|site| self.written.place_at(site.at));
+                by = site.and_then(|site| site.by);
                 self.missing(node.parts().get(*declaration), path)?
             }
             InstanceCause::Extra { member, .. } => self.extra(node.parts(), item, *member)?,
@@ -202,8 +201,8 @@ impl<'t> Words<'t> for Definitions<'t> {
             | InstanceCause::Element { .. } => unmet(self.alloc, value, node.shape)?,
         };
         finding.definition = name_of(self.package, node.definition);
-        finding.source = source.and_then(place_of);
-        finding.embedded = source.and_then(embedding_of);
+        finding.source = source;
+        finding.embedded = by.and_then(|by| self.written.place_at(by));
         Ok(Some(finding))
     }
 }

@@ -2,9 +2,11 @@
 #![tactic(auto)]
 
 mod definitions;
-mod places;
 mod reports;
+mod spelled;
 mod walk;
 mod wants;
+mod written;
 
 pub use reports::report_instance;
+pub use written::Written;

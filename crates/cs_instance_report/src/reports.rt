@@ -4,13 +4,13 @@ ghost use Rattle.cs_reason_words.specs.Formats.{asks_standard};
 ghost use Rattle.cs_reason_words.specs.Valid.{flag_text, HasLines, Reports};
 
 use crate::definitions::Definitions;
+use crate::written::Written;
 use cs_flat::Flat;
 use cs_instance::RootRules;
 use cs_instance_reasons::InstanceCause;
 use cs_place::Named;
 use cs_reason_words::{Form, put_told, report_verdict, told_by};
 use cs_reasons::{Reasons, Telling};
-use cs_sources::{Profile, declared_in, sources_of};
 use std::alloc::{AllocError, Global};
 
 /// Puts what is told of the reasons, if there are any: in the output formats of JSON Schema nothing.
@@ -19,7 +19,7 @@ fn put_reasons(
     form: Form,
     telling: Telling,
     rules: &RootRules<'_>,
-    sources: &[Named<'_>],
+    written: &Written<'_>,
     document: Named<'_>,
     flat: &Flat<'_>,
     reasons: Option<&Reasons<InstanceCause>>,
@@ -35,10 +35,8 @@ fn put_reasons(
     if form.is_standard() {
         return Ok(()); // the verdict alone
     }
-    let cut = sources_of(alloc, Profile::Wide, sources)?;
-    let declared = declared_in(alloc, &cut)?;
-    let mut words = Definitions::new(alloc, rules, flat, &declared);
-    let told = told_by(alloc, &mut words, telling, document, sources, reasons)?;
+    let mut words = Definitions::new(alloc, rules, flat, written);
+    let told = told_by(alloc, &mut words, telling, document, written.named, reasons)?;
     put_told(text, form, document, &told)
 }
 
@@ -49,7 +47,7 @@ pub fn report_instance(
     form: Form,
     telling: Telling,
     rules: &RootRules<'_>,
-    sources: &[Named<'_>],
+    written: &Written<'_>,
     document: Named<'_>,
     flat: &Flat<'_>,
     reasons: Option<&Reasons<InstanceCause>>,
@@ -63,7 +61,7 @@ pub fn report_instance(
 {
     let mut text = String::new(alloc);
     put_reasons(
-        alloc, form, telling, rules, sources, document, flat, reasons, &mut text,
+        alloc, form, telling, rules, written, document, flat, reasons, &mut text,
     )?;
     report_verdict(alloc, form, reasons.is_none(), text.as_str(), output)
 }

@@ -1,9 +1,10 @@
 // Steps from a rule to what it is made of: in the package and in the sources, with the path.
-use crate::places::{Field, Origin, Places};
+use crate::spelled::Spelled;
+use crate::written::Written;
+use cs_grammar::Field;
 use cs_package::{FieldMark, Package, Part, Shape, ShapeEnd};
-use cs_place::{Position, put_quoted};
-use cs_reason_words::{SourcePlace, put_number};
-use cs_sources::{Alternative, Brought, ONLY, Part as SourcePart, Separator, Source};
+use cs_place::put_quoted;
+use cs_reason_words::put_number;
 use std::alloc::AllocError;
 
 /// What a rule is.
@@ -13,10 +14,8 @@ pub(crate) struct Node<'t> {
     pub(crate) definition: usize,
     /// The expression in it; none for the definition itself.
     pub(crate) shape: Option<&'t Shape>,
-    /// What it stands for in the sources.
-    pub(crate) source: Origin<'t>,
-    /// Which of the alternatives of that, where it is put together.
-    alternative: Alternative,
+    /// The same in the sources, if it is known there.
+    pub(crate) spelled: Option<Spelled<'t>>,
 }
 
 /// The name of a definition and its bodies, if the package has it.
@@ -31,28 +30,6 @@ fn declared(package: &Package, definition: usize) -> (&str, &[Shape]) {
 /// The name of a definition.
 pub(crate) fn name_of(package: &Package, definition: usize) -> &str {
     declared(package, definition).0
-}
-
-/// The place of an offset in a source. The line and the column aren't looked for yet.
-fn place_at<'t>(source: &Source<'t>, offset: usize) -> SourcePlace<'t> {
-    SourcePlace {
-        file: source.named.name,
-        number: source.file,
-        offset,
-        position: Position { line: 1, column: 1 },
-    }
-}
-
-/// Where a part of the sources begins.
-pub(crate) fn place_of<'t>(found: Brought<'_, 't>) -> Option<SourcePlace<'t>> {
-    let offset = found.part.offset()?;
-    Some(place_at(found.part.source, offset))
-}
-
-/// Where the reference is that brought a part of the sources, if one did.
-pub(crate) fn embedding_of<'t>(found: Brought<'_, 't>) -> Option<SourcePlace<'t>> {
-    let reference = found.by?;
-    Some(place_at(reference.source, reference.here().start))
 }
 
 /// Whether a label needs no quotes.
@@ -87,50 +64,38 @@ impl<'t> Node<'t> {
         Ok(Node {
             definition,
             shape: None,
-            source: Origin::Unknown,
-            alternative: ONLY,
+            spelled: None,
         })
     }
 
     /// What is inside it.
-    fn to(self, shape: Option<&'t Shape>, source: Origin<'t>) -> Node<'t> {
+    fn to(self, shape: Option<&'t Shape>, spelled: Option<Spelled<'t>>) -> Node<'t> {
         Node {
-            definition: self.definition,
             shape,
-            source,
-            alternative: ONLY,
+            spelled,
+            ..self
         }
-    }
-
-    /// Its expression in the sources, where that is one.
-    fn value(self) -> Option<Brought<'t, 't>> {
-        match self.source {
-            Origin::Value(found) => Some(found),
-            Origin::Unknown | Origin::Together { .. } => None,
-        }
-    }
-
-    /// A part of its expression in the sources, which the same reference brought.
-    fn inner(self, part: Option<SourcePart<'t, 't>>) -> Option<Brought<'t, 't>> {
-        Some(self.value()?.inner(part?))
     }
 
     /// A body of a definition, an operand of `&`, or the definition that a reference names.
     pub(crate) fn part(
         self,
         package: &'t Package,
-        places: &mut Places<'t>,
+        written: &'t Written<'t>,
         place: usize,
         path: &mut String,
     ) -> Result<Node<'t>, AllocError> {
         match self.shape {
             None => {
                 let (name, bodies) = declared(package, self.definition);
-                let body = places.body(self.definition, name, place, bodies.len())?;
-                Ok(self.to(bodies.get(place), body))
+                let spelled = match written.definition(name, place) {
+                    Some(definition) => Spelled::body(written, definition),
+                    None => None,
+                };
+                Ok(self.to(bodies.get(place), spelled))
             }
             Some(Shape::Definition(definition)) => Node::of(package, *definition, path),
-            Some(_) => self.operand(places, Separator::Amp, place),
+            Some(_) => Ok(self.operand(place)),
         }
     }
 
@@ -142,47 +107,10 @@ impl<'t> Node<'t> {
         }
     }
 
-    /// Whether it is put together: from a literal with embeddings, from operands of `&`, or from several values. Operands that aren't put
-    /// together are a conjunction here too.
-    fn is_united(self, places: &Places<'t>) -> bool {
-        match self.source {
-            Origin::Unknown => false,
-            Origin::Together { .. } => true,
-            Origin::Value(found) => {
-                let is_conjunction = matches!(self.shape, Some(Shape::And(_)));
-                !is_conjunction && found.part.is_conjunction() || places.embeds(found)
-            }
-        }
-    }
-
-    /// The operand at a place. All alternatives of what is put together are that whole expression; of `&` those are one operand that stand beside
-    /// plain ones.
-    pub(crate) fn operand(
-        self,
-        places: &mut Places<'t>,
-        separator: Separator,
-        place: usize,
-    ) -> Result<Node<'t>, AllocError> {
-        let shape = self.operands().get(place);
-        if self.is_united(places) {
-            let alternative = Alternative {
-                number: place,
-                count: self.operands().len(),
-            };
-            return Ok(Node {
-                shape,
-                alternative,
-                ..self
-            });
-        }
-        let origin = match (self.value(), separator) {
-            (Some(found), Separator::Amp) => {
-                places.operand(found, place, self.operands().len())?
-            }
-            (Some(found), _) => Origin::of(self.inner(found.part.operand(separator, place))),
-            (None, _) => Origin::Unknown,
-        };
-        Ok(self.to(shape, origin))
+    /// The operand at a place.
+    pub(crate) fn operand(self, place: usize) -> Node<'t> {
+        let spelled = self.spelled.and_then(|whole| whole.operand(place));
+        self.to(self.operands().get(place), spelled)
     }
 
     /// The declarations of a struct literal.
@@ -193,40 +121,27 @@ impl<'t> Node<'t> {
         }
     }
 
-    /// Its field at a place: where that is declared, and by which reference in the definition: the first one on the way. That of a literal as it is
-    /// written stands at the same place there.
-    pub(crate) fn field(
-        self,
-        places: &mut Places<'t>,
-        place: usize,
-    ) -> Result<Option<Field<'t>>, AllocError> {
-        let parts = self.parts();
-        if let Origin::Value(found) = self.source
-            && found.part.declarations() == parts.len()
-            && !self.is_united(places)
-        {
-            let declaration = self.inner(found.part.declaration(place));
-            return Ok(declaration.map(Field::once));
-        }
-        places.field(self.source, self.alternative, parts, place)
+    /// Its field at a place, as it is in the sources.
+    pub(crate) fn field(self, place: usize) -> Option<&'t Field> {
+        self.spelled?.field(place)
     }
 
     /// What the declaration at a place declares.
     pub(crate) fn member(
         self,
-        places: &mut Places<'t>,
+        written: &'t Written<'t>,
         place: usize,
         path: &mut String,
     ) -> Result<Node<'t>, AllocError> {
-        let source = match self.field(places, place)? {
-            Some(field) => field.value,
-            None => Origin::Unknown,
+        let spelled = match self.field(place) {
+            Some(field) => Spelled::value(written, field),
+            None => None,
         };
         let Some(part) = self.parts().get(place) else {
-            return Ok(self.to(None, source));
+            return Ok(self.to(None, spelled));
         };
         put_label(path, part)?;
-        Ok(self.to(Some(&part.value), source))
+        Ok(self.to(Some(&part.value), spelled))
     }
 
     /// How many fixed elements a list has.
@@ -240,7 +155,7 @@ impl<'t> Node<'t> {
     /// What is asked of the element at a place.
     pub(crate) fn element(self, place: usize, path: &mut String) -> Result<Node<'t>, AllocError> {
         let Some(Shape::List { front, end }) = self.shape else {
-            return Ok(self.to(None, Origin::Unknown));
+            return Ok(self.to(None, None));
         };
         let fixed = front.len();
         let shape = match end {
@@ -248,16 +163,12 @@ impl<'t> Node<'t> {
             ShapeEnd::Each(shape) => Some(&**shape),
             ShapeEnd::Closed | ShapeEnd::Any => None,
         };
-        let element = match self.value() {
-            Some(found) if place < fixed => found.part.element(place),
-            Some(found) => found.part.list_end(fixed),
-            None => None,
-        };
         path.push('[')?;
         if place < fixed {
             put_number(path, place)?;
         }
         path.push(']')?;
-        Ok(self.to(shape, Origin::of(self.inner(element))))
+        let spelled = self.spelled.and_then(|list| list.element(place));
+        Ok(self.to(shape, spelled))
     }
 }

@@ -14,6 +14,7 @@ mod text_judge;
 mod why;
 
 pub use answers::LinesOutcome;
+pub use cs_instance_report::Written;
 pub use cs_place::Named;
 pub use cs_reason_words::{Form, Format};
 pub use cs_reasons::Telling;

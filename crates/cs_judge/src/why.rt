@@ -2,15 +2,15 @@
 ghost use Rattle.std.specs.Prelude.{◌≡◌};
 ghost use Rattle.cs_judge.specs.Explained.{asked_form, root_form, schema_form};
 
-use cs_place::Named;
+use cs_instance_report::Written;
 use cs_reason_words::Form;
 use cs_reasons::Telling;
 
 /// How documents are explained.
 #[derive(Clone, Copy)]
 pub struct Why<'a> {
-    /// The sources that the rules were read from, with their names; none where there is a schema.
-    pub sources: &'a [Named<'a>],
+    /// The sources that the rules were read from; none where there is a schema.
+    pub sources: &'a Written<'a>,
     pub form: Form,
     pub telling: Telling,
 }

@@ -3,7 +3,7 @@ use Rattle.std.specs.Prelude.{◌≡◌, ℕ, ℤ, Bool, true, false, List, [], 
 use Rattle.std.specs.declared.alloc.Global.{Global}
 use Rattle.cs_grammar.specs.Atom.{Atom}
 use Rattle.cs_package.specs.Expression.{Expression, atom, kind, range, reference, conjunction, disjunction, struct, list, top, bottom, null, boolean, integer, text, bound, not_integer, not_text, not_null}
-use Rattle.cs_package.specs.View.{kind_of, relation_of, operands_at, fields_at, rest_of}
+use Rattle.cs_package.specs.View.{kind_of, relation_of, operands_at, fields_at, rest_of, is_known}
 use Rattle.cs_package.specs.declared.shape.Shape as Shapes
 use Rattle.cs_package.specs.declared.shape.Shape.{Shape}
 use Rattle.cs_package.specs.declared.shape.Part.{Part}
@@ -87,10 +87,10 @@ IsInside ns (inside.Or ss) e = e ≡ disjunction (operands_at ns ss.now)
 IsInside ns (inside.Struct ps opened) e = e ≡ struct (fields_at ns ps.now) opened
 IsInside ns (inside.List ss end) e = e ≡ list (operands_at ns ss.now) (rest_of ns end.now)
 
--- the shape has these parts in it, by which a walk over them ends
+-- the shape has these parts in it, by which a walk over them ends, or that number, or refers to nothing
 abbrev pub IsMadeOf : Inside → Shape → Type 0
-IsMadeOf (inside.Simple x) s = Unit {0}
-IsMadeOf (inside.Definition i) s = Unit {0}
+IsMadeOf (inside.Simple x) s = (count : ℕ) → is_known count s ≡ true
+IsMadeOf (inside.Definition i) s = s ≡ Shapes.Definition i
 IsMadeOf (inside.And ss) s = (v : Vec Shape Global) × (s ≡ Shapes.And v) × (ss.now ≡ v.items)
 IsMadeOf (inside.Or ss) s = (v : Vec Shape Global) × (s ≡ Shapes.Or v) × (ss.now ≡ v.items)
 IsMadeOf (inside.Struct ps opened) s = (v : Vec Part Global) × (s ≡ Shapes.Struct v opened) × (ps.now ≡ v.items)

@@ -3,7 +3,7 @@ use Rattle.std.specs.Prelude.{◌≡◌, ◌⊎◌, ℕ, Bool, true, false, not,
 use Rattle.std.specs.Borrow.{Bor}
 use Rattle.std.specs.List.{AllByRecursion, list_any, filter}
 use Rattle.std.specs.Str.{bytes_eq}
-use Rattle.cs_document.specs.Document.{Document, Entry, under}
+use Rattle.cs_document.specs.Document.{Document, Members, Entry, AreMembers, entries, under}
 use Rattle.cs_question.specs.declared.literal.Literal.{Literal}
 use Rattle.cs_question.specs.declared.places.Key.TheVariants as key
 use Rattle.cs_question.specs.declared.places.Key.{Key}
@@ -12,9 +12,10 @@ use Rattle.cs_question.specs.declared.places.Further as further
 use Rattle.cs_question.specs.declared.places.Way.{Way}
 use Rattle.cs_question.specs.declared.places.Way.TheVariants.{Absent, Present, Optional, Behind}
 use Rattle.cs_question.specs.declared.state.State.{State}
+use Rattle.cs_question.specs.declared.table.Table.{Table}
 use Rattle.cs_question.specs.Nodes.{Judgement}
 use Rattle.cs_question.specs.Asked.{meets, meets_all}
-use Rattle.cs_question.specs.Truth.{IsInner}
+use Rattle.cs_question.specs.Truth.{IsInner, Truth}
 
 pub data KeyName : Type 0 where
   label : List ℕ → KeyName
@@ -33,6 +34,10 @@ pub record Spread : Type 0 where
 abbrev pub SomeOf : {X : Type 0} → (X → Type 0) → List X → Type 0
 SomeOf P [] = ⊥
 SomeOf P (x ∷ xs) = P x ⊎ SomeOf P xs
+
+-- that is so of all parts by each judgement that the table says the truth of
+abbrev pub ByTable : (table : Table) → (Truth table.entries.items → Spread → Type 0) → Type 0
+ByTable table P = table.is_final ≡ true → (t : Truth table.entries.items) (s : Spread) → P t s
 
 -- what is at a place is as asked
 pub record HoldsAt (J : Judgement) (n : ℕ) (o : Option Document) (p : Place) : Type 0 where
@@ -67,6 +72,10 @@ IsTaken J s (Behind o) = SomeOf (IsSuch J o) s.further
 abbrev pub HoldsState : Judgement → Spread → State → Type 0
 HoldsState J s state = AllByRecursion (IsTaken J s) state.chosen.items
 
+-- there may be more states than those, and some state holds where that is said
+abbrev pub PutsState : Judgement → Spread → List State → List State → (Type 0 → Type 0) → Type 0
+PutsState J s states more C = (SomeOf (HoldsState J s) states → SomeOf (HoldsState J s) more) × C (SomeOf (HoldsState J s) more)
+
 abbrev pub IsBehind : Way → Type 0
 IsBehind (Absent k) = ⊥
 IsBehind (Present k o) = ⊥
@@ -94,6 +103,14 @@ under_name ms (index i) = None
 
 abbrev pub spread_map : List (Bor (List ℕ)) → List (Entry Document) → Spread
 spread_map ls ms = record { at = under_name ms; further = others ls ms }
+
+-- places hold what a map has there, where they did before and that is so of the map
+abbrev pub KeepsPlaces : List Place → List Place → (Judgement → List (Entry Document) → Type 0) → Type 0
+KeepsPlaces ps qs P = (J : Judgement) (n : ℕ) (ms : List (Entry Document)) → P J ms → HoldsPlaces J n (spread_map [] ms) ps → HoldsPlaces J n (spread_map [] ms) qs
+
+-- a map of which that is so takes one of the ways
+abbrev pub FailsBy : List (Bor (List ℕ)) → List Way → (Judgement → List (Entry Document) → Type 0) → Type 0
+FailsBy ls ways P = (J : Judgement) (ms : Members) → AreMembers ms → P J (entries ms) → AreTaken J (spread_map ls (entries ms)) ways
 
 -- ---- lists: the first ones, and the others
 

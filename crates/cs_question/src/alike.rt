@@ -18,21 +18,14 @@ pub(crate) enum Sign<'a> {
 /// What a rule is found by, where it is a constant or a range.
 pub(crate) fn sign_of<'a>(node: &Node<'a>) -> Option<Sign<'a>> {
     match node {
-        Node::Simple(shape) => sign_of_shape(shape),
+        Node::Simple(shape) => match shape.simple()? {
+            Simple::Literal(literal) => Some(Sign::Literal(literal)),
+            Simple::Range { least, greatest } => Some(Sign::Range(least, greatest)),
+            Simple::Top | Simple::Bottom | Simple::Excluded(_) => None,
+            Simple::Kind(_) | Simple::Bound { .. } => None,
+        },
         Node::Within { least, greatest } => Some(Sign::Range(*least, *greatest)),
         Node::All(_) | Node::Any(_) | Node::Struct { .. } | Node::List { .. } => None,
-    }
-}
-
-fn sign_of_shape<'a>(shape: &'a Shape) -> Option<Sign<'a>> {
-    match shape.simple()? {
-        Simple::Literal(literal) => Some(Sign::Literal(literal)),
-        Simple::Range { least, greatest } => Some(Sign::Range(least, greatest)),
-        Simple::Top
-        | Simple::Bottom
-        | Simple::Excluded(_)
-        | Simple::Kind(_)
-        | Simple::Bound { .. } => None,
     }
 }
 

@@ -1,5 +1,5 @@
 // The cases of a question: what is asked of the same document is opened, alternative by alternative.
-ghost use Rattle.std.specs.Prelude.{◌≡◌, ◌<◌, true, IfOk, IfSome, IsNone, IsTrue, OnOk, length, slice_get, Some};
+ghost use Rattle.std.specs.Prelude.{◌≡◌, ◌<◌, true, IfOk, IfSome, IsNone, IsTrue, OnOk, slice_get, Some};
 ghost use Rattle.std.specs.List.{list_all, list_any};
 ghost use Rattle.cs_document.specs.Document.{Document};
 ghost use Rattle.cs_question.specs.Asked.{meets, meets_all};
@@ -28,18 +28,18 @@ struct Case {
 
 /// Whether a rule asks others of the same document.
 fn has_parts(nodes: &Nodes<'_>, literal: Literal) -> bool {
-    matches!(nodes.of(literal), Some(Node::All(_)) | Some(Node::Any(_)))
+    matches!(nodes.of(literal), Some(Node::All(_) | Node::Any(_)))
 }
 
-/// The place of the last rule that asks others of the same document.
-fn last_with_parts(nodes: &Nodes<'_>, asked: &[Literal]) -> Option<usize> {
-    let mut last = None;
-    for (place, literal) in asked.iter().enumerate() {
-        if has_parts(nodes, *literal) {
-            last = Some(place);
-        }
-    }
-    last
+/// What is opened next, and its place: the last rule that asks others of the same document.
+fn opened_at(nodes: &Nodes<'_>, asked: &[Literal]) -> Option<(usize, Literal)>
+    ensures { IfSome result (λ t. slice_get asked.now t.0 ≡ Some t.1) }
+{
+    let place = asked
+        .iter()
+        .rposition(|literal| has_parts(nodes, *literal))?;
+    let literal = asked.get(place)?;
+    Some((place, *literal))
 }
 
 /// Whether a rule is to be met and not to be met.
@@ -68,10 +68,7 @@ fn put(
     ensures kept { OnOk result (Continues cases.old.keys cases.new.keys) }
     ensures there { OnOk result (Covers asked.items cases.new.keys) }
 {
-    let opened = match last_with_parts(nodes, &asked) {
-        Some(place) => asked.get(place).copied(),
-        None => None,
-    };
+    let opened = opened_at(nodes, &asked).map(|(_place, literal)| literal);
     let case = Case { opened, asked };
     if let Some(same) = cases.get(&case) {
         if are_same(&same.asked, &case.asked) {
@@ -107,7 +104,6 @@ fn put_all(
 
 /// Puts a case for each part of a rule, in which that is as the rule is.
 fn put_each<'n>(
-    alloc: Global,
     nodes: &Nodes<'n>,
     cases: &mut BTreeSet<Case>,
     asked: &[Literal],
@@ -121,10 +117,9 @@ fn put_each<'n>(
         → list_any (λ p. meets J x (record literal { rule = p })) parts.now ≡ true
         → IsCovered J x cases.new.keys) }
 {
-    let refused = Refused::of(alloc, nodes, asked)?;
+    let refused = Refused::of(nodes, asked)?;
     for part in parts {
         put_with(
-            alloc,
             nodes,
             cases,
             &refused,
@@ -138,7 +133,6 @@ fn put_each<'n>(
 
 /// Puts the case in which one more is asked. There is none where that is a constant or a range that isn't to be met.
 fn put_with<'n>(
-    alloc: Global,
     nodes: &Nodes<'n>,
     cases: &mut BTreeSet<Case>,
     refused: &Refused<'n>,
@@ -155,7 +149,7 @@ fn put_with<'n>(
         return Ok(());
     }
     effort.take(cost_of_copying(asked.len()))?;
-    let mut one = Vec::from_slice(alloc, asked)?;
+    let mut one = Vec::from_slice(effort.alloc, asked)?;
     add(&mut one, literal)?;
     if is_contrary(&one) {
         return Ok(());
@@ -165,7 +159,6 @@ fn put_with<'n>(
 
 /// Opens what is asked at a place.
 fn open(
-    alloc: Global,
     nodes: &Nodes<'_>,
     cases: &mut BTreeSet<Case>,
     asked: &[Literal],
@@ -178,37 +171,32 @@ fn open(
     ensures there { OnOk result ((J : Judgement) (x : Document) → IsMeaning nodes.now J
         → meets_all J x asked.now ≡ true → IsCovered J x cases.new.keys) }
 {
-    let rest = without(alloc, asked, place)?;
+    let rest = without(effort.alloc, asked, place)?;
     match nodes.of(literal) {
         Some(Node::All(parts)) if literal.holds => put_all(nodes, cases, rest, literal, parts),
-        Some(Node::All(parts)) => put_each(alloc, nodes, cases, &rest, literal, parts, effort),
+        Some(Node::All(parts)) => put_each(nodes, cases, &rest, literal, parts, effort),
         Some(Node::Any(parts)) if literal.holds => {
-            put_each(alloc, nodes, cases, &rest, literal, parts, effort)
+            put_each(nodes, cases, &rest, literal, parts, effort)
         }
         Some(Node::Any(parts)) => put_all(nodes, cases, rest, literal, parts),
-        Some(Node::Simple(_))
-        | Some(Node::Within { .. })
-        | Some(Node::Struct { .. })
-        | Some(Node::List { .. })
+        Some(Node::Simple(_) | Node::Within { .. } | Node::Struct { .. } | Node::List { .. })
         | None => put(nodes, cases, rest),
     }
 }
 
 /// How many parts a rule asks of the same document.
 fn count_parts(nodes: &Nodes<'_>, literal: Literal) -> usize {
-    if let Some(Node::All(parts) | Node::Any(parts)) = nodes.of(literal) {
-        parts.len()
-    } else {
-        0
+    match nodes.of(literal) {
+        Some(Node::All(parts) | Node::Any(parts)) => parts.len(),
+        _ => 0,
     }
 }
 
 /// How many declarations a rule has.
 fn count_fields(nodes: &Nodes<'_>, literal: Literal) -> usize {
-    if let Some(Node::Struct { fields, .. }) = nodes.of(literal) {
-        fields.all.len()
-    } else {
-        0
+    match nodes.of(literal) {
+        Some(Node::Struct { fields, .. }) => fields.all.len(),
+        _ => 0,
     }
 }
 
@@ -226,10 +214,8 @@ fn cost_of_copying(asked: usize) -> usize {
 
 /// Whether a rule is met by one value alone.
 fn is_value(nodes: &Nodes<'_>, literal: Literal) -> bool {
-    let Some(Node::Simple(shape)) = nodes.of(literal) else {
-        return false;
-    };
-    literal.holds && shape.literal().is_some()
+    let node = nodes.of(literal);
+    literal.holds && matches!(node, Some(Node::Simple(shape)) if shape.literal().is_some())
 }
 
 /// The steps for a document that is all that is asked: each declaration is put to its label, each label is looked for in each
@@ -255,7 +241,6 @@ fn cost_of(nodes: &Nodes<'_>, asked: &[Literal]) -> usize {
 /// # Errors
 /// `TooManyCases` where a limit is met.
 pub(crate) fn found_for<'a>(
-    alloc: Global,
     nodes: &Nodes<'a>,
     table: &Table<'_>,
     asked: &[Literal],
@@ -263,8 +248,8 @@ pub(crate) fn found_for<'a>(
 ) -> Result<Option<Found<'a>>, SearchFault>
     ensures { IfOk result (λ o. IsNone o → NoDocument nodes.now table.now asked.now) }
 {
-    let mut cases = BTreeSet::new(alloc);
-    put(nodes, &mut cases, Vec::from_slice(alloc, asked)?)?;
+    let mut cases = BTreeSet::new(effort.alloc);
+    put(nodes, &mut cases, Vec::from_slice(effort.alloc, asked)?)?;
     for _ in 0..MOST_STEPS {
         let Some(case) = cases.pop_last() else {
             return Ok(None);
@@ -273,19 +258,11 @@ pub(crate) fn found_for<'a>(
         match opened_at(nodes, &case.asked) {
             Some((place, literal)) => {
                 effort.take(cost_of_opening(count_parts(nodes, literal), case.asked.len()))?;
-                open(
-                    alloc,
-                    nodes,
-                    &mut cases,
-                    &case.asked,
-                    place,
-                    literal,
-                    effort,
-                )?;
+                open(nodes, &mut cases, &case.asked, place, literal, effort)?;
             }
             None => {
                 effort.take(cost_of(nodes, &case.asked))?;
-                let found = document_of(alloc, nodes, table, &case.asked, effort)?;
+                let found = document_of(nodes, table, &case.asked, effort)?;
                 if found.is_some() {
                     return Ok(found);
                 }
@@ -293,15 +270,4 @@ pub(crate) fn found_for<'a>(
         }
     }
     Err(SearchFault::TooManyCases)
-}
-
-/// What is opened next, and its place.
-fn opened_at(nodes: &Nodes<'_>, asked: &[Literal]) -> Option<(usize, Literal)>
-    ensures { IfSome result (λ t. slice_get asked.now t.0 ≡ Some t.1) }
-{
-    let place = last_with_parts(nodes, asked)?;
-    match asked.get(place) {
-        Some(literal) => Some((place, *literal)),
-        None => None,
-    }
 }

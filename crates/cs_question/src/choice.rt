@@ -1,9 +1,8 @@
 // The search for ways in which a list or a map fails to meet rules.
-ghost use Rattle.std.specs.Prelude.{◌≡◌, ℕ, [], true, IfOk, IfSome, IsNone, IsTrue, OnOk};
+ghost use Rattle.std.specs.Prelude.{◌≡◌, ℕ, [], IfOk, IfSome, IsNone, IsTrue, OnOk};
 ghost use Rattle.std.specs.List.{AllByRecursion};
 ghost use Rattle.cs_question.specs.Nodes.{Judgement};
-ghost use Rattle.cs_question.specs.Spread.{Spread, SomeOf, HoldsPlaces, HoldsState, HoldsFurther, AreTaken, IsTaken, IsBehind};
-ghost use Rattle.cs_question.specs.Truth.{Truth};
+ghost use Rattle.cs_question.specs.Spread.{Spread, SomeOf, ByTable, HoldsPlaces, HoldsState, HoldsFurther, PutsState, AreTaken, IsTaken, IsBehind};
 
 use crate::budget::MOST_STEPS;
 use crate::effort::Effort;
@@ -26,29 +25,16 @@ fn copy_places<'a>(alloc: Global, places: &[Place<'a>]) -> Result<Vec<Place<'a>>
     Ok(copies)
 }
 
-fn copy_questions(
-    alloc: Global,
-    questions: &[Vec<Literal>],
-) -> Result<Vec<Vec<Literal>>, AllocError> {
-    let mut copies = Vec::with_capacity(alloc, questions.len() + 1)?;
-    for question in questions {
-        copies.push(Vec::from_slice(alloc, question)?)?;
-    }
-    Ok(copies)
-}
-
 /// Whether nothing can be as some place asks.
 fn has_dead(
-    alloc: Global,
     table: &Table<'_>,
     places: &[Place<'_>],
     effort: &mut Effort,
 ) -> Result<bool, AllocError>
-    ensures { IfOk result (λ b. IsTrue b → table.now.is_final ≡ true
-        → (t : Truth table.now.entries.items) (s : Spread) → HoldsPlaces t.J t.n s places.now → ⊥) }
+    ensures { IfOk result (λ b. IsTrue b → ByTable table.now (λ t s. HoldsPlaces t.J t.n s places.now → ⊥)) }
 {
     for place in places {
-        if is_dead(alloc, table, place, effort)? {
+        if is_dead(table, place, effort)? {
             return Ok(true);
         }
     }
@@ -57,36 +43,29 @@ fn has_dead(
 
 /// Asks about every place, so that all of them are known the next time.
 fn ask_about(
-    alloc: Global,
     table: &Table<'_>,
     places: &[Place<'_>],
     effort: &mut Effort,
 ) -> Result<(), SearchFault> {
     effort.take(places.len())?;
     for place in places {
-        let _is_dead = is_dead(alloc, table, place, effort)?;
+        let _is_dead = is_dead(table, place, effort)?;
     }
     Ok(())
 }
 
-fn is_behind(way: &Way<'_>) -> bool {
-    matches!(way, Way::Behind(_))
-}
-
 /// The first way that needs none of the places, as what is asked of the value.
 fn first_free(
-    alloc: Global,
     table: &Table<'_>,
     further: &Further,
     ways: &[Way<'_>],
     effort: &mut Effort,
 ) -> Result<Option<Vec<Literal>>, AllocError>
-    ensures { IfOk result (λ o. IsNone o → table.now.is_final ≡ true
-        → (t : Truth table.now.entries.items) (s : Spread) → HoldsFurther t.J t.n s further.now
-        → SomeOf (λ way. IsBehind way × IsTaken t.J s way) ways.now → ⊥) }
+    ensures { IfOk result (λ o. IsNone o → ByTable table.now (λ t s. HoldsFurther t.J t.n s further.now
+        → SomeOf (λ way. IsBehind way × IsTaken t.J s way) ways.now → ⊥)) }
 {
     for way in ways {
-        let found = free(alloc, table, further, way, effort)?;
+        let found = free(table, further, way, effort)?;
         if found.is_some() {
             return Ok(found);
         }
@@ -96,7 +75,6 @@ fn first_free(
 
 /// How many of the ways are open, counted no further than to a number.
 fn count_open(
-    alloc: Global,
     table: &Table<'_>,
     places: &[Place<'_>],
     further: &Further,
@@ -104,7 +82,7 @@ fn count_open(
     most: usize,
     effort: &mut Effort,
 ) -> Result<usize, AllocError> {
-    if first_free(alloc, table, further, ways, effort)?.is_some() {
+    if first_free(table, further, ways, effort)?.is_some() {
         return Ok(1);
     }
     let mut count = 0;
@@ -112,7 +90,7 @@ fn count_open(
         if count >= most {
             return Ok(count);
         }
-        if !is_behind(way) && !is_shut(alloc, table, places, way, effort)? {
+        if !matches!(way, Way::Behind(_)) && !is_shut(table, places, way, effort)? {
             count += 1;
         }
     }
@@ -121,7 +99,6 @@ fn count_open(
 
 /// The place among the rules left of the one with the fewest open ways.
 fn pick(
-    alloc: Global,
     table: &Table<'_>,
     places: &[Place<'_>],
     left: &[usize],
@@ -135,7 +112,7 @@ fn pick(
         let Some(ways) = rules.get(*rule) else {
             continue;
         };
-        let count = count_open(alloc, table, places, further, ways, least, effort)?;
+        let count = count_open(table, places, further, ways, least, effort)?;
         if count < least {
             least = count;
             best = Some(place);
@@ -156,17 +133,16 @@ fn push_free<'a>(
     states: &mut Vec<State<'a>>,
 ) -> Result<(), AllocError>
     ensures { OnOk result ((J : Judgement) (s : Spread)
-        → (SomeOf (HoldsState J s) states.old.items → SomeOf (HoldsState J s) states.new.items)
-        × (HoldsState J s state.now → SomeOf (HoldsState J s) states.new.items)) }
+        → PutsState J s states.old.items states.new.items (λ some. HoldsState J s state.now → some)) }
 {
-    let mut further = copy_questions(alloc, &state.further)?;
+    let mut further = state.further.clone()?;
     further.push(asked)?;
-    states.push(State {
-        chosen: Vec::from_slice(alloc, &state.chosen)?,
+    let chosen = Vec::from_slice(alloc, &state.chosen)?;
+    Ok(states.push(State {
+        chosen,
         left,
         further,
-    })?;
-    Ok(())
+    })?)
 }
 
 /// Puts the state with a way more.
@@ -178,22 +154,20 @@ fn push_way<'a>(
     states: &mut Vec<State<'a>>,
 ) -> Result<(), AllocError>
     ensures { OnOk result ((J : Judgement) (s : Spread)
-        → (SomeOf (HoldsState J s) states.old.items → SomeOf (HoldsState J s) states.new.items)
-        × (HoldsState J s state.now → IsTaken J s way.entry → SomeOf (HoldsState J s) states.new.items)) }
+        → PutsState J s states.old.items states.new.items (λ some. HoldsState J s state.now → IsTaken J s way.entry → some)) }
 {
     let mut chosen = Vec::from_slice(alloc, &state.chosen)?;
     chosen.push(way)?;
     states.push(State {
         chosen,
         left: Vec::from_slice(alloc, left)?,
-        further: copy_questions(alloc, &state.further)?,
+        further: state.further.clone()?,
     })?;
     Ok(())
 }
 
 /// Puts a state for each open way of one rule.
 fn push_ways<'a>(
-    alloc: Global,
     table: &Table<'_>,
     places: &[Place<'a>],
     state: &State<'a>,
@@ -202,20 +176,16 @@ fn push_ways<'a>(
     states: &mut Vec<State<'a>>,
     effort: &mut Effort,
 ) -> Result<(), AllocError>
-    ensures { OnOk result (table.now.is_final ≡ true
-        → (t : Truth table.now.entries.items) (s : Spread)
-        → (SomeOf (HoldsState t.J s) states.old.items
-        → SomeOf (HoldsState t.J s) states.new.items)
-        × (HoldsPlaces t.J t.n s places.now → HoldsState t.J s state.now
-        → SomeOf (λ way. (IsBehind way → ⊥) × IsTaken t.J s way) ways.now
-        → SomeOf (HoldsState t.J s) states.new.items)) }
+    ensures { OnOk result (ByTable table.now (λ t s. PutsState t.J s states.old.items states.new.items
+        (λ some. HoldsPlaces t.J t.n s places.now → HoldsState t.J s state.now
+        → SomeOf (λ way. (IsBehind way → ⊥) × IsTaken t.J s way) ways.now → some))) }
 {
     for way in ways {
         if let Way::Behind(_) = way {
             continue;
         }
-        if !is_shut(alloc, table, places, way, effort)? {
-            push_way(alloc, state, left, *way, states)?;
+        if !is_shut(table, places, way, effort)? {
+            push_way(effort.alloc, state, left, *way, states)?;
         }
     }
     Ok(())
@@ -223,7 +193,6 @@ fn push_ways<'a>(
 
 /// Puts the states that a rule's ways make of a state, which has left the places so.
 fn push_states<'a>(
-    alloc: Global,
     table: &Table<'_>,
     places: &[Place<'a>],
     state: &State<'a>,
@@ -233,21 +202,17 @@ fn push_states<'a>(
     states: &mut Vec<State<'a>>,
     effort: &mut Effort,
 ) -> Result<(), AllocError>
-    ensures { OnOk result (table.now.is_final ≡ true
-        → (t : Truth table.now.entries.items) (s : Spread)
-        → (SomeOf (HoldsState t.J s) states.old.items
-        → SomeOf (HoldsState t.J s) states.new.items)
-        × (HoldsPlaces t.J t.n s places.now → HoldsState t.J s state.now
-        → HoldsFurther t.J t.n s further.now
-        → AreTaken t.J s ways.now → SomeOf (HoldsState t.J s) states.new.items)) }
+    ensures { OnOk result (ByTable table.now (λ t s. PutsState t.J s states.old.items states.new.items
+        (λ some. HoldsPlaces t.J t.n s places.now → HoldsState t.J s state.now
+        → HoldsFurther t.J t.n s further.now → AreTaken t.J s ways.now → some))) }
 {
-    let mut left = Vec::from_slice(alloc, &state.left)?;
+    let mut left = Vec::from_slice(effort.alloc, &state.left)?;
     if place < left.len() {
         let _rule = left.remove(place);
     }
-    match first_free(alloc, table, further, ways, effort)? {
-        Some(asked) => push_free(alloc, state, left, asked, states),
-        None => push_ways(alloc, table, places, state, &left, ways, states, effort),
+    match first_free(table, further, ways, effort)? {
+        Some(asked) => push_free(effort.alloc, state, left, asked, states),
+        None => push_ways(table, places, state, &left, ways, states, effort),
     }
 }
 
@@ -292,40 +257,36 @@ fn cost_of(places: usize, chosen: usize) -> usize {
 /// # Errors
 /// `TooManyCases` where a limit is met.
 pub(crate) fn choice<'a>(
-    alloc: Global,
     table: &Table<'_>,
     places: &[Place<'a>],
     further: &Further,
     rules: &[Vec<Way<'a>>],
     effort: &mut Effort,
 ) -> Result<Option<Chosen<'a>>, SearchFault>
-    ensures { IfOk result (λ o. IsNone o → table.now.is_final ≡ true
-        → (t : Truth table.now.entries.items) (s : Spread) → HoldsPlaces t.J t.n s places.now
-        → HoldsFurther t.J t.n s further.now
-        → AllByRecursion (λ w. AreTaken t.J s w.items) rules.now → ⊥) }
+    ensures { IfOk result (λ o. IsNone o → ByTable table.now (λ t s. HoldsPlaces t.J t.n s places.now
+        → HoldsFurther t.J t.n s further.now → AllByRecursion (λ w. AreTaken t.J s w.items) rules.now → ⊥)) }
 {
     if effort.asks_all && !table.is_final {
-        ask_about(alloc, table, places, effort)?;
+        ask_about(table, places, effort)?;
     }
-    if has_dead(alloc, table, places, effort)? {
+    if has_dead(table, places, effort)? {
         return Ok(None);
     }
-    let mut states = Vec::new(alloc);
-    states.push(first_state(alloc, rules.len())?)?;
+    let mut states = Vec::new(effort.alloc);
+    states.push(first_state(effort.alloc, rules.len())?)?;
     for _ in 0..MOST_STEPS {
         let Some(state) = states.pop() else {
             return Ok(None);
         };
         effort.take(cost_of(places.len(), state.chosen.len()))?;
-        let left = places_after(alloc, places, &state.chosen)?;
-        let Some(place) = pick(alloc, table, &left, &state.left, further, rules, effort)? else {
-            return Ok(Some(chosen_of(alloc, state, left)?));
+        let left = places_after(effort.alloc, places, &state.chosen)?;
+        let Some(place) = pick(table, &left, &state.left, further, rules, effort)? else {
+            return Ok(Some(chosen_of(effort.alloc, state, left)?));
         };
         let Some(ways) = ways_of(rules, &state.left, place) else {
-            return Ok(Some(chosen_of(alloc, state, left)?));
+            return Ok(Some(chosen_of(effort.alloc, state, left)?));
         };
         push_states(
-            alloc,
             table,
             &left,
             &state,
@@ -345,24 +306,16 @@ fn chosen_of<'a>(
     state: State<'a>,
     places: Vec<Place<'a>>,
 ) -> Result<Chosen<'a>, AllocError> {
-    let State { further, .. } = state;
+    let State { mut further, .. } = state;
     let mut keys = Vec::new(alloc);
     let mut parts = Vec::with_capacity(alloc, places.len())?;
     for place in places {
-        let Place {
-            key,
-            is_needed,
-            asked,
-            ..
-        } = place;
-        if is_needed {
-            keys.push(key)?;
-            parts.push(asked)?;
+        if place.is_needed {
+            keys.push(place.key)?;
+            parts.push(place.asked)?;
         }
     }
-    for asked in further {
-        parts.push(asked)?;
-    }
+    parts.append(&mut further)?;
     Ok(Chosen { keys, parts })
 }
 
@@ -372,8 +325,5 @@ fn ways_of<'r, 'a>(rules: &'r [Vec<Way<'a>>], left: &[usize], place: usize) -> O
         → AllByRecursion (λ w. AreTaken J s w.items) rules.now → AreTaken J s ways.now) }
 {
     let rule = left.get(place)?;
-    match rules.get(*rule) {
-        Some(ways) => Some(ways.as_slice()),
-        None => None,
-    }
+    Some(rules.get(*rule)?.as_slice())
 }

@@ -1,5 +1,5 @@
 // Which definitions of a package have no instance.
-ghost use Rattle.std.specs.Prelude.{◌≡◌, ℕ, true, Some, IfOk, IsErrOf, IsTrue, length, slice_get, slice_index};
+ghost use Rattle.std.specs.Prelude.{◌≡◌, ℕ, true, Some, IfOk, IsErrOf, length, slice_get, slice_index};
 ghost use Rattle.cs_question.specs.NoInstance.{HasNoDocument};
 ghost use Rattle.cs_question.specs.Truth.{IsMetByNone};
 
@@ -13,19 +13,6 @@ use cs_guard::Guarded;
 use cs_instance::{NumberedPackage, numbered_package};
 use std::alloc::{AllocError, Global};
 
-/// Whether the question at a place is for a document that meets a rule, and has no answer.
-fn is_met_by_none(
-    alloc: Global,
-    table: &Table<'_>,
-    place: usize,
-    rule: usize,
-) -> Result<bool, AllocError>
-    ensures { IfOk result (λ b. IsTrue b → IsMetByNone table.now.entries.items rule) }
-{
-    let asked = met(alloc, rule)?;
-    Ok(table.is_shut_at(place, &asked))
-}
-
 /// For each rule whether no document meets it, where the table began with the questions for these rules.
 fn unmet(alloc: Global, table: &Table<'_>, rules: &[usize]) -> Result<Vec<bool>, AllocError>
     ensures long { IfOk result (λ v. length v.items ≡ length rules.now) }
@@ -34,8 +21,8 @@ fn unmet(alloc: Global, table: &Table<'_>, rules: &[usize]) -> Result<Vec<bool>,
 {
     let mut all = Vec::with_capacity(alloc, rules.len())?;
     for (place, rule) in rules.iter().enumerate() {
-        let is_unmet = is_met_by_none(alloc, table, place, *rule)?;
-        all.push(is_unmet)?;
+        let asked = met(alloc, *rule)?;
+        all.push(table.is_shut_at(place, &asked))?;
     }
     Ok(all)
 }
@@ -53,6 +40,7 @@ pub fn without_instance(alloc: Global, package: &Guarded) -> Result<Vec<bool>, Q
 {
     let NumberedPackage { numbering, numbers } = numbered_package(alloc, package)?;
     let nodes = Nodes {
+        alloc,
         admitting: side_of(alloc, &numbering.rules, &numbering.children)?,
         refusing: Vec::new(alloc),
     };

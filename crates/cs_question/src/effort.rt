@@ -6,7 +6,8 @@ use std::alloc::Global;
 /// The steps that were done and may be, and the questions that were met.
 #[derive(Drop)]
 pub(crate) struct Effort {
-    steps: usize,
+    pub(crate) alloc: Global,
+    pub(crate) steps: usize,
     most: usize,
     /// Those that aren't in the table.
     pub(crate) wanted: Vec<Vec<Literal>>,
@@ -20,17 +21,13 @@ impl Effort {
     /// No step of so many at most.
     pub(crate) fn new(alloc: Global, most: usize) -> Effort {
         Effort {
+            alloc,
             steps: 0,
             most,
             wanted: Vec::new(alloc),
             unanswered: Vec::new(alloc),
             asks_all: false,
         }
-    }
-
-    /// How many steps were done.
-    pub(crate) fn steps(&self) -> usize {
-        self.steps
     }
 
     /// The steps for a look at a question in the table, at which so many are asked: copies of them, and comparisons with others.

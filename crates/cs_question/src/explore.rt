@@ -11,6 +11,7 @@ use crate::literal::{Literal, met};
 use crate::nodes::Nodes;
 use crate::queue::Queue;
 use crate::table::{Entry, Table};
+use cs_document::Doc;
 use std::alloc::{AllocError, Global};
 
 /// The most steps for one look at a question, where others are asked beside it.
@@ -31,6 +32,7 @@ enum AtLimit {
 /// The questions, and which of them to look at.
 #[derive(Drop)]
 struct Exploring<'a> {
+    alloc: Global,
     table: Table<'a>,
     queue: Queue,
     at_limit: AtLimit,
@@ -39,6 +41,7 @@ struct Exploring<'a> {
 impl<'a> Exploring<'a> {
     fn new(alloc: Global, at_limit: AtLimit) -> Exploring<'a> {
         Exploring {
+            alloc,
             table: Table::new(alloc),
             queue: Queue::new(alloc),
             at_limit,
@@ -46,43 +49,35 @@ impl<'a> Exploring<'a> {
     }
 
     /// Where a question is, which is added unless it is there, and looked at later. There may be no room for it.
-    fn ask(&mut self, alloc: Global, asked: Vec<Literal>) -> Result<Option<usize>, AllocError> {
-        let place = self.table.ask(alloc, asked)?;
+    fn ask(&mut self, asked: Vec<Literal>) -> Result<Option<usize>, AllocError> {
+        let place = self.table.ask(asked)?;
         if self.table.entries.len() > self.queue.count() {
-            self.queue.add(alloc)?;
+            self.queue.add()?;
         }
         Ok(place)
     }
 
     /// Keeps an answer, and looks again at what waits for it.
-    fn answer(&mut self, alloc: Global, place: usize, found: Found<'a>) -> Result<(), AllocError> {
+    fn answer(&mut self, place: usize, found: Found<'a>) -> Result<(), AllocError> {
         self.table.answer(place, found)?;
-        self.queue.wake(alloc, place)
+        self.queue.wake(place)
     }
 
     /// A limit was met for a question.
-    fn end_at(&mut self, alloc: Global, place: usize) -> Result<(), SearchFault> {
+    fn end_at(&mut self, place: usize) -> Result<(), SearchFault> {
         match self.at_limit {
             AtLimit::End => Err(SearchFault::TooManyCases),
-            AtLimit::Skip => Ok(self.answer(alloc, place, Found::Null)?),
+            AtLimit::Skip => Ok(self.answer(place, Found::Scalar(Doc::Null))?),
         }
     }
 
     /// Lets a question wait for all that it met at the last look. Answers whether there was room in the table for that.
-    fn wait(
-        &mut self,
-        alloc: Global,
-        place: usize,
-        effort: &mut Effort,
-    ) -> Result<bool, AllocError> {
+    fn wait(&mut self, place: usize, effort: Effort) -> Result<bool, AllocError> {
         for awaited in &effort.unanswered {
             self.queue.wait(place, *awaited)?;
         }
-        for _ in 0..effort.wanted.len() {
-            let Some(asked) = effort.wanted.pop() else {
-                return Ok(true);
-            };
-            let Some(awaited) = self.ask(alloc, asked)? else {
+        for asked in effort.wanted.into_iter().rev() {
+            let Some(awaited) = self.ask(asked)? else {
                 return Ok(false);
             };
             self.queue.wait(place, awaited)?;
@@ -93,7 +88,6 @@ impl<'a> Exploring<'a> {
     /// Looks at one question, unless it has an answer.
     fn look_at(
         &mut self,
-        alloc: Global,
         nodes: &Nodes<'a>,
         place: usize,
         budget: &mut Budget,
@@ -106,36 +100,31 @@ impl<'a> Exploring<'a> {
             AtLimit::End => budget.steps,
             AtLimit::Skip => budget.steps.min(MOST_OF_ONE),
         };
-        let mut effort = Effort::new(alloc, most);
+        let mut effort = Effort::new(self.alloc, most);
         effort.asks_all = true;
-        let found = found_for(alloc, nodes, table, asked, &mut effort);
-        budget.spend(effort.steps());
+        let found = found_for(nodes, table, asked, &mut effort);
+        budget.spend(effort.steps);
         match found {
-            Ok(Some(found)) => Ok(self.answer(alloc, place, found)?),
+            Ok(Some(found)) => Ok(self.answer(place, found)?),
             Ok(None) => {
-                if !self.wait(alloc, place, &mut effort)? {
-                    self.end_at(alloc, place)?;
+                if !self.wait(place, effort)? {
+                    self.end_at(place)?;
                 }
                 Ok(())
             }
-            Err(SearchFault::TooManyCases) => self.end_at(alloc, place),
+            Err(SearchFault::TooManyCases) => self.end_at(place),
             Err(SearchFault::OutOfMemory) => Err(SearchFault::OutOfMemory),
         }
     }
 
     /// Looks at questions until each that has no answer has met none that has one since.
-    fn explore(
-        &mut self,
-        alloc: Global,
-        nodes: &Nodes<'a>,
-        budget: &mut Budget,
-    ) -> Result<(), SearchFault> {
+    fn explore(&mut self, nodes: &Nodes<'a>, budget: &mut Budget) -> Result<(), SearchFault> {
         // Each look takes a step, or leaves an answer.
         for _ in 0..2 * MOST_STEPS {
             let Some(place) = self.queue.next() else {
                 return Ok(());
             };
-            self.look_at(alloc, nodes, place, budget)?;
+            self.look_at(nodes, place, budget)?;
         }
         Err(SearchFault::TooManyCases)
     }
@@ -143,7 +132,6 @@ impl<'a> Exploring<'a> {
 
 /// Whether no question without an answer has one, where all others without one have none of less depth.
 pub(crate) fn is_settled(
-    alloc: Global,
     nodes: &Nodes<'_>,
     table: &Table<'_>,
     effort: &mut Effort,
@@ -151,9 +139,7 @@ pub(crate) fn is_settled(
     ensures { IfOk result (λ b. IsTrue b → IsAtRest nodes.now table.now) }
 {
     for entry in &table.entries {
-        if entry.found.is_none()
-            && found_for(alloc, nodes, table, &entry.asked, effort)?.is_some()
-        {
+        if entry.found.is_none() && found_for(nodes, table, &entry.asked, effort)?.is_some() {
             return Ok(false);
         }
     }
@@ -165,18 +151,16 @@ pub(crate) fn is_settled(
 /// # Errors
 /// `TooManyCases` where a limit is met, or the table isn't at rest.
 fn at_rest<'a>(
-    alloc: Global,
     nodes: &Nodes<'a>,
-    table: Table<'a>,
+    mut table: Table<'a>,
     effort: &mut Effort,
 ) -> Result<Table<'a>, SearchFault>
     ensures rest { IfOk result (λ t. IsAtRest nodes.now t) }
     ensures ended { IfOk result (λ t. t.is_final ≡ true) }
 {
-    let mut last = table;
-    last.is_final = true;
-    if is_settled(alloc, nodes, &last, effort)? {
-        Ok(last)
+    table.is_final = true;
+    if is_settled(nodes, &table, effort)? {
+        Ok(table)
     } else {
         Err(SearchFault::TooManyCases)
     }
@@ -196,13 +180,13 @@ pub(crate) fn explored<'a>(
     ensures ended { IfOk result (λ t. t.is_final ≡ true) }
 {
     let mut exploring = Exploring::new(alloc, AtLimit::End);
-    let _place = exploring.ask(alloc, Vec::from_slice(alloc, asked)?)?;
-    exploring.explore(alloc, nodes, budget)?;
+    let _place = exploring.ask(Vec::from_slice(alloc, asked)?)?;
+    exploring.explore(nodes, budget)?;
     let Exploring { table, .. } = exploring;
     let mut effort = Effort::new(alloc, budget.steps);
     effort.asks_all = true;
-    let explored = at_rest(alloc, nodes, table, &mut effort);
-    budget.spend(effort.steps());
+    let explored = at_rest(nodes, table, &mut effort);
+    budget.spend(effort.steps);
     explored
 }
 
@@ -221,9 +205,9 @@ pub(crate) fn explored_all<'a>(
 {
     let mut exploring = Exploring::new(alloc, AtLimit::Skip);
     for rule in rules {
-        let _place = exploring.ask(alloc, met(alloc, *rule)?)?;
+        let _place = exploring.ask(met(alloc, *rule)?)?;
     }
-    exploring.explore(alloc, nodes, &mut Budget { steps: MOST_OF_ALL })?;
+    exploring.explore(nodes, &mut Budget { steps: MOST_OF_ALL })?;
     let Exploring { table, .. } = exploring;
-    at_rest(alloc, nodes, table, &mut Effort::new(alloc, MOST_STEPS))
+    at_rest(nodes, table, &mut Effort::new(alloc, MOST_STEPS))
 }

@@ -1,12 +1,12 @@
 // What the declarations of a struct literal ask of a map.
-ghost use Rattle.std.specs.Prelude.{◌≡◌, ℕ, List, [], Bool, true, false, Some, map, IfSome, IsTrue, OnOk, Contains};
+ghost use Rattle.std.specs.Prelude.{◌≡◌, ℕ, List, true, false, Some, map, IfSome, IsTrue, OnOk, Contains};
 ghost use Rattle.std.specs.List.{list_all, list_any};
-ghost use Rattle.cs_document.specs.Document.{Document, Members, Entry, AreMembers, entries, under};
+ghost use Rattle.cs_document.specs.Document.{Document, Entry, under};
 ghost use Rattle.cs_package.specs.Expression.{is_every};
 ghost use Rattle.cs_instance.specs.Constraint as constraint;
 ghost use Rattle.cs_instance.specs.Steps.{field_of};
 ghost use Rattle.cs_question.specs.Nodes.{Judgement};
-ghost use Rattle.cs_question.specs.Spread.{HoldsPlaces, AreTaken, IsSuch, IsFurther, AddsWays, is_among, spread_map};
+ghost use Rattle.cs_question.specs.Spread.{KeepsPlaces, FailsBy, IsSuch, IsFurther, AddsWays, is_among};
 
 use crate::literal::{Literal, add, part_of};
 use crate::places::{Further, Key, Place, Way};
@@ -66,9 +66,8 @@ pub(crate) fn bar_others<'a>(
     labels: &[&'a str],
     fields: &Fields<'a>,
 ) -> Result<(), AllocError>
-    ensures { OnOk result ((J : Judgement) (n : ℕ) (ms : List (Entry Document))
-        → list_all (λ (m : Entry Document). list_any (λ d. constraint.allows d m.0) (map field_of fields.now.all.items)) ms ≡ true
-        → HoldsPlaces J n (spread_map [] ms) places.old.items → HoldsPlaces J n (spread_map [] ms) places.new.items) }
+    ensures { OnOk result (KeepsPlaces places.old.items places.new.items (λ J ms.
+        list_all (λ m. list_any (λ d. constraint.allows d m.0) (map field_of fields.now.all.items)) ms ≡ true)) }
 {
     for label in labels {
         if !is_allowed(fields, *label) {
@@ -84,9 +83,8 @@ fn ask_each<'a>(
     labels: &[&'a str],
     value: Literal,
 ) -> Result<(), AllocError>
-    ensures { OnOk result ((J : Judgement) (n : ℕ) (ms : List (Entry Document))
-        → ((k : List ℕ) → IfSome (under k ms) (IsSuch J (Some value)))
-        → HoldsPlaces J n (spread_map [] ms) places.old.items → HoldsPlaces J n (spread_map [] ms) places.new.items) }
+    ensures { OnOk result (KeepsPlaces places.old.items places.new.items (λ J ms.
+        (k : List ℕ) → IfSome (under k ms) (IsSuch J (Some value)))) }
 {
     for label in labels {
         take(places, &Way::Optional(Key::Label(*label), value))?;
@@ -102,9 +100,8 @@ fn ask_field<'a>(
     field: &Field<'a>,
 ) -> Result<(), AllocError>
     requires { literal.holds ≡ true }
-    ensures { OnOk result ((J : Judgement) (n : ℕ) (ms : List (Entry Document))
-        → constraint.declaration_holds (λ y p. J literal.side p y) (field_of field.now) ms ≡ true
-        → HoldsPlaces J n (spread_map [] ms) places.old.items → HoldsPlaces J n (spread_map [] ms) places.new.items) }
+    ensures { OnOk result (KeepsPlaces places.old.items places.new.items (λ J ms.
+        constraint.declaration_holds (λ y p. J literal.side p y) (field_of field.now) ms ≡ true)) }
 {
     let value = part_of(literal, field.value);
     if is_for_every_key(field.mark) {
@@ -125,9 +122,8 @@ pub(crate) fn ask_fields<'a>(
     fields: &[Field<'a>],
 ) -> Result<(), AllocError>
     requires { literal.holds ≡ true }
-    ensures { OnOk result ((J : Judgement) (n : ℕ) (ms : List (Entry Document))
-        → list_all (λ d. constraint.declaration_holds (λ y p. J literal.side p y) d ms) (map field_of fields.now) ≡ true
-        → HoldsPlaces J n (spread_map [] ms) places.old.items → HoldsPlaces J n (spread_map [] ms) places.new.items) }
+    ensures { OnOk result (KeepsPlaces places.old.items places.new.items (λ J ms.
+        list_all (λ d. constraint.declaration_holds (λ y p. J literal.side p y) d ms) (map field_of fields.now) ≡ true)) }
 {
     for field in fields {
         ask_field(places, labels, literal, field)?;
@@ -163,15 +159,12 @@ fn every_ways<'a>(
 ) -> Result<(), AllocError>
     requires { value.holds ≡ false }
     ensures kept { OnOk result (AddsWays ways.old.items ways.new.items) }
-    ensures all { OnOk result ((J : Judgement) (ms : Members) → AreMembers ms
-        → list_all (λ (m : Entry Document). J value.side value.rule m.1) (entries ms) ≡ false
-        → AreTaken J (spread_map labels.now (entries ms)) ways.new.items) }
+    ensures all { OnOk result (FailsBy labels.now ways.new.items (λ J ms. list_all (λ m. J value.side value.rule m.1) ms ≡ false)) }
 {
     for label in labels {
         ways.push(Way::Present(Key::Label(*label), Some(value)))?;
     }
-    ways.push(Way::Behind(Some(value)))?;
-    Ok(())
+    Ok(ways.push(Way::Behind(Some(value)))?)
 }
 
 /// Adds the ways in which a map fails to meet a declaration.
@@ -183,9 +176,8 @@ pub(crate) fn field_ways<'a>(
 ) -> Result<(), AllocError>
     requires { literal.holds ≡ false }
     ensures kept { OnOk result (AddsWays ways.old.items ways.new.items) }
-    ensures all { OnOk result ((J : Judgement) (ms : Members) → AreMembers ms
-        → constraint.declaration_holds (λ y p. J literal.side p y) (field_of field.now) (entries ms) ≡ false
-        → AreTaken J (spread_map labels.now (entries ms)) ways.new.items) }
+    ensures all { OnOk result (FailsBy labels.now ways.new.items (λ J ms.
+        constraint.declaration_holds (λ y p. J literal.side p y) (field_of field.now) ms ≡ false)) }
 {
     let value = part_of(literal, field.value);
     if is_for_every_key(field.mark) {
@@ -194,8 +186,7 @@ pub(crate) fn field_ways<'a>(
     if !may_be_absent(field.mark) {
         ways.push(Way::Absent(Key::Label(field.label)))?;
     }
-    ways.push(Way::Present(Key::Label(field.label), Some(value)))?;
-    Ok(())
+    Ok(ways.push(Way::Present(Key::Label(field.label), Some(value)))?)
 }
 
 /// Adds the ways in which a map has a key that isn't allowed.
@@ -205,9 +196,8 @@ pub(crate) fn extra_ways<'a>(
     ways: &mut Vec<Way<'a>>,
 ) -> Result<(), AllocError>
     ensures kept { OnOk result (AddsWays ways.old.items ways.new.items) }
-    ensures all { OnOk result ((J : Judgement) (ms : Members) → AreMembers ms
-        → list_all (λ (m : Entry Document). list_any (λ d. constraint.allows d m.0) (map field_of fields.now.all.items)) (entries ms) ≡ false
-        → AreTaken J (spread_map labels.now (entries ms)) ways.new.items) }
+    ensures all { OnOk result (FailsBy labels.now ways.new.items (λ J ms.
+        list_all (λ m. list_any (λ d. constraint.allows d m.0) (map field_of fields.now.all.items)) ms ≡ false)) }
 {
     for label in labels {
         if !is_allowed(fields, *label) {

@@ -2,7 +2,7 @@
 ghost use Rattle.std.specs.Prelude.{◌≡◌, map, slice_get, IsTrue};
 ghost use Rattle.cs_package.specs.View.{mark_of};
 ghost use Rattle.cs_instance.specs.Steps.{field_of};
-ghost use Rattle.cs_question.specs.Nodes.{asked_of, end_of};
+ghost use Rattle.cs_question.specs.Nodes.{asked_of};
 
 use crate::alike::{Sign, sign_of};
 use crate::nodes::{Node, NodeEnd};
@@ -16,8 +16,7 @@ pub(crate) enum Part<'a> {
     Value(Sign<'a>),
     Field(&'a str, usize),
     Element(usize),
-    Each(usize),
-    Any,
+    End(NodeEnd),
 }
 
 /// What a rule is found by: nothing, where it asks others of the same document.
@@ -45,11 +44,10 @@ fn add_elements(form: &mut Vec<Part<'_>>, front: &[usize], end: NodeEnd) -> Resu
     for element in front {
         form.push(Part::Element(*element))?;
     }
-    match end {
-        NodeEnd::Closed => Ok(()),
-        NodeEnd::Any => Ok(form.push(Part::Any)?),
-        NodeEnd::Each(rule) => Ok(form.push(Part::Each(rule))?),
+    if end != NodeEnd::Closed {
+        form.push(Part::End(end))?;
     }
+    Ok(())
 }
 
 /// Whether two rules are structs of the same declarations, or lists of the same elements.
@@ -70,33 +68,9 @@ pub(crate) fn are_same_parts(first: &Node<'_>, second: &Node<'_>) -> bool
                 front: others,
                 end: other,
             },
-        ) => is_same_end(*end, *other) && are_same_numbers(front, others),
+        ) => *end == *other && *front == *others,
         _ => false,
     }
-}
-
-fn is_same_end(first: NodeEnd, second: NodeEnd) -> bool
-    ensures { IsTrue result → end_of first ≡ end_of second }
-{
-    match (first, second) {
-        (NodeEnd::Closed, NodeEnd::Closed) | (NodeEnd::Any, NodeEnd::Any) => true,
-        (NodeEnd::Each(rule), NodeEnd::Each(other)) => rule == other,
-        _ => false,
-    }
-}
-
-fn are_same_numbers(first: &[usize], second: &[usize]) -> bool
-    ensures { IsTrue result → first.now ≡ second.now }
-{
-    if first.len() != second.len() {
-        return false;
-    }
-    for i in 0..first.len() {
-        if first[i] != second[i] {
-            return false;
-        }
-    }
-    true
 }
 
 fn is_same_mark(first: FieldMark, second: FieldMark) -> bool

@@ -1,19 +1,16 @@
 // What was found to answer a question, by the questions of its parts.
 use crate::literal::Literal;
-use crate::places::Key;
+use crate::state::Chosen;
+use cs_document::Doc;
 
 /// A document of which the parts are looked for, each with what is asked of it.
 #[derive(Drop)]
 pub(crate) enum Found<'a> {
-    Null,
-    Bool(bool),
-    Int(i64),
-    Text(String),
+    Scalar(Doc),
     List(Vec<Vec<Literal>>),
+    /// The parts behind those with a key of their own are under further keys, which are none of the labels.
     Map {
-        /// The keys of the first parts. The other ones are under further keys, which are none of the labels.
-        keys: Vec<Key<'a>>,
-        parts: Vec<Vec<Literal>>,
+        chosen: Chosen<'a>,
         labels: Vec<&'a str>,
     },
 }
@@ -22,9 +19,9 @@ impl Found<'_> {
     /// What is asked of each of its parts.
     pub(crate) fn parts(&self) -> &[Vec<Literal>] {
         match self {
-            Found::Null | Found::Bool(_) | Found::Int(_) | Found::Text(_) => &[],
+            Found::Scalar(_) => &[],
             Found::List(parts) => parts,
-            Found::Map { parts, .. } => parts,
+            Found::Map { chosen, .. } => &chosen.parts,
         }
     }
 }

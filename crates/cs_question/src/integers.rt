@@ -1,11 +1,10 @@
 // The integers that rules compare with, and one that is all that is asked.
-ghost use Rattle.std.specs.Prelude.{◌≡◌, ◌++◌, ℤ, [], false, List, FitsSigned, IfOk, IsNone, OnOk};
+ghost use Rattle.std.specs.Prelude.{◌≡◌, ℤ, [], false, FitsSigned, IfOk, IsNone, OnOk};
 ghost use Rattle.std.specs.Int.{w64};
 ghost use Rattle.cs_document.specs.Opened.{an_integer};
 ghost use Rattle.cs_package.specs.Expression.{range};
 ghost use Rattle.cs_package.specs.View.{expression_of};
 ghost use Rattle.cs_instance.specs.Steps.{test_of};
-ghost use Rattle.cs_instance.specs.Told.{IsTold};
 ghost use Rattle.cs_question.specs.Outlines.{may_all, AreMarked, IsToldBy, HasMore, IsNoneBeside, IsOneMarked};
 
 use crate::literal::Literal;
@@ -21,10 +20,7 @@ fn mark_range(marks: &mut Vec<i64>, least: i64, greatest: Option<i64>) -> Result
 {
     marks.push(least)?;
     match greatest {
-        Some(limit) => {
-            marks.push(limit)?;
-            Ok(())
-        }
+        Some(limit) => Ok(marks.push(limit)?),
         None => Ok(()),
     }
 }
@@ -35,10 +31,7 @@ fn mark_shape(marks: &mut Vec<i64>, shape: &Shape) -> Result<(), AllocError>
     ensures more { OnOk result (HasMore marks.old.items marks.new.items) }
 {
     match shape.comparison() {
-        Comparison::Integer(integer) => {
-            marks.push(integer)?;
-            Ok(())
-        }
+        Comparison::Integer(integer) => Ok(marks.push(integer)?),
         Comparison::Range { least, greatest } => mark_range(marks, least, greatest),
         Comparison::Nothing | Comparison::Text(_) => Ok(()),
     }
@@ -56,10 +49,10 @@ fn mark(marks: &mut Vec<i64>, nodes: &Nodes<'_>, literal: Literal) -> Result<(),
 }
 
 /// The integers that rules compare with.
-fn marks_of(alloc: Global, nodes: &Nodes<'_>, asked: &[Literal]) -> Result<Vec<i64>, AllocError>
+fn marks_of(nodes: &Nodes<'_>, asked: &[Literal]) -> Result<Vec<i64>, AllocError>
     ensures { IfOk result (λ v. AreMarked nodes.now asked.now v.items) }
 {
-    let mut marks = Vec::new(alloc);
+    let mut marks = Vec::new(nodes.alloc);
     for literal in asked {
         mark(&mut marks, nodes, *literal)?;
     }
@@ -90,18 +83,14 @@ fn beside(nodes: &Nodes<'_>, asked: &[Literal], mark: i64) -> Option<i64>
 }
 
 /// An integer that is all that is asked: between two neighbouring marks all are alike.
-pub(crate) fn integer_of(
-    alloc: Global,
-    nodes: &Nodes<'_>,
-    asked: &[Literal],
-) -> Result<Option<i64>, AllocError>
+pub(crate) fn integer_of(nodes: &Nodes<'_>, asked: &[Literal]) -> Result<Option<i64>, AllocError>
     ensures { IfOk result (λ o. IsNone o → (z : ℤ) → FitsSigned w64 z
         → may_all nodes.now (an_integer z) asked.now ≡ false) }
 {
     if may_be(nodes, asked, 0) {
         return Ok(Some(0));
     }
-    let marks = marks_of(alloc, nodes, asked)?;
+    let marks = marks_of(nodes, asked)?;
     for mark in &marks {
         let found = beside(nodes, asked, *mark);
         if found.is_some() {

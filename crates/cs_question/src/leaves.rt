@@ -14,38 +14,34 @@ use crate::nodes::Nodes;
 use crate::scalars::may_meet_all;
 use crate::table::Table;
 use crate::texts::text_of;
+use cs_document::Doc;
 use cs_flat::Item;
 use std::alloc::{AllocError, Global};
 
 /// A scalar that is all that is asked.
-fn scalar_of<'a>(
-    alloc: Global,
-    nodes: &Nodes<'_>,
-    asked: &[Literal],
-) -> Result<Option<Found<'a>>, AllocError>
+fn scalar_of<'a>(nodes: &Nodes<'_>, asked: &[Literal]) -> Result<Option<Found<'a>>, AllocError>
     ensures { IfOk result (λ o. IsNone o → NoScalar nodes.now asked.now) }
 {
     if may_meet_all(nodes, asked, &Item::Null) {
-        return Ok(Some(Found::Null));
+        return Ok(Some(Found::Scalar(Doc::Null)));
     }
     if may_meet_all(nodes, asked, &Item::Bool(false)) {
-        return Ok(Some(Found::Bool(false)));
+        return Ok(Some(Found::Scalar(Doc::Bool(false))));
     }
     if may_meet_all(nodes, asked, &Item::Bool(true)) {
-        return Ok(Some(Found::Bool(true)));
+        return Ok(Some(Found::Scalar(Doc::Bool(true))));
     }
-    if let Some(integer) = integer_of(alloc, nodes, asked)? {
-        return Ok(Some(Found::Int(integer)));
+    if let Some(integer) = integer_of(nodes, asked)? {
+        return Ok(Some(Found::Scalar(Doc::Int(integer))));
     }
-    match text_of(alloc, nodes, asked)? {
-        Some(text) => Ok(Some(Found::Text(text))),
+    match text_of(nodes, asked)? {
+        Some(text) => Ok(Some(Found::Scalar(Doc::Text(text)))),
         None => Ok(None),
     }
 }
 
 /// A document that is all that is asked.
 pub(crate) fn document_of<'a>(
-    alloc: Global,
     nodes: &Nodes<'a>,
     table: &Table<'_>,
     asked: &[Literal],
@@ -53,13 +49,13 @@ pub(crate) fn document_of<'a>(
 ) -> Result<Option<Found<'a>>, SearchFault>
     ensures { IfOk result (λ o. IsNone o → NoDocument nodes.now table.now asked.now) }
 {
-    let scalar = scalar_of(alloc, nodes, asked)?;
+    let scalar = scalar_of(nodes, asked)?;
     if scalar.is_some() {
         return Ok(scalar);
     }
-    let list = list_of(alloc, nodes, table, asked, effort)?;
+    let list = list_of(nodes, table, asked, effort)?;
     if list.is_some() {
         return Ok(list);
     }
-    map_of(alloc, nodes, table, asked, effort)
+    map_of(nodes, table, asked, effort)
 }

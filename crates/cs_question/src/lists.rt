@@ -6,7 +6,7 @@ ghost use Rattle.cs_instance.specs.Constraint.{elements_hold};
 ghost use Rattle.cs_question.specs.Asked.{meets, meets_all};
 ghost use Rattle.cs_question.specs.Elements.{element_at, element_behind, fits, IsFrom, NoLength};
 ghost use Rattle.cs_question.specs.Nodes.{Judgement, IsMeaning, end_of};
-ghost use Rattle.cs_question.specs.Spread.{HoldsPlace, HoldsPlaces, HoldsFurther, IsFurther, AreTaken, AddsWays, spread_list};
+ghost use Rattle.cs_question.specs.Spread.{HoldsPlace, HoldsPlaces, IsFurther, AreTaken, AddsWays, spread_list};
 ghost use Rattle.cs_question.specs.Truth.{NoList, IsInner};
 
 use crate::choice::choice;
@@ -129,7 +129,6 @@ fn ask_place(
 
 /// What the rules that are met ask of the element at a place, or of each one from there on.
 fn asked_at(
-    alloc: Global,
     nodes: &Nodes<'_>,
     asked: &[Literal],
     place: usize,
@@ -141,7 +140,7 @@ fn asked_at(
 {
     let mut further = Further {
         is_barred: false,
-        asked: Vec::new(alloc),
+        asked: Vec::new(nodes.alloc),
     };
     for literal in asked {
         ask_place(&mut further, nodes, *literal, place, is_behind)?;
@@ -149,18 +148,13 @@ fn asked_at(
     Ok(further)
 }
 
-fn place_of<'a>(
-    alloc: Global,
-    nodes: &Nodes<'_>,
-    asked: &[Literal],
-    place: usize,
-) -> Result<Place<'a>, AllocError>
+fn place_of<'a>(nodes: &Nodes<'_>, asked: &[Literal], place: usize) -> Result<Place<'a>, AllocError>
     ensures { IfOk result (λ p. (J : Judgement) (n : ℕ) (ds : Documents) (count : ℕ) → IsMeaning nodes.now J
         → meets_all J (list ds) asked.now ≡ true → AllByRecursion (IsInner n) (elements ds)
         → place < count → count ≤ length (elements ds)
         → HoldsPlace J n (spread_list count (elements ds)) p) }
 {
-    let Further { is_barred, asked } = asked_at(alloc, nodes, asked, place, false)?;
+    let Further { is_barred, asked } = asked_at(nodes, asked, place, false)?;
     Ok(Place {
         key: Key::Index(place),
         is_needed: true,
@@ -170,7 +164,6 @@ fn place_of<'a>(
 }
 
 fn places_of<'a>(
-    alloc: Global,
     nodes: &Nodes<'_>,
     asked: &[Literal],
     count: usize,
@@ -179,9 +172,9 @@ fn places_of<'a>(
         → meets_all J (list ds) asked.now ≡ true → AllByRecursion (IsInner n) (elements ds)
         → count ≤ length (elements ds) → HoldsPlaces J n (spread_list count (elements ds)) v.items) }
 {
-    let mut places = Vec::with_capacity(alloc, count)?;
+    let mut places = Vec::with_capacity(nodes.alloc, count)?;
     for place in 0..count {
-        places.push(place_of(alloc, nodes, asked, place)?)?;
+        places.push(place_of(nodes, asked, place)?)?;
     }
     Ok(places)
 }
@@ -211,8 +204,7 @@ fn add_way<'a>(
     } else {
         Way::Behind(more)
     };
-    ways.push(way)?;
-    Ok(())
+    Ok(ways.push(way)?)
 }
 
 /// The ways in which a list of at least so many elements, which a literal's front doesn't have more of, fails to meet it.
@@ -245,7 +237,6 @@ fn list_ways<'a>(
 
 /// Adds the ways to fail of one rule that isn't met, unless it asks for more elements.
 fn add_rule<'a>(
-    alloc: Global,
     rules: &mut Vec<Vec<Way<'a>>>,
     nodes: &Nodes<'_>,
     literal: Literal,
@@ -265,13 +256,11 @@ fn add_rule<'a>(
     if front.len() > count {
         return Ok(());
     }
-    rules.push(list_ways(alloc, literal, front, *end, count)?)?;
-    Ok(())
+    Ok(rules.push(list_ways(nodes.alloc, literal, front, *end, count)?)?)
 }
 
 /// The ways to fail of each rule that isn't met, but for those that ask for more elements.
 fn rules_of<'a>(
-    alloc: Global,
     nodes: &Nodes<'_>,
     asked: &[Literal],
     count: usize,
@@ -280,9 +269,9 @@ fn rules_of<'a>(
         → meets_all J (list ds) asked.now ≡ true → count ≤ length (elements ds)
         → AllByRecursion (λ w. AreTaken J (spread_list count (elements ds)) w.items) v.items) }
 {
-    let mut rules = Vec::new(alloc);
+    let mut rules = Vec::new(nodes.alloc);
     for literal in asked {
-        add_rule(alloc, &mut rules, nodes, *literal, count)?;
+        add_rule(&mut rules, nodes, *literal, count)?;
     }
     Ok(rules)
 }
@@ -295,7 +284,6 @@ fn cost_of_places(asked: &[Literal], count: usize) -> usize {
 
 /// A list of that length that is all that is asked.
 fn list_of_length<'a>(
-    alloc: Global,
     nodes: &Nodes<'a>,
     table: &Table<'_>,
     asked: &[Literal],
@@ -308,13 +296,13 @@ fn list_of_length<'a>(
         return Ok(None);
     }
     effort.take(cost_of_places(asked, count))?;
-    let places = places_of(alloc, nodes, asked, count)?;
+    let places = places_of(nodes, asked, count)?;
     let further = Further {
         is_barred: true,
-        asked: Vec::new(alloc),
+        asked: Vec::new(effort.alloc),
     };
-    let rules = rules_of(alloc, nodes, asked, count)?;
-    match choice(alloc, table, &places, &further, &rules, effort)? {
+    let rules = rules_of(nodes, asked, count)?;
+    match choice(table, &places, &further, &rules, effort)? {
         None => Ok(None),
         Some(Chosen { parts, .. }) => Ok(Some(Found::List(parts))),
     }
@@ -322,7 +310,6 @@ fn list_of_length<'a>(
 
 /// A list that is longer than so many elements, as many as the longest front has, that is all that is asked.
 fn longer_list<'a>(
-    alloc: Global,
     nodes: &Nodes<'a>,
     table: &Table<'_>,
     asked: &[Literal],
@@ -332,11 +319,11 @@ fn longer_list<'a>(
     ensures { IfOk result (λ o. IsNone o → NoLength nodes.now table.now asked.now (λ m. count < m)) }
 {
     effort.take(cost_of_places(asked, count))?;
-    let places = places_of(alloc, nodes, asked, count)?;
-    let further = asked_at(alloc, nodes, asked, count, true)?;
-    let mut rules = rules_of(alloc, nodes, asked, count)?;
-    rules.push(any_behind(alloc)?)?;
-    match choice(alloc, table, &places, &further, &rules, effort)? {
+    let places = places_of(nodes, asked, count)?;
+    let further = asked_at(nodes, asked, count, true)?;
+    let mut rules = rules_of(nodes, asked, count)?;
+    rules.push(any_behind(effort.alloc)?)?;
+    match choice(table, &places, &further, &rules, effort)? {
         None => Ok(None),
         Some(Chosen { parts, .. }) => Ok(Some(Found::List(parts))),
     }
@@ -354,7 +341,6 @@ fn any_behind<'a>(alloc: Global) -> Result<Vec<Way<'a>>, AllocError>
 
 /// A list of that length or a shorter one that is all that is asked.
 fn shorter_list<'a>(
-    alloc: Global,
     nodes: &Nodes<'a>,
     table: &Table<'_>,
     asked: &[Literal],
@@ -364,17 +350,16 @@ fn shorter_list<'a>(
     ensures { IfOk result (λ o. IsNone o → NoLength nodes.now table.now asked.now (λ m. m ≤ count)) }
 {
     for length in 0..count {
-        let found = list_of_length(alloc, nodes, table, asked, length, effort)?;
+        let found = list_of_length(nodes, table, asked, length, effort)?;
         if found.is_some() {
             return Ok(found);
         }
     }
-    list_of_length(alloc, nodes, table, asked, count, effort)
+    list_of_length(nodes, table, asked, count, effort)
 }
 
 /// A list that is all that is asked.
 pub(crate) fn list_of<'a>(
-    alloc: Global,
     nodes: &Nodes<'a>,
     table: &Table<'_>,
     asked: &[Literal],
@@ -386,9 +371,9 @@ pub(crate) fn list_of<'a>(
         return Ok(None);
     }
     let front = longest_front(nodes, asked);
-    let found = shorter_list(alloc, nodes, table, asked, front, effort)?;
+    let found = shorter_list(nodes, table, asked, front, effort)?;
     if found.is_some() {
         return Ok(found);
     }
-    longer_list(alloc, nodes, table, asked, front, effort)
+    longer_list(nodes, table, asked, front, effort)
 }

@@ -25,11 +25,7 @@ pub(crate) struct Literal {
 pub(crate) fn part_of(literal: Literal, rule: usize) -> Literal
     ensures { result ≡ record literal { rule = rule } }
 {
-    Literal {
-        side: literal.side,
-        rule,
-        holds: literal.holds,
-    }
+    Literal { rule, ..literal }
 }
 
 /// A rule that is to be met.
@@ -39,14 +35,12 @@ pub(crate) fn met(alloc: Global, rule: usize) -> Result<Vec<Literal>, AllocError
         → list_all p v.items ≡ true) }
 {
     let mut asked = Vec::new(alloc);
-    add(
-        &mut asked,
-        Literal {
-            side: Side::Admitting,
-            rule,
-            holds: true,
-        },
-    )?;
+    let literal = Literal {
+        side: Side::Admitting,
+        rule,
+        holds: true,
+    };
+    add(&mut asked, literal)?;
     Ok(asked)
 }
 
@@ -57,10 +51,7 @@ pub(crate) fn add(asked: &mut Vec<Literal>, literal: Literal) -> Result<(), Allo
 {
     match asked.binary_search(&literal) {
         Ok(_) => Ok(()),
-        Err(place) => {
-            asked.insert(place, literal)?;
-            Ok(())
-        }
+        Err(place) => Ok(asked.insert(place, literal)?),
     }
 }
 
@@ -74,13 +65,10 @@ pub(crate) fn with(
         → IfSome more (λ l. p l ≡ true) → list_all p v.items ≡ true) }
 {
     let mut all = Vec::from_slice(alloc, asked)?;
-    match more {
-        None => Ok(all),
-        Some(literal) => {
-            add(&mut all, literal)?;
-            Ok(all)
-        }
+    if let Some(literal) = more {
+        add(&mut all, literal)?;
     }
+    Ok(all)
 }
 
 /// The same without the one at a place.
@@ -100,23 +88,9 @@ pub(crate) fn without(
     Ok(rest)
 }
 
-fn is_same(first: Literal, second: Literal) -> bool
-    ensures { IsTrue result → first ≡ second }
-{
-    first.side == second.side && first.rule == second.rule && first.holds == second.holds
-}
-
 /// Whether the same is asked, in the same order.
 pub(crate) fn are_same(first: &[Literal], second: &[Literal]) -> bool
     ensures { IsTrue result → first.now ≡ second.now }
 {
-    if first.len() != second.len() {
-        return false;
-    }
-    for i in 0..first.len() {
-        if !is_same(first[i], second[i]) {
-            return false;
-        }
-    }
-    true
+    first == second
 }

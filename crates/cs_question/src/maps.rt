@@ -1,12 +1,12 @@
 // A map that is all that is asked.
-ghost use Rattle.std.specs.Prelude.{◌≡◌, ◌≤◌, ℕ, [], List, true, false, map, Contains, IfOk, IsNone, OnOk};
+ghost use Rattle.std.specs.Prelude.{◌≡◌, ◌≤◌, ℕ, [], true, false, map, Contains, IfOk, IsNone, OnOk};
 ghost use Rattle.std.specs.List.{AllByRecursion};
 ghost use Rattle.cs_document.specs.Document.{Document, Members, Entry, object, AreMembers, depth, entries};
 ghost use Rattle.cs_instance.specs.Constraint.{fields_hold};
 ghost use Rattle.cs_instance.specs.Steps.{field_of};
 ghost use Rattle.cs_question.specs.Asked.{meets, meets_all};
 ghost use Rattle.cs_question.specs.Nodes.{Judgement, IsMeaning};
-ghost use Rattle.cs_question.specs.Spread.{HoldsPlaces, HoldsFurther, IsFurther, AreTaken, is_among, spread_map};
+ghost use Rattle.cs_question.specs.Spread.{HoldsPlaces, HoldsFurther, IsFurther, AreTaken, FailsBy, is_among, spread_map};
 ghost use Rattle.cs_question.specs.Truth.{NoMap};
 
 use crate::choice::choice;
@@ -18,19 +18,14 @@ use crate::literal::Literal;
 use crate::nodes::{Node, Nodes};
 use crate::places::{Further, Key, Place, Way};
 use crate::scalars::may_meet_all;
-use crate::state::Chosen;
 use crate::table::Table;
 use cs_flat::Item;
 use cs_instance::Fields;
 use std::alloc::{AllocError, Global};
 
 /// The labels that the rules declare, in order, each once.
-fn labels_of<'a>(
-    alloc: Global,
-    nodes: &Nodes<'a>,
-    asked: &[Literal],
-) -> Result<Vec<&'a str>, AllocError> {
-    let mut labels = Vec::new(alloc);
+fn labels_of<'a>(nodes: &Nodes<'a>, asked: &[Literal]) -> Result<Vec<&'a str>, AllocError> {
+    let mut labels = Vec::new(nodes.alloc);
     for literal in asked {
         add_labels(&mut labels, nodes, *literal)?;
     }
@@ -45,11 +40,10 @@ fn add_labels<'a>(
     nodes: &Nodes<'a>,
     literal: Literal,
 ) -> Result<(), AllocError> {
-    let Some(Node::Struct { fields, .. }) = nodes.of(literal) else {
-        return Ok(());
-    };
-    for field in &fields.all {
-        labels.push(field.label)?;
+    if let Some(Node::Struct { fields, .. }) = nodes.of(literal) {
+        for field in &fields.all {
+            labels.push(field.label)?;
+        }
     }
     Ok(())
 }
@@ -96,7 +90,6 @@ fn ask_places<'a>(
 
 /// What the rules that are met ask of the places of the labels.
 fn places_of<'a>(
-    alloc: Global,
     nodes: &Nodes<'a>,
     asked: &[Literal],
     labels: &[&'a str],
@@ -105,7 +98,7 @@ fn places_of<'a>(
         → AreMembers ms → depth (object ms) ≤ n → meets_all J (object ms) asked.now ≡ true
         → HoldsPlaces J n (spread_map labels.now (entries ms)) v.items) }
 {
-    let mut places = empty_places(alloc, labels)?;
+    let mut places = empty_places(nodes.alloc, labels)?;
     for literal in asked {
         ask_places(&mut places, nodes, labels, *literal)?;
     }
@@ -136,19 +129,14 @@ fn ask_rest(
 }
 
 /// What the rules that are met ask of keys that are none of their labels.
-fn further_of(
-    alloc: Global,
-    nodes: &Nodes<'_>,
-    labels: &[&str],
-    asked: &[Literal],
-) -> Result<Further, AllocError>
+fn further_of(nodes: &Nodes<'_>, labels: &[&str], asked: &[Literal]) -> Result<Further, AllocError>
     ensures { IfOk result (λ f. (J : Judgement) (n : ℕ) (ms : Members) → IsMeaning nodes.now J
         → AreMembers ms → depth (object ms) ≤ n → meets_all J (object ms) asked.now ≡ true
         → HoldsFurther J n (spread_map labels.now (entries ms)) f) }
 {
     let mut further = Further {
         is_barred: false,
-        asked: Vec::new(alloc),
+        asked: Vec::new(nodes.alloc),
     };
     for literal in asked {
         ask_rest(&mut further, nodes, labels, *literal)?;
@@ -165,9 +153,8 @@ fn struct_ways<'a>(
     opened: bool,
 ) -> Result<Vec<Way<'a>>, AllocError>
     requires { literal.holds ≡ false }
-    ensures { IfOk result (λ v. (J : Judgement) (ms : Members) → AreMembers ms
-        → fields_hold (λ y p. J literal.side p y) (map field_of fields.now.all.items) opened (entries ms) ≡ false
-        → AreTaken J (spread_map labels.now (entries ms)) v.items) }
+    ensures { IfOk result (λ v. FailsBy labels.now v.items (λ J ms.
+        fields_hold (λ y p. J literal.side p y) (map field_of fields.now.all.items) opened ms ≡ false)) }
 {
     let mut ways = Vec::new(alloc);
     for field in &fields.all {
@@ -181,7 +168,6 @@ fn struct_ways<'a>(
 
 /// Adds the ways to fail of one rule that isn't met.
 fn add_rule<'a>(
-    alloc: Global,
     rules: &mut Vec<Vec<Way<'a>>>,
     nodes: &Nodes<'a>,
     labels: &[&'a str],
@@ -198,13 +184,11 @@ fn add_rule<'a>(
     let Some(Node::Struct { fields, opened }) = nodes.of(literal) else {
         return Ok(());
     };
-    rules.push(struct_ways(alloc, labels, literal, fields, *opened)?)?;
-    Ok(())
+    Ok(rules.push(struct_ways(nodes.alloc, labels, literal, fields, *opened)?)?)
 }
 
 /// The ways to fail of each rule that isn't met.
 fn rules_of<'a>(
-    alloc: Global,
     nodes: &Nodes<'a>,
     asked: &[Literal],
     labels: &[&'a str],
@@ -213,16 +197,15 @@ fn rules_of<'a>(
         → meets_all J (object ms) asked.now ≡ true
         → AllByRecursion (λ w. AreTaken J (spread_map labels.now (entries ms)) w.items) v.items) }
 {
-    let mut rules = Vec::new(alloc);
+    let mut rules = Vec::new(nodes.alloc);
     for literal in asked {
-        add_rule(alloc, &mut rules, nodes, labels, *literal)?;
+        add_rule(&mut rules, nodes, labels, *literal)?;
     }
     Ok(rules)
 }
 
 /// A map that is all that is asked.
 pub(crate) fn map_of<'a>(
-    alloc: Global,
     nodes: &Nodes<'a>,
     table: &Table<'_>,
     asked: &[Literal],
@@ -233,16 +216,12 @@ pub(crate) fn map_of<'a>(
     if !may_meet_all(nodes, asked, &Item::Object(&[])) {
         return Ok(None);
     }
-    let labels = labels_of(alloc, nodes, asked)?;
-    let places = places_of(alloc, nodes, asked, &labels)?;
-    let further = further_of(alloc, nodes, &labels, asked)?;
-    let rules = rules_of(alloc, nodes, asked, &labels)?;
-    match choice(alloc, table, &places, &further, &rules, effort)? {
+    let labels = labels_of(nodes, asked)?;
+    let places = places_of(nodes, asked, &labels)?;
+    let further = further_of(nodes, &labels, asked)?;
+    let rules = rules_of(nodes, asked, &labels)?;
+    match choice(table, &places, &further, &rules, effort)? {
         None => Ok(None),
-        Some(Chosen { keys, parts }) => Ok(Some(Found::Map {
-            keys,
-            parts,
-            labels,
-        })),
+        Some(chosen) => Ok(Some(Found::Map { chosen, labels })),
     }
 }

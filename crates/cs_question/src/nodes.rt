@@ -23,7 +23,7 @@ pub(crate) enum Node<'a> {
 }
 
 /// What follows the fixed elements of a list: nothing, anything, or instances of a rule.
-#[derive(Clone, Copy)]
+#[derive(Clone, Copy, PartialEq, Eq, PartialOrd, Ord)]
 pub(crate) enum NodeEnd {
     Closed,
     Any,
@@ -33,6 +33,7 @@ pub(crate) enum NodeEnd {
 /// The rules of both sides.
 #[derive(Drop)]
 pub(crate) struct Nodes<'a> {
+    pub(crate) alloc: Global,
     pub(crate) admitting: Vec<Node<'a>>,
     pub(crate) refusing: Vec<Node<'a>>,
 }
@@ -59,10 +60,7 @@ impl<'a> Nodes<'a> {
 fn number_at(inner: &[usize], place: usize) -> usize
     ensures { result ≡ slice_index inner.now place }
 {
-    match inner.get(place) {
-        Some(number) => *number,
-        None => 0,
-    }
+    inner.get(place).copied().unwrap_or(0)
 }
 
 fn numbers_at(alloc: Global, inner: &[usize], places: &[usize]) -> Result<Vec<usize>, AllocError>

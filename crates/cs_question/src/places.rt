@@ -6,7 +6,7 @@ use crate::literal::Literal;
 use std::alloc::{AllocError, Global};
 
 /// A key of a map, or a place in a list.
-#[derive(Clone, Copy)]
+#[derive(Clone, Copy, PartialEq, Eq)]
 pub(crate) enum Key<'a> {
     Label(&'a str),
     Index(usize),
@@ -16,16 +16,7 @@ pub(crate) enum Key<'a> {
 pub(crate) fn is_same(first: Key<'_>, second: Key<'_>) -> bool
     ensures { IsTrue result → name_of first.entry ≡ name_of second.entry }
 {
-    match first {
-        Key::Label(label) => match second {
-            Key::Label(other) => label == other,
-            Key::Index(_) => false,
-        },
-        Key::Index(index) => match second {
-            Key::Label(_) => false,
-            Key::Index(other) => index == other,
-        },
-    }
+    first == second
 }
 
 /// A place, what is asked of a value there, and whether there has to be one or can't be one.

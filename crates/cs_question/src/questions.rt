@@ -23,6 +23,9 @@ use cs_guard::Guarded;
 use cs_instance::{NumberedRoot, is_instance, numbered_root};
 use std::alloc::{AllocError, Global};
 
+/// How many pairs of a rule and a value are a step, where the rules judge a document.
+const PAIRS_OF_STEP: usize = 128;
+
 /// A document that is an instance of one root and not of another one, each a definition of its package named with its `#`, and that
 /// its text is read as; none where there is no such document, so each instance of the one is an instance of the other.
 ///
@@ -54,6 +57,7 @@ pub fn separating(
     let first = numbered_root(alloc, admitting, admitting_root)?;
     let second = numbered_root(alloc, refusing, refusing_root)?;
     let nodes = Nodes {
+        alloc,
         admitting: side_of(alloc, &first.numbering.rules, &first.numbering.children)?,
         refusing: side_of(alloc, &second.numbering.rules, &second.numbering.children)?,
     };
@@ -86,18 +90,12 @@ fn document_for(
         return Ok(None);
     }
     let Witness { doc, values } = witness_of(alloc, &table)?;
-    budget.spend(cost_of_judging(nodes, values));
+    budget.spend(nodes.count().saturating_mul(values) / PAIRS_OF_STEP);
     if is_read_again(alloc, &doc)? {
         Ok(Some(doc))
     } else {
         Err(SearchFault::TooManyCases)
     }
-}
-
-/// The steps for a document of so many values that the rules judge.
-fn cost_of_judging(nodes: &Nodes<'_>, values: usize) -> usize {
-    const PAIRS: usize = 128;
-    nodes.count().saturating_mul(values) / PAIRS
 }
 
 /// Whether a document is an instance of the root, or isn't.
@@ -124,14 +122,12 @@ fn both(alloc: Global, first: usize, second: usize) -> Result<Vec<Literal>, Allo
         → list_all p v.items ≡ true) }
 {
     let mut asked = met(alloc, first)?;
-    add(
-        &mut asked,
-        Literal {
-            side: Side::Refusing,
-            rule: second,
-            holds: false,
-        },
-    )?;
+    let unmet = Literal {
+        side: Side::Refusing,
+        rule: second,
+        holds: false,
+    };
+    add(&mut asked, unmet)?;
     Ok(asked)
 }
 
@@ -162,6 +158,7 @@ pub fn instance_of(
         ..
     } = numbered_root(alloc, package, root)?;
     let nodes = Nodes {
+        alloc,
         admitting: side_of(alloc, &numbering.rules, &numbering.children)?,
         refusing: Vec::new(alloc),
     };

@@ -1,12 +1,12 @@
 // Questions to look at, each again when one has an answer that it waits for.
 use std::alloc::{AllocError, Global};
+use std::collections::VecDeque;
 
 /// The places of the questions to look at, and for each question those that wait for its answer.
 #[derive(Drop)]
 pub(crate) struct Queue {
-    places: Vec<usize>,
-    /// How many of them were looked at.
-    done: usize,
+    alloc: Global,
+    places: VecDeque<usize>,
     is_queued: Vec<bool>,
     waiting: Vec<Vec<usize>>,
 }
@@ -14,20 +14,19 @@ pub(crate) struct Queue {
 impl Queue {
     pub(crate) fn new(alloc: Global) -> Queue {
         Queue {
-            places: Vec::new(alloc),
-            done: 0,
+            alloc,
+            places: VecDeque::new(alloc),
             is_queued: Vec::new(alloc),
             waiting: Vec::new(alloc),
         }
     }
 
     /// Puts the question that was added last to the table.
-    pub(crate) fn add(&mut self, alloc: Global) -> Result<(), AllocError> {
+    pub(crate) fn add(&mut self) -> Result<(), AllocError> {
         let place = self.is_queued.len();
-        self.is_queued.push(true)?;
-        self.waiting.push(Vec::new(alloc))?;
-        self.places.push(place)?;
-        Ok(())
+        self.is_queued.push(false)?;
+        self.waiting.push(Vec::new(self.alloc))?;
+        self.put(place)
     }
 
     /// How many questions were added.
@@ -37,28 +36,27 @@ impl Queue {
 
     /// The next one to look at.
     pub(crate) fn next(&mut self) -> Option<usize> {
-        let place = *self.places.get(self.done)?;
-        self.done += 1;
-        if place < self.is_queued.len() {
-            self.is_queued[place] = false;
+        let place = self.places.pop_front()?;
+        if let Some(is_queued) = self.is_queued.get_mut(place) {
+            *is_queued = false;
         }
         Some(place)
     }
 
     /// Lets one question wait for the answer of another one.
     pub(crate) fn wait(&mut self, waiting: usize, awaited: usize) -> Result<(), AllocError> {
-        if awaited < self.waiting.len() {
-            self.waiting[awaited].push(waiting)?;
+        match self.waiting.get_mut(awaited) {
+            Some(all) => Ok(all.push(waiting)?),
+            None => Ok(()),
         }
-        Ok(())
     }
 
     /// Puts those that wait for an answer that is there.
-    pub(crate) fn wake(&mut self, alloc: Global, answered: usize) -> Result<(), AllocError> {
-        if answered >= self.waiting.len() {
+    pub(crate) fn wake(&mut self, answered: usize) -> Result<(), AllocError> {
+        let Some(waiting) = self.waiting.get_mut(answered) else {
             return Ok(());
-        }
-        let woken = std::mem::replace(&mut self.waiting[answered], Vec::new(alloc));
+        };
+        let woken = std::mem::replace(waiting, Vec::new(self.alloc));
         for place in &woken {
             self.put(*place)?;
         }
@@ -66,11 +64,12 @@ impl Queue {
     }
 
     fn put(&mut self, place: usize) -> Result<(), AllocError> {
-        if place >= self.is_queued.len() || self.is_queued[place] {
-            return Ok(());
+        match self.is_queued.get_mut(place) {
+            Some(is_queued) if !*is_queued => {
+                *is_queued = true;
+                Ok(self.places.push_back(place)?)
+            }
+            Some(_) | None => Ok(()),
         }
-        self.is_queued[place] = true;
-        self.places.push(place)?;
-        Ok(())
     }
 }

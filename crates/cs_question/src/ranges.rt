@@ -12,12 +12,8 @@ ghost use Rattle.cs_question.specs.Between.{at_least_or_any, is_between, IsRange
 use crate::nodes::Node;
 use cs_package::{Kind, Relation, Shape};
 
-/// The ends of a range of integers, where it has them.
-#[derive(Clone, Copy)]
-struct Limits {
-    least: Option<i64>,
-    greatest: Option<i64>,
-}
+/// The least and the greatest integer of a range, where it has them.
+type Limits = (Option<i64>, Option<i64>);
 
 fn greater(first: Option<i64>, second: Option<i64>) -> Option<i64>
     ensures { (z : ℤ) → at_least_or_any result z
@@ -43,37 +39,22 @@ fn lesser(first: Option<i64>, second: Option<i64>) -> Option<i64>
 
 /// The limits of what two ranges have in common.
 fn in_both(first: Limits, second: Limits) -> Limits
-    ensures { (z : ℤ) → is_between result.least result.greatest z
-        ≡ is_between first.least first.greatest z && is_between second.least second.greatest z }
+    ensures { (z : ℤ) → is_between result.0 result.1 z
+        ≡ is_between first.0 first.1 z && is_between second.0 second.1 z }
 {
-    Limits {
-        least: greater(first.least, second.least),
-        greatest: lesser(first.greatest, second.greatest),
-    }
+    (greater(first.0, second.0), lesser(first.1, second.1))
 }
 
 /// The limits that a bound sets, where they are integers of 64 bits.
 fn limits_of_bound(relation: Relation, limit: i64) -> Option<Limits>
     ensures { IfSome result (λ l. (z : ℤ) → is_related (relation_of relation) limit z
-        ≡ is_between l.least l.greatest z) }
+        ≡ is_between l.0 l.1 z) }
 {
     match relation {
-        Relation::AtLeast => Some(Limits {
-            least: Some(limit),
-            greatest: None,
-        }),
-        Relation::AtMost => Some(Limits {
-            least: None,
-            greatest: Some(limit),
-        }),
-        Relation::More if limit < i64::MAX => Some(Limits {
-            least: Some(limit + 1),
-            greatest: None,
-        }),
-        Relation::Less if limit > i64::MIN => Some(Limits {
-            least: None,
-            greatest: Some(limit - 1),
-        }),
+        Relation::AtLeast => Some((Some(limit), None)),
+        Relation::AtMost => Some((None, Some(limit))),
+        Relation::More if limit < i64::MAX => Some((Some(limit + 1), None)),
+        Relation::Less if limit > i64::MIN => Some((None, Some(limit - 1))),
         Relation::More | Relation::Less => None,
     }
 }
@@ -81,17 +62,11 @@ fn limits_of_bound(relation: Relation, limit: i64) -> Option<Limits>
 /// The limits of an expression that looks at no part, where it is a range.
 fn limits_of_shape(shape: &Shape) -> Option<Limits>
     ensures { IfSome result (λ l. (o : Outline) → test_of (expression_of [] shape.now) o
-        ≡ is_integer (is_between l.least l.greatest) o) }
+        ≡ is_integer (is_between l.0 l.1) o) }
 {
     match shape {
-        Shape::Kind(Kind::Int | Kind::Number) => Some(Limits {
-            least: None,
-            greatest: None,
-        }),
-        Shape::Range { least, greatest } => Some(Limits {
-            least: Some(*least),
-            greatest: *greatest,
-        }),
+        Shape::Kind(Kind::Int | Kind::Number) => Some((None, None)),
+        Shape::Range { least, greatest } => Some((Some(*least), *greatest)),
         Shape::Bound { relation, limit } => limits_of_bound(*relation, *limit),
         _ => None,
     }
@@ -99,14 +74,11 @@ fn limits_of_shape(shape: &Shape) -> Option<Limits>
 
 /// The limits of a rule, where it is a range.
 fn limits_of(node: &Node<'_>) -> Option<Limits>
-    ensures { IfSome result (λ l. IsRange (asked_of node.now) l.least l.greatest) }
+    ensures { IfSome result (λ l. IsRange (asked_of node.now) l.0 l.1) }
 {
     match node {
         Node::Simple(shape) => limits_of_shape(shape),
-        Node::Within { least, greatest } => Some(Limits {
-            least: Some(*least),
-            greatest: *greatest,
-        }),
+        Node::Within { least, greatest } => Some((Some(*least), *greatest)),
         Node::All(_) | Node::Any(_) | Node::Struct { .. } | Node::List { .. } => None,
     }
 }
@@ -115,27 +87,22 @@ fn limits_of(node: &Node<'_>) -> Option<Limits>
 fn limits_at(nodes: &[Node<'_>], rule: usize) -> Option<Limits>
     ensures { IfSome result (λ l. (J : ℕ → Document → Bool) → IsSide (map asked_of nodes.now) J
         → (x : Document) → J rule x
-        ≡ is_integer (is_between l.least l.greatest) (outline (opened x))) }
+        ≡ is_integer (is_between l.0 l.1) (outline (opened x))) }
 {
-    match nodes.get(rule) {
-        Some(node) => limits_of(node),
-        None => None,
-    }
+    limits_of(nodes.get(rule)?)
 }
 
 /// The limits of what a range has in common with each of these rules, where each of them is a range.
 fn narrowed(nodes: &[Node<'_>], limits: Limits, others: &[usize]) -> Option<Limits>
     ensures { IfSome result (λ l. (J : ℕ → Document → Bool) → IsSide (map asked_of nodes.now) J
         → (x : Document)
-        → (is_integer (is_between limits.least limits.greatest) (outline (opened x))
+        → (is_integer (is_between limits.0 limits.1) (outline (opened x))
         && list_all (λ p. J p x) others.now)
-        ≡ is_integer (is_between l.least l.greatest) (outline (opened x))) }
+        ≡ is_integer (is_between l.0 l.1) (outline (opened x))) }
 {
     let mut all = limits;
     for other in others {
-        let Some(next) = limits_at(nodes, *other) else {
-            return None;
-        };
+        let next = limits_at(nodes, *other)?;
         all = in_both(all, next);
     }
     Some(all)
@@ -145,15 +112,11 @@ fn narrowed(nodes: &[Node<'_>], limits: Limits, others: &[usize]) -> Option<Limi
 fn limits_of_all(nodes: &[Node<'_>], parts: &[usize]) -> Option<Limits>
     ensures { IfSome result (λ l. (J : ℕ → Document → Bool) → IsSide (map asked_of nodes.now) J
         → (x : Document) → list_all (λ p. J p x) parts.now
-        ≡ is_integer (is_between l.least l.greatest) (outline (opened x))) }
+        ≡ is_integer (is_between l.0 l.1) (outline (opened x))) }
 {
-    let Some(first) = parts.first() else {
-        return None;
-    };
-    match limits_at(nodes, *first) {
-        Some(limits) => narrowed(nodes, limits, parts),
-        None => None,
-    }
+    let first = parts.first()?;
+    let limits = limits_at(nodes, *first)?;
+    narrowed(nodes, limits, parts)
 }
 
 /// The rule at a place as one range, where it is a conjunction of ranges that has a least integer.
@@ -165,15 +128,9 @@ fn range_at<'a>(nodes: &[Node<'a>], place: usize) -> Option<Node<'a>>
     let Some(Node::All(parts)) = nodes.get(place) else {
         return None;
     };
-    match limits_of_all(nodes, parts) {
-        Some(
-            Limits {
-                least: Some(least),
-                greatest,
-            },
-        ) => Some(Node::Within { least, greatest }),
-        _ => None,
-    }
+    let (least, greatest) = limits_of_all(nodes, parts)?;
+    let least = least?;
+    Some(Node::Within { least, greatest })
 }
 
 /// Makes a conjunction of ranges at a place one range.

@@ -18,15 +18,13 @@ pub(crate) struct Refused<'n> {
 
 impl<'n> Refused<'n> {
     /// Those among what is asked.
-    pub(crate) fn of(
-        alloc: Global,
-        nodes: &Nodes<'n>,
-        asked: &[Literal],
-    ) -> Result<Refused<'n>, AllocError> {
-        let mut places = BTreeMap::new(alloc);
+    pub(crate) fn of(nodes: &Nodes<'n>, asked: &[Literal]) -> Result<Refused<'n>, AllocError> {
+        let mut places = BTreeMap::new(nodes.alloc);
         for (place, literal) in asked.iter().enumerate() {
-            if let Some(sign) = refused_sign(nodes, *literal) {
-                let _ = places.insert(sign, place)?;
+            if !literal.holds {
+                if let Some(sign) = nodes.of(*literal).and_then(|node| sign_of(node)) {
+                    let _ = places.insert(sign, place)?;
+                }
             }
         }
         Ok(Refused { places })
@@ -54,11 +52,4 @@ impl<'n> Refused<'n> {
             None => false,
         }
     }
-}
-
-fn refused_sign<'n>(nodes: &Nodes<'n>, literal: Literal) -> Option<Sign<'n>> {
-    if literal.holds {
-        return None;
-    }
-    sign_of(nodes.of(literal)?)
 }

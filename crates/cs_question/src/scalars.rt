@@ -1,7 +1,7 @@
 // What rules say of a document by its outline: its kind, and the value of a scalar.
 ghost use Rattle.std.specs.Prelude.{◌≡◌};
 ghost use Rattle.cs_flat.specs.View.{item_view};
-ghost use Rattle.cs_instance.specs.Constraint.{outline, is_integer, is_within};
+ghost use Rattle.cs_instance.specs.Constraint.{outline};
 ghost use Rattle.cs_question.specs.Nodes.{asked_of};
 ghost use Rattle.cs_question.specs.Outlines.{verdict_of, may, may_all};
 
@@ -11,29 +11,19 @@ use cs_flat::Item;
 use cs_instance::holds_simply;
 use cs_package::Shape;
 
-/// Whether a document of that outline is one of the integers from `least` on, up to `greatest` where there is one.
-fn is_within(least: i64, greatest: Option<i64>, item: &Item<'_>) -> bool
-    ensures { result ≡ is_integer (is_within least greatest) (outline (item_view item.now)) }
-{
-    holds_simply(&Shape::Range { least, greatest }, item)
-}
-
 /// Whether a document of that outline meets a rule, where that is seen.
 fn verdict(node: &Node<'_>, item: &Item<'_>) -> Option<bool>
     ensures { result ≡ verdict_of (asked_of node.now) (outline (item_view item.now)) }
 {
-    match node {
-        Node::Simple(shape) => Some(holds_simply(shape, item)),
-        Node::Within { least, greatest } => Some(is_within(*least, *greatest, item)),
-        Node::All(_) | Node::Any(_) => None,
-        Node::Struct { .. } => match item {
-            Item::Object(_) => None,
-            _ => Some(false),
-        },
-        Node::List { .. } => match item {
-            Item::List(_) => None,
-            _ => Some(false),
-        },
+    match (node, item) {
+        (Node::Simple(shape), _) => Some(holds_simply(shape, item)),
+        (Node::Within { least, greatest }, _) => {
+            let (least, greatest) = (*least, *greatest);
+            Some(holds_simply(&Shape::Range { least, greatest }, item))
+        }
+        (Node::All(_) | Node::Any(_), _) => None,
+        (Node::Struct { .. }, Item::Object(_)) | (Node::List { .. }, Item::List(_)) => None,
+        (Node::Struct { .. } | Node::List { .. }, _) => Some(false),
     }
 }
 

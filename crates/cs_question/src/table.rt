@@ -50,20 +50,13 @@ impl<'a> Table<'a> {
     }
 
     /// Where a question is, which is added unless it is there. There may be no room for it.
-    pub(crate) fn ask(
-        &mut self,
-        alloc: Global,
-        asked: Vec<Literal>,
-    ) -> Result<Option<usize>, AllocError> {
+    pub(crate) fn ask(&mut self, asked: Vec<Literal>) -> Result<Option<usize>, AllocError> {
         let known = self.place(&asked);
-        if known.is_some() {
+        let place = self.entries.len();
+        if known.is_some() || place >= MOST_QUESTIONS {
             return Ok(known);
         }
-        let place = self.entries.len();
-        if place >= MOST_QUESTIONS {
-            return Ok(None);
-        }
-        let key = Vec::from_slice(alloc, &asked)?;
+        let key = asked.clone()?;
         self.entries.push(Entry { asked, found: None })?;
         let _ = self.places.insert(key, place)?;
         Ok(Some(place))
@@ -81,23 +74,23 @@ impl<'a> Table<'a> {
     /// Whether a question has no answer, as far as is known.
     pub(crate) fn is_shut(
         &self,
-        asked: Vec<Literal>,
+        asked: &Vec<Literal>,
         effort: &mut Effort,
     ) -> Result<bool, AllocError>
         ensures { IfOk result (λ b. IsTrue b → self.now.is_final ≡ true
-            → IsShut self.now.entries.items asked.items) }
+            → IsShut self.now.entries.items asked.now.items) }
     {
         effort.look(asked.len());
-        match self.places.get(&asked) {
+        match self.place(asked) {
             Some(place) => {
-                let is_shut = self.is_shut_at(*place, &asked);
+                let is_shut = self.is_shut_at(place, asked);
                 if is_shut && effort.asks_all {
-                    effort.unanswered.push(*place)?;
+                    effort.unanswered.push(place)?;
                 }
                 Ok(is_shut)
             }
             None => {
-                effort.wanted.push(asked)?;
+                effort.wanted.push(asked.clone()?)?;
                 Ok(!self.is_final)
             }
         }

@@ -31,23 +31,16 @@ fn mark<'a>(marks: &mut Vec<&'a str>, nodes: &Nodes<'a>, literal: Literal) -> Re
         return Ok(());
     };
     match mark_of(shape) {
-        Some(text) => {
-            marks.push(text)?;
-            Ok(())
-        }
+        Some(text) => Ok(marks.push(text)?),
         None => Ok(()),
     }
 }
 
 /// The texts that rules compare with.
-fn marks_of<'a>(
-    alloc: Global,
-    nodes: &Nodes<'a>,
-    asked: &[Literal],
-) -> Result<Vec<&'a str>, AllocError>
+fn marks_of<'a>(nodes: &Nodes<'a>, asked: &[Literal]) -> Result<Vec<&'a str>, AllocError>
     ensures { IfOk result (λ v. AreMarkedTexts nodes.now asked.now v.items) }
 {
-    let mut marks = Vec::new(alloc);
+    let mut marks = Vec::new(nodes.alloc);
     for literal in asked {
         mark(&mut marks, nodes, *literal)?;
     }
@@ -79,21 +72,17 @@ pub(crate) fn other_text(alloc: Global, marks: &[&str]) -> Result<String, AllocE
 }
 
 /// A text that is all that is asked: one that rules compare with, or one that is none of these.
-pub(crate) fn text_of(
-    alloc: Global,
-    nodes: &Nodes<'_>,
-    asked: &[Literal],
-) -> Result<Option<String>, AllocError>
+pub(crate) fn text_of(nodes: &Nodes<'_>, asked: &[Literal]) -> Result<Option<String>, AllocError>
     ensures { IfOk result (λ o. IsNone o → (t : List ℕ)
         → may_all nodes.now (a_text t) asked.now ≡ false) }
 {
-    let marks = marks_of(alloc, nodes, asked)?;
+    let marks = marks_of(nodes, asked)?;
     for mark in &marks {
         if may_meet_all(nodes, asked, &Item::Text(*mark)) {
-            return Ok(Some(String::from_str(alloc, *mark)?));
+            return Ok(Some(String::from_str(nodes.alloc, *mark)?));
         }
     }
-    let other = other_text(alloc, &marks)?;
+    let other = other_text(nodes.alloc, &marks)?;
     if may_meet_all(nodes, asked, &Item::Text(other.as_str())) {
         return Ok(Some(other));
     }

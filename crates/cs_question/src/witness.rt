@@ -3,6 +3,7 @@ use crate::fault::SearchFault;
 use crate::found::Found;
 use crate::literal::Literal;
 use crate::places::Key;
+use crate::state::Chosen;
 use crate::table::Table;
 use crate::texts::other_text;
 use cs_document::Doc;
@@ -56,15 +57,14 @@ fn joined(first: Extent, second: Extent) -> Extent {
 
 fn extent_found(table: &Table<'_>, extents: &[Extent], found: &Found<'_>) -> Extent {
     let mut all = match found {
-        Found::Null | Found::Bool(_) | Found::Int(_) | Found::Text(_) => SCALAR,
+        Found::Scalar(_) => SCALAR,
         Found::List(_) | Found::Map { .. } => EMPTY,
     };
     for part in found.parts() {
-        let extent = match table.place(part) {
-            Some(place) => extents.get(place).copied().unwrap_or(ENDLESS),
-            None => ENDLESS,
-        };
-        all = joined(all, extent);
+        let extent = table
+            .place(part)
+            .and_then(|place| extents.get(place).copied());
+        all = joined(all, extent.unwrap_or(ENDLESS));
     }
     all
 }
@@ -111,78 +111,66 @@ fn uses_of(alloc: Global, table: &Table<'_>) -> Result<Vec<usize>, AllocError> {
 }
 
 fn is_used(uses: &[usize], place: usize) -> bool {
-    match uses.get(place) {
-        Some(times) => *times > 0,
-        None => false,
-    }
+    uses.get(place).is_some_and(|times| *times > 0)
 }
 
-/// The documents that were made so far, and how many times each is still used. One that isn't used any more is kept no longer, so that
-/// what is kept beside a document is no larger than its parts.
+/// The documents that were made so far for the questions of a table, and how many times each is still used. One that isn't used any
+/// more is kept no longer, so that what is kept beside a document is no larger than its parts.
 #[derive(Drop)]
-struct Making {
-    docs: Vec<Option<Doc>>,
+struct Making<'t, 'a> {
+    alloc: Global,
+    table: &'t Table<'a>,
+    docs: BTreeMap<usize, Doc>,
     uses: Vec<usize>,
 }
 
-impl Making {
+impl Making<'_, '_> {
     /// The document that was made for the question at a place: itself at its last use, and before that a copy.
-    fn take(&mut self, alloc: Global, place: usize) -> Result<Doc, SearchFault> {
-        let is_last = self.use_up(place);
-        let Some(made) = self.docs.get_mut(place) else {
-            return Err(SearchFault::TooManyCases);
-        };
-        let doc = if is_last {
-            made.take()
-        } else {
-            copy_of(alloc, made)?
-        };
-        doc.ok_or(SearchFault::TooManyCases)
+    fn take(&mut self, place: usize) -> Result<Doc, SearchFault> {
+        if let Some(times) = self.uses.get_mut(place) {
+            *times = times.saturating_sub(1);
+        }
+        if is_used(&self.uses, place) {
+            if let Some(doc) = self.docs.get(&place) {
+                return Ok(doc.copy(self.alloc)?);
+            }
+        }
+        self.docs.remove(&place).ok_or(SearchFault::TooManyCases)
     }
 
-    /// Counts a use of the document at a place, and answers whether it is the last one.
-    fn use_up(&mut self, place: usize) -> bool {
-        match self.uses.get_mut(place) {
-            Some(times) => {
-                *times = times.saturating_sub(1);
-                *times == 0
-            }
-            None => true,
+    /// The document that was made for a question.
+    fn made(&mut self, asked: &Vec<Literal>) -> Result<Doc, SearchFault> {
+        match self.table.place(asked) {
+            Some(place) => self.take(place),
+            None => Err(SearchFault::TooManyCases),
         }
     }
-}
 
-fn copy_of(alloc: Global, made: &Option<Doc>) -> Result<Option<Doc>, SearchFault> {
-    match made {
-        Some(doc) => Ok(Some(doc.copy(alloc)?)),
-        None => Ok(None),
+    fn list_of(&mut self, parts: &[Vec<Literal>]) -> Result<Doc, SearchFault> {
+        let mut elements = Vec::with_capacity(self.alloc, parts.len())?;
+        for part in parts {
+            elements.push(self.made(part)?)?;
+        }
+        Ok(Doc::List(elements))
     }
-}
 
-/// The document that was made for a question.
-fn made(
-    alloc: Global,
-    table: &Table<'_>,
-    making: &mut Making,
-    asked: &Vec<Literal>,
-) -> Result<Doc, SearchFault> {
-    match table.place(asked) {
-        Some(place) => making.take(alloc, place),
-        None => Err(SearchFault::TooManyCases),
+    fn map_of(&mut self, chosen: &Chosen<'_>, labels: &[&str]) -> Result<Doc, SearchFault> {
+        let mut map = BTreeMap::new(self.alloc);
+        for (number, part) in chosen.parts.iter().enumerate() {
+            let doc = self.made(part)?;
+            let _ = map.insert(key_at(self.alloc, &chosen.keys, labels, number)?, doc)?;
+        }
+        Ok(Doc::Object(map))
     }
-}
 
-fn list_made(
-    alloc: Global,
-    table: &Table<'_>,
-    making: &mut Making,
-    parts: &[Vec<Literal>],
-) -> Result<Doc, SearchFault> {
-    let mut elements = Vec::with_capacity(alloc, parts.len())?;
-    for part in parts {
-        elements.push(made(alloc, table, making, part)?)?;
+    /// The document that was found to answer a question.
+    fn doc_of(&mut self, found: &Found<'_>) -> Result<Doc, SearchFault> {
+        match found {
+            Found::Scalar(doc) => Ok(doc.copy(self.alloc)?),
+            Found::List(parts) => self.list_of(parts),
+            Found::Map { chosen, labels } => self.map_of(chosen, labels),
+        }
     }
-    Ok(Doc::List(elements))
 }
 
 /// The key of a part by its number: a further one is of so many `a` that it is longer than each label, and no two of them are the same.
@@ -202,76 +190,30 @@ fn key_at(
     Ok(key)
 }
 
-fn map_made(
-    alloc: Global,
-    table: &Table<'_>,
-    making: &mut Making,
-    keys: &[Key<'_>],
-    parts: &[Vec<Literal>],
-    labels: &[&str],
-) -> Result<Doc, SearchFault> {
-    let mut map = BTreeMap::new(alloc);
-    for (number, part) in parts.iter().enumerate() {
-        let doc = made(alloc, table, making, part)?;
-        let _ = map.insert(key_at(alloc, keys, labels, number)?, doc)?;
-    }
-    Ok(Doc::Object(map))
-}
-
-fn doc_of(
-    alloc: Global,
-    table: &Table<'_>,
-    making: &mut Making,
-    found: &Found<'_>,
-) -> Result<Doc, SearchFault> {
-    match found {
-        Found::Null => Ok(Doc::Null),
-        Found::Bool(value) => Ok(Doc::Bool(*value)),
-        Found::Int(integer) => Ok(Doc::Int(*integer)),
-        Found::Text(text) => Ok(Doc::Text(String::from_str(alloc, text)?)),
-        Found::List(parts) => list_made(alloc, table, making, parts),
-        Found::Map {
-            keys,
-            parts,
-            labels,
-        } => map_made(alloc, table, making, keys, parts, labels),
-    }
-}
-
-fn none_made(alloc: Global, count: usize) -> Result<Vec<Option<Doc>>, AllocError> {
-    let mut docs = Vec::with_capacity(alloc, count)?;
-    for _ in 0..count {
-        docs.push(None)?;
-    }
-    Ok(docs)
-}
-
 /// The document that was found for the first question, with how many values it has.
 ///
 /// # Errors
 /// `TooManyCases` where it would have more values than a limit, or nest deeper.
 pub(crate) fn witness_of(alloc: Global, table: &Table<'_>) -> Result<Witness, SearchFault> {
     let extents = extents_of(alloc, table)?;
-    let extent = extents.first().copied().unwrap_or(ENDLESS);
-    if extent.values > MOST_VALUES || extent.depth > MOST_DEPTH {
+    let Extent { values, depth } = extents.first().copied().unwrap_or(ENDLESS);
+    if values > MOST_VALUES || depth > MOST_DEPTH {
         return Err(SearchFault::TooManyCases);
     }
     let mut making = Making {
-        docs: none_made(alloc, table.entries.len())?,
+        alloc,
+        table,
+        docs: BTreeMap::new(alloc),
         uses: uses_of(alloc, table)?,
     };
     for place in &table.answered {
         if is_used(&making.uses, *place) {
             if let Some(found) = table.found(*place) {
-                let doc = doc_of(alloc, table, &mut making, found)?;
-                if let Some(made) = making.docs.get_mut(*place) {
-                    *made = Some(doc);
-                }
+                let doc = making.doc_of(found)?;
+                let _ = making.docs.insert(*place, doc)?;
             }
         }
     }
-    Ok(Witness {
-        doc: making.take(alloc, 0)?,
-        values: extent.values,
-    })
+    let doc = making.take(0)?;
+    Ok(Witness { doc, values })
 }

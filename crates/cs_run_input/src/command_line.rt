@@ -2,7 +2,6 @@
 use cs_place::put_shown;
 use cs_tool::Fault;
 use std::alloc::{AllocError, Global};
-use std::env::Args;
 use std::io;
 use std::io::Write;
 
@@ -12,24 +11,20 @@ pub const COMMAND_LINE: u8 = 3;
 /// The words of the process; `None` where one isn't UTF-8, which is told.
 pub fn process_words(rt: &HostRuntime) -> Result<Option<Vec<String>>, Fault> {
     match std::env::args(rt) {
-        Ok(arguments) => Ok(Some(kept(rt.alloc(), arguments)?)),
-        Err(error) => {
-            if error.kind() == io::ErrorKind::OutOfMemory {
-                return Err(Fault::OutOfMemory);
+        Ok(arguments) => {
+            // `collect` would ask for the room of all of them first, and go on where that is refused.
+            let mut words = Vec::new(rt.alloc());
+            for word in arguments {
+                words.push(word)?;
             }
+            Ok(Some(words))
+        }
+        Err(error) if error.kind() == io::ErrorKind::OutOfMemory => Err(Fault::OutOfMemory),
+        Err(_) => {
             let _ = eprintln!(rt; "error: an argument is not UTF-8");
             Ok(None)
         }
     }
-}
-
-/// The words, one after another. `collect` would ask for the room of all of them first, and go on where that is refused.
-fn kept(alloc: Global, arguments: Args) -> Result<Vec<String>, Fault> {
-    let mut words = Vec::new(alloc);
-    for word in arguments {
-        words.push(word)?;
-    }
-    Ok(words)
 }
 
 /// The status of what `clap` prints: help on standard output, a fault of the command line on standard error.

@@ -21,9 +21,7 @@ pub fn read_input(rt: &HostRuntime, path: &str) -> Result<Vec<u8>, Fault> {
 
 /// All bytes of a file, or `None` where it has more than `limit`.
 fn read_file(rt: &HostRuntime, path: &str, limit: usize) -> Result<Option<Vec<u8>>, Fault> {
-    let Ok(mut file) = File::open(rt, path) else {
-        return Err(Fault::ReadFailed);
-    };
+    let mut file = File::open(rt, path).map_err(|_| Fault::ReadFailed)?;
     read_up_to(rt.alloc(), &mut file, limit)
 }
 

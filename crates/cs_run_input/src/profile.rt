@@ -29,7 +29,10 @@ pub fn meant_rules(
     rules: &Rules,
 ) -> Result<Option<Rules>, Fault> {
     let (given, root) = match rules {
-        Rules::Schema { schema } => return meant_schema(alloc, words, schema),
+        Rules::Schema { schema } => {
+            let meant = schema_stands_for_in(alloc, profile_of(words), schema)?;
+            return Ok(meant.map(|schema| Rules::Schema { schema }));
+        }
         Rules::Root { sources, root } | Rules::Both { sources, root } => (sources, root),
     };
     let Some(meant) = meant_source(alloc, words, given)? else {
@@ -40,14 +43,4 @@ pub fn meant_rules(
         Rules::Both { .. } => Rules::Both { sources, root },
         Rules::Root { .. } | Rules::Schema { .. } => Rules::Root { sources, root },
     }))
-}
-
-/// The schema that a schema stands for in the profile that the words ask for.
-fn meant_schema(
-    alloc: Global,
-    words: &ArgMatches<'_>,
-    schema: &[u8],
-) -> Result<Option<Rules>, Fault> {
-    let meant = schema_stands_for_in(alloc, profile_of(words), schema)?;
-    Ok(meant.map(|schema| Rules::Schema { schema }))
 }

@@ -35,9 +35,6 @@ pub fn are_at_odds(words: &ArgMatches<'_>) -> bool {
 
 /// The form in which the words ask for refusals to be told; `None` where they don't.
 pub fn told_form(words: &ArgMatches<'_>) -> Option<Form> {
-    match reasons_of(words) {
-        Some(reasons) => Some(reasons.form),
-        None if words.get_flag("why_refused") => Some(Form::Lines),
-        None => None,
-    }
+    let asked = reasons_of(words).map(|reasons| reasons.form);
+    asked.or(words.get_flag("why_refused").then_some(Form::Lines))
 }

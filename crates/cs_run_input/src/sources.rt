@@ -15,10 +15,9 @@ pub fn named<'a>(
     let mut named = Vec::with_capacity(alloc, sources.len())?;
     for (place, source) in sources.iter().enumerate() {
         let name = names.get(place).copied().unwrap_or(STANDARD_INPUT);
-        let text = source.as_slice();
         named.push(Named {
             name,
-            text,
+            text: source,
             line: 1,
         })?;
     }

@@ -22,33 +22,25 @@ pub const NO_FILE: Unread<'static> = Unread {
 /// The file that a fault of reading is about: the first one, in the order in which files are read, that can't be read or is too
 /// long. Nothing for other faults, and where it isn't found again. A pipe isn't opened again, since that may wait.
 pub fn unread_file<'a>(rt: &HostRuntime, fault: &Fault, words: &ArgMatches<'a>) -> Unread<'a> {
+    let sources = words.get_strs("FILE").unwrap_or(&[]);
     let schema = words.get_str("schema");
-    if let Some(found) = schema.and_then(|path| at_fault(rt, fault, path)) {
-        return found;
-    }
-    if let Some(found) = first_unread(rt, fault, words.get_strs("FILE").unwrap_or(&[])) {
-        return found;
-    }
     let document = words.get_str("doc");
-    let found = document.and_then(|path| at_fault(rt, fault, path));
+    let found = schema.and_then(|path| at_fault(rt, fault, path));
+    let found = found.or_else(|| first_unread(rt, fault, sources));
+    let found = found.or_else(|| document.and_then(|path| at_fault(rt, fault, path)));
     found.unwrap_or(NO_FILE)
 }
 
 /// The first of the files that a fault of reading is about.
 pub fn first_unread<'a>(rt: &HostRuntime, fault: &Fault, paths: &[&'a str]) -> Option<Unread<'a>> {
-    for path in paths {
-        if let Some(found) = at_fault(rt, fault, path) {
-            return Some(found);
-        }
-    }
-    None
+    paths.iter().find_map(|path| at_fault(rt, fault, path))
 }
 
 /// A file, where a fault of reading is about it.
 fn at_fault<'a>(rt: &HostRuntime, fault: &Fault, path: &'a str) -> Option<Unread<'a>> {
     let cause = match fault {
         Fault::ReadFailed => cause_of(rt, path)?,
-        Fault::InputTooLong if is_too_long(rt, path) => "",
+        Fault::InputTooLong if size_of(rt, path).unwrap_or(0) > MOST_INPUT_BYTES as u64 => "",
         _ => return None,
     };
     Some(Unread {
@@ -62,10 +54,10 @@ fn cause_of(rt: &HostRuntime, path: &str) -> Option<&'static str> {
     match metadata(rt, path) {
         Err(error) => Some(said_of(error.kind())),
         Ok(found) if found.is_dir() => Some("this is a folder"),
-        Ok(found) if found.is_file() => match File::open(rt, path) {
-            Ok(_) => None,
-            Err(error) => Some(said_of(error.kind())),
-        },
+        Ok(found) if found.is_file() => {
+            let opened = File::open(rt, path);
+            opened.err().map(|error| said_of(error.kind()))
+        }
         Ok(_) => None,
     }
 }
@@ -79,16 +71,10 @@ fn said_of(kind: ErrorKind) -> &'static str {
     }
 }
 
-fn is_too_long(rt: &HostRuntime, path: &str) -> bool {
-    size_of(rt, path).unwrap_or(0) > MOST_INPUT_BYTES as u64
-}
-
 /// The bytes that a regular file has.
 fn size_of(rt: &HostRuntime, path: &str) -> Option<u64> {
-    match metadata(rt, path) {
-        Ok(found) if found.is_file() => Some(found.len()),
-        _ => None,
-    }
+    let found = metadata(rt, path).ok()?;
+    found.is_file().then_some(found.len())
 }
 
 /// The sources with their bytes, where they are too long together, or the file that is too long; none that isn't a regular file.
@@ -100,25 +86,23 @@ pub fn sizes_of<'a>(
 ) -> Result<Vec<(&'a str, u64)>, AllocError> {
     let mut sizes = Vec::new(rt.alloc());
     match (fault, unread.path) {
-        (Fault::SourcesTooLong, _) => {
-            for path in sources {
-                add_size(rt, path, &mut sizes)?;
-            }
-        }
-        (Fault::InputTooLong, Some(path)) => add_size(rt, path, &mut sizes)?,
+        (Fault::SourcesTooLong, _) => add_sizes(rt, sources, &mut sizes)?,
+        (Fault::InputTooLong, Some(path)) => add_sizes(rt, &[path], &mut sizes)?,
         _ => {}
     }
     Ok(sizes)
 }
 
-/// Adds a file with its bytes, where it is a regular one.
-fn add_size<'a>(
+/// Adds files with their bytes, where they are regular ones.
+fn add_sizes<'a>(
     rt: &HostRuntime,
-    path: &'a str,
+    paths: &[&'a str],
     sizes: &mut Vec<(&'a str, u64)>,
 ) -> Result<(), AllocError> {
-    if let Some(size) = size_of(rt, path) {
-        sizes.push((path, size))?;
+    for path in paths {
+        if let Some(size) = size_of(rt, path) {
+            sizes.push((*path, size))?;
+        }
     }
     Ok(())
 }

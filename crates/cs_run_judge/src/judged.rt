@@ -1,12 +1,12 @@
 // Documents that are judged by rules, with what is told of each.
 use clap::ArgMatches;
 use cs_judge::{
-    LinesOutcome, Prepared, TextJudge, Why, prepare, run_document, run_lines, write_document,
-    write_unread,
+    LinesOutcome, Prepared, TextJudge, Why, Written, prepare, run_document, run_lines,
+    write_document, write_unread,
 };
 use cs_place::{Label, Named};
 use cs_reason_words::Form;
-use cs_run_input::{STANDARD_INPUT, read_input, reasons_of};
+use cs_run_input::{Reasons, STANDARD_INPUT, read_input, reasons_of};
 use cs_tool::{Fault, Rules};
 use std::alloc::{AllocError, Global};
 use std::fs::File;
@@ -31,20 +31,52 @@ enum Judged<'a> {
     Files(Vec<Label<'a>>),
 }
 
-/// How the words ask for reasons, by rules that were read from these sources; `None` where they don't.
-pub(crate) fn why_of<'a>(words: &ArgMatches<'_>, sources: &'a [Named<'a>]) -> Option<Why<'a>> {
+/// The status by rules that were read from these sources, which are looked at again where reasons are asked for.
+pub(crate) fn judge_asked(
+    rt: &HostRuntime,
+    words: &ArgMatches<'_>,
+    rules: &Rules,
+    sources: &[Named<'_>],
+    document: Option<Named<'_>>,
+) -> Result<u8, Fault> {
     match reasons_of(words) {
-        Some(reasons) => Some(Why {
-            sources,
-            form: reasons.form,
-            telling: reasons.telling,
-        }),
-        None => None,
+        Some(reasons) => judge_told(rt, words, rules, sources, document, reasons),
+        None => judge_by(rt, words, rules, document, None),
     }
 }
 
+/// The same with reasons.
+fn judge_told(
+    rt: &HostRuntime,
+    words: &ArgMatches<'_>,
+    rules: &Rules,
+    sources: &[Named<'_>],
+    document: Option<Named<'_>>,
+    reasons: Reasons,
+) -> Result<u8, Fault> {
+    let written = Written::of(rt.alloc(), reasons.form, sources)?;
+    judge_from(rt, words, rules, &written, document, reasons)
+}
+
+/// The same with reasons that are told from these sources.
+fn judge_from(
+    rt: &HostRuntime,
+    words: &ArgMatches<'_>,
+    rules: &Rules,
+    sources: &Written<'_>,
+    document: Option<Named<'_>>,
+    reasons: Reasons,
+) -> Result<u8, Fault> {
+    let why = Why {
+        sources,
+        form: reasons.form,
+        telling: reasons.telling,
+    };
+    judge_by(rt, words, rules, document, Some(why))
+}
+
 /// The status of the one document, or where there is none of those that the words name.
-pub(crate) fn judge_by(
+fn judge_by(
     rt: &HostRuntime,
     words: &ArgMatches<'_>,
     rules: &Rules,

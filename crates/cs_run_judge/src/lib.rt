@@ -5,10 +5,9 @@ mod input;
 mod judged;
 
 use crate::input::input_of;
-use crate::judged::{judge_by, why_of};
+use crate::judged::judge_asked;
 use clap::ArgMatches;
 use cs_fault_words::About;
-use cs_judge::Why;
 use cs_place::Named;
 use cs_run_input::{STANDARD_INPUT, meant_rules, named_sources, told_form, word_of};
 use cs_run_refusals::{about_sources, or_told, or_unread};
@@ -46,7 +45,7 @@ fn answer_by(
         document,
         ..about_sources(&sources, word_of(words, "root"))
     };
-    let answer = judge_meant(rt, words, rules, document, why_of(words, &sources));
+    let answer = judge_meant(rt, words, rules, &sources, document);
     or_told(rt, told_form(words), about, words, answer)
 }
 
@@ -55,12 +54,12 @@ fn judge_meant(
     rt: &HostRuntime,
     words: &ArgMatches<'_>,
     rules: &Rules,
+    sources: &[Named<'_>],
     document: Option<Named<'_>>,
-    why: Option<Why<'_>>,
 ) -> Result<u8, Fault> {
     match meant_rules(rt.alloc(), words, rules)? {
-        Some(meant) => judge_by(rt, words, &meant, document, why),
-        None => judge_by(rt, words, rules, document, why),
+        Some(meant) => judge_asked(rt, words, &meant, sources, document),
+        None => judge_asked(rt, words, rules, sources, document),
     }
 }
 

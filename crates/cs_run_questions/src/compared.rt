@@ -6,7 +6,7 @@ use cs_compare::{
     write_comparison,
 };
 use cs_fault_words::About;
-use cs_judge::{Prepared, Why, prepare};
+use cs_judge::{Prepared, Why, Written, prepare};
 use cs_place::Named;
 use cs_reason_words::Form;
 use cs_run_input::{
@@ -268,13 +268,9 @@ fn reasons_told(
     to: Edition<'_>,
     reasons: Reasons,
 ) -> Result<Vec<u8>, Fault> {
-    let why = Why {
-        sources: to.sources,
-        form: reasons.form,
-        telling: reasons.telling,
-    };
+    let written = Written::of(alloc, reasons.form, to.sources)?;
     let prepared = prepare(alloc, to.rules)?;
-    let told = explained(alloc, &prepared, shown, why)?;
+    let told = explained(alloc, &prepared, shown, &written, reasons)?;
     let bare = match reasons.form {
         Form::Object(_) => told.trim_ascii_end(),
         Form::Lines => told.strip_prefix(b"invalid\n").unwrap_or(&told),
@@ -287,8 +283,14 @@ fn explained(
     alloc: Global,
     prepared: &Prepared<'_>,
     shown: &[u8],
-    why: Why<'_>,
+    sources: &Written<'_>,
+    reasons: Reasons,
 ) -> Result<Vec<u8>, Fault> {
+    let why = Why {
+        sources,
+        form: reasons.form,
+        telling: reasons.telling,
+    };
     let document = Named {
         name: SHOWN,
         text: shown,

@@ -4,7 +4,6 @@ ghost use Rattle.std.specs.Prelude.{IfOk};
 use crate::asking::{Answer, Asking};
 use crate::tally::Tally;
 use cs_question::{Budget, QuestionFault};
-use cs_variants::{Place, Sampled};
 use std::collections::BTreeSet;
 
 /// The steps for each byte of a document's text: the document is built, judged and written, some ten microseconds a value.
@@ -55,7 +54,9 @@ impl Found {
                 break;
             }
             if let Some(place) = walk.places.get(turn.2) {
-                self.ask(asking, place)?;
+                let answer = asking.asked(place, &mut self.budget);
+                self.tally.note(place.rule, &answer);
+                self.take(asking, answer)?;
             }
             if self.texts.len() >= most {
                 self.tally.count_on(whole, &mut self.budget);
@@ -64,34 +65,21 @@ impl Found {
         Ok(())
     }
 
-    /// Asks the question of a place.
-    fn ask(&mut self, asking: &Asking<'_, '_>, place: &Place<'_>) -> Result<(), QuestionFault>
-        requires { AreFound asking.now self.old }
-        ensures { AreFound asking.now self.new }
-    {
-        let answer = asking.asked(place, &mut self.budget);
-        self.tally.note(place.rule, &answer);
-        self.take(asking, answer)
-    }
-
     /// Asks for any document that is no instance of the root, where such documents are asked for.
     pub(crate) fn ask_any(&mut self, asking: &Asking<'_, '_>) -> Result<(), QuestionFault>
         requires { AreFound asking.now self.old }
         ensures { AreFound asking.now self.new }
     {
-        match asking.which {
-            Sampled::Valid => Ok(()),
-            Sampled::Invalid => {
-                let walk = asking.walk;
-                let variant = walk.of_everything()?;
-                let answer = asking.answered(variant, &mut self.budget);
-                // Where there is no document, no limit kept one from being found.
-                if !matches!(answer, Ok(Some(_))) {
-                    self.tally.is_limited = answer.is_err();
-                }
-                self.take(asking, answer)
-            }
+        if asking.which.is_valid() {
+            return Ok(());
         }
+        let walk = asking.walk;
+        let answer = asking.answered(walk.of_everything()?, &mut self.budget);
+        // Where there is no document, no limit kept one from being found.
+        if !matches!(answer, Ok(Some(_))) {
+            self.tally.is_limited = answer.is_err();
+        }
+        self.take(asking, answer)
     }
 
     /// Puts the text that is answered, if there is one, behind the others, unless it is one of them, and counts what it took.

@@ -98,7 +98,7 @@ fn first_of(found: Found, most: usize) -> SampleTexts
 }
 
 /// The instance that the question about the root as it stands finds; none where nothing is an instance of the root.
-fn one_instance(asking: &Asking<'_, '_>, budget: Budget) -> Result<SampleTexts, QuestionFault>
+fn one_instance(asking: &Asking<'_, '_>, mut budget: Budget) -> Result<SampleTexts, QuestionFault>
     ensures samples { IfOk result (λ s. AreSamples asking.now.package.now asking.now.root.now
         Sampled.Valid s.texts.items) }
     ensures one { IfOk result (λ s. length s.texts.items ≤ 1) }
@@ -109,7 +109,6 @@ fn one_instance(asking: &Asking<'_, '_>, budget: Budget) -> Result<SampleTexts, 
     ensures unknown { IsErrOf result QuestionFault.UnknownRoot
         → (n : List ℕ) → ¬ Names asking.now.package.now asking.now.root.now n }
 {
-    let mut budget = budget;
     let Some(doc) = instance_of(asking.alloc, asking.package, asking.root, &mut budget)? else {
         return Ok(SampleTexts::alone(Vec::new(asking.alloc)));
     };

@@ -1,6 +1,5 @@
 // Where sources declare definitions.
 use crate::near::Near;
-use crate::part::Part;
 use crate::source::Source;
 use std::alloc::{AllocError, Global};
 
@@ -12,8 +11,6 @@ pub struct Declared<'s, 'a> {
     pub firsts: Vec<Near<'s, 'a>>,
     /// All declarations by their names, and those of one name in their order.
     by_name: Vec<Near<'s, 'a>>,
-    /// The files and numbers of the brackets of literals with embeddings, in their order.
-    embedding: Vec<(usize, usize)>,
 }
 
 impl<'s, 'a> Declared<'s, 'a> {
@@ -37,13 +34,6 @@ impl<'s, 'a> Declared<'s, 'a> {
         behind.saturating_sub(self.rank(name))
     }
 
-    /// Whether a part is a struct literal in which an expression is embedded.
-    pub fn embeds(&self, part: Part<'_, '_>) -> bool {
-        let literal = part.bare();
-        let bracket = (part.source.file, part.source.own(literal.from));
-        literal.inside("{").is_some() && self.embedding.binary_search(&bracket).is_ok()
-    }
-
     /// How many declarations there are of lesser names.
     fn rank(&self, name: &str) -> usize {
         self.by_name
@@ -57,19 +47,14 @@ pub fn declared_in<'s, 'a>(
     sources: &'s [Source<'a>],
 ) -> Result<Declared<'s, 'a>, AllocError> {
     let mut by_name = Vec::new(alloc);
-    let mut embedding = Vec::new(alloc);
     for source in sources {
         for place in 0..source.tokens.len() {
             let token = Near { source, place };
             if token.declares() {
                 by_name.push(token)?;
             }
-            if token.begins_embedding() {
-                embedding.push((source.file, source.around(place)))?;
-            }
         }
     }
-    embedding.sort()?;
     by_name.sort_by_key(|declaration| declaration.here().text)?;
     let mut firsts = Vec::from_slice(alloc, &by_name)?;
     firsts.dedup_by(|declaration, first| declaration.here().text == first.here().text);
@@ -78,6 +63,5 @@ pub fn declared_in<'s, 'a>(
         sources,
         firsts,
         by_name,
-        embedding,
     })
 }

@@ -14,7 +14,7 @@ mod tokens;
 
 pub use cs_grammar::Profile;
 pub use declared::{Declared, declared_in};
-pub use joined::{Alternative, Brought, Embedded, ONLY};
+pub use joined::{Brought, Embedded};
 pub use near::Near;
 pub use outline::{Bracket, Inside, Separator};
 pub use part::Part;

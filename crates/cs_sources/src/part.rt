@@ -115,12 +115,6 @@ impl<'s, 'a> Part<'s, 'a> {
         left
     }
 
-    /// Whether it is operands that `&` joins, in parentheses or not.
-    pub fn is_conjunction(self) -> bool {
-        let whole = self.unwrapped();
-        whole.count(Separator::Bar) == 0 && whole.count(Separator::Amp) > 0
-    }
-
     /// Whether nothing in it is a struct literal or a reference, so that it stays beside what is put together.
     pub fn is_plain(self) -> bool {
         (self.from..self.to).all(|place| {
@@ -131,9 +125,9 @@ impl<'s, 'a> Part<'s, 'a> {
         })
     }
 
-    /// How many operands of `&` it is.
-    pub fn operands(self) -> usize {
-        self.bare().count(Separator::Amp).saturating_add(1)
+    /// How many operands it is that a separator is between.
+    pub fn operands(self, separator: Separator) -> usize {
+        self.bare().count(separator).saturating_add(1)
     }
 
     /// The first reference in it that closes what it stands for: one that is no value of a field, or that stands anywhere in what a literal
@@ -165,42 +159,22 @@ impl<'s, 'a> Part<'s, 'a> {
         self.bare().part(separator, place)
     }
 
-    /// Its declaration at a place, which begins with the label: of a struct literal, or the one field of a short form.
-    pub fn declaration(self, place: usize) -> Option<Part<'s, 'a>> {
-        let whole = self.bare();
-        match whole.inside("{") {
-            Some(inner) => inner.part(Separator::Comma, place),
-            None if place == 0 => Some(whole),
-            None => None,
+    /// Its operand of `&` at a place, where those that aren't plain are one operand, which stands where the first of them does.
+    pub fn standing_operand(self, place: usize) -> Option<Part<'s, 'a>> {
+        let mut left = place;
+        let mut is_met = false;
+        for at in 0..self.operands(Separator::Amp) {
+            let operand = self.operand(Separator::Amp, at)?;
+            let is_plain = operand.is_plain();
+            if is_plain || !is_met {
+                let Some(fewer) = left.checked_sub(1) else {
+                    return Some(operand);
+                };
+                left = fewer;
+            }
+            is_met |= !is_plain;
         }
-    }
-
-    /// The label that it begins with, without quotes, behind whether that is `[string]`, which has none; nothing where it has escapes, which
-    /// aren't read.
-    pub fn label(self) -> Option<(bool, &'a str)> {
-        let token = self.first()?.here();
-        if is_mark(token, "[") {
-            return Some((true, ""));
-        }
-        let is_read = token.sort != Sort::Text || !token.text.contains('\\');
-        is_read.then_some((false, token.text.trim_matches('"')))
-    }
-
-    /// How many declarations it has, but for `...` at the end: those of a struct literal, or the one field of a short form.
-    pub fn declarations(self) -> usize {
-        let Some(inner) = self.bare().inside("{") else {
-            return 1;
-        };
-        if inner.first().is_none() {
-            return 0;
-        }
-        let last = self.source.token(inner.to.saturating_sub(1));
-        let is_comma = last.sort == Sort::Inserted || is_mark(last, ",");
-        let end = inner.to.saturating_sub(usize::from(is_comma));
-        let is_open = is_mark(self.source.token(end.saturating_sub(1)), "...");
-        let behind = usize::from(is_comma).saturating_add(usize::from(is_open));
-        let count = inner.count(Separator::Comma).saturating_add(1);
-        count.saturating_sub(behind)
+        None
     }
 
     /// Whether two declarations may declare one key. Escapes aren't read.
@@ -219,21 +193,12 @@ impl<'s, 'a> Part<'s, 'a> {
         Some(self.between(colon.checked_add(1)?, self.to))
     }
 
-    /// What its declaration at a place declares.
-    pub fn member(self, place: usize) -> Option<Part<'s, 'a>> {
-        self.declaration(place)?.declared()
-    }
-
-    /// Its fixed element at a place.
+    /// Its element at a place, or what is asked behind `...` there.
     pub fn element(self, place: usize) -> Option<Part<'s, 'a>> {
-        self.bare().inside("[")?.part(Separator::Comma, place)
-    }
-
-    /// What is asked behind so many fixed elements.
-    pub fn list_end(self, fixed: usize) -> Option<Part<'s, 'a>> {
-        let end = self.element(fixed)?;
-        let behind = end.between(end.from.checked_add(1)?, end.to);
-        is_mark(end.first()?.here(), "...").then_some(behind)
+        let element = self.bare().inside("[")?.part(Separator::Comma, place)?;
+        let is_end = is_mark(element.first()?.here(), "...");
+        let from = element.from.saturating_add(usize::from(is_end));
+        Some(element.between(from, element.to))
     }
 
     /// Where it begins, without parentheses and `close`.

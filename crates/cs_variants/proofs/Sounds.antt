@@ -5,9 +5,12 @@ use Rattle.std.proofs.lemmas.Bool.{and_from}
 use Rattle.std.proofs.lemmas.List.{take_more}
 use Rattle.cs_document.proofs.Each.{each_append}
 use Rattle.cs_package.specs.Expression as cue
+use Rattle.cs_package.specs.Inside.{IsSimple, is_simple}
 use Rattle.cs_package.specs.Joined.{HasTwo, IsJoined, AreJoined, AreJoinedFields, IsJoinedRest}
 use Rattle.cs_package.specs.View.{expression_of, part_of, rest_of, expressions_of, declarations_of, is_known, is_known_end, is_known_part}
+use Rattle.cs_package.proofs.Simples.{simple_is}
 use Rattle.cs_package.proofs.Views.{of-And, of-Or, of-Struct, of-List, of-Each, known-And, known-Or, known-Struct, known-List, known-Each}
+use Rattle.cs_package.specs.declared.inside.Simple.{Simple}
 use Rattle.cs_package.specs.declared.shape.Shape as Shapes
 use Rattle.cs_package.specs.declared.shape.Shape.{Shape}
 use Rattle.cs_package.specs.declared.shape.ShapeEnd as Ends
@@ -19,6 +22,13 @@ use Rattle.cs_variants.specs.Sound.{IsSound, IsSoundPart, IsSoundEnd}
 pub each_more : {X : Type 0} (P : X → Type 0) (xs : List X) (i : ℕ) (x : X) → i < length xs → x ≡ get_or xs i x → Each P (take i xs) → P x → Each P (take (i + 1) xs)
 each_more P xs i x l is h p =
     subst (Each P) (sym (take_more xs i x l ∙ ap (λ y. take i xs ++ y ∷ []) (sym is))) (each_append P (take i xs) (x ∷ []) h (p, tt))
+
+-- what has no parts has no operands
+simple_joined : (e : cue.Expression) → is_simple e ≡ true → IsJoined e
+simple_joined (cue.atom a) h = tt
+simple_joined (cue.kind k) h = tt
+simple_joined (cue.range least greatest) h = tt
+simple_joined _ h = cc
 
 module _ (n : ℕ) where
   all_known : (xs : List Shape) → Each (IsSound n) xs → list_all (is_known n) xs ≡ true
@@ -53,6 +63,12 @@ module _ (n : ℕ) where
   sound_Part p h = record {
     known = part_known p ∙ h.known;
     joined = λ ns. subst IsJoined (sym (part_value ns p)) (h.joined ns);
+  }
+
+  pub sound_Simple : (x : Simple) (s : Shape) → is_known n s ≡ true → ((ns : List (List ℕ)) → IsSimple x (expression_of ns s)) → IsSound n s
+  sound_Simple x s known means = record {
+    known = known;
+    joined = λ ns. simple_joined (expression_of ns s) (simple_is x (expression_of ns s) (means ns));
   }
 
   pub sound_And : (s : Shape) (v : Vec Shape Global) → s ≡ Shapes.And v → 2 ≤ length v.items → Each (IsSound n) v.items → IsSound n s

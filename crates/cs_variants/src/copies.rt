@@ -10,10 +10,8 @@ pub(crate) type Way<'w> = Option<(&'w [usize], Change<'w>)>;
 /// The way on from a part of that number, where the way goes through it.
 fn after(way: Way<'_>, number: usize) -> Way<'_> {
     let (steps, change) = way?;
-    match steps.split_first() {
-        Some((step, further)) if *step == number => Some((further, change)),
-        Some(_) | None => None,
-    }
+    let (step, further) = steps.split_first()?;
+    (*step == number).then_some((further, change))
 }
 
 /// What the change is where a way ends, and none elsewhere.

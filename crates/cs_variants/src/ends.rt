@@ -60,8 +60,5 @@ fn truth_value<'a>(value: bool) -> Option<Simple<'a>> {
 }
 
 fn integer<'a>(n: Option<i64>) -> Option<Simple<'a>> {
-    match n {
-        Some(n) => Some(Simple::Literal(Literal::Int(n))),
-        None => None,
-    }
+    Some(Simple::Literal(Literal::Int(n?)))
 }

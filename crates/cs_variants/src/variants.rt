@@ -17,7 +17,8 @@ pub enum Where {
 
 /// The definitions of a variant: the number of each in the package that it is made of, and its bodies, copied like this.
 #[derive(Drop)]
-struct Draft {
+struct Draft<'w, 'a> {
+    walk: &'w Walk<'a>,
     copying: Copying,
     definitions: Vec<usize>,
     bodies: Vec<Vec<Shape>>,
@@ -37,30 +38,16 @@ impl Walk<'_> {
         at: Where,
         is_least: bool,
     ) -> Result<Option<Guarded>, AllocError> {
-        let copying = Copying {
-            alloc: self.alloc,
-            which: self.which,
-            is_least,
-        };
-        let mut draft = Draft {
-            copying,
-            definitions: Vec::new(self.alloc),
-            bodies: Vec::new(self.alloc),
-        };
+        let mut draft = Draft::new(self, is_least);
         for definition in 0..self.package.count() {
-            self.put_copy(&mut draft, definition, None)?;
+            draft.put_copy(definition, None)?;
         }
         let changed = match at {
-            Where::Once => self.put_copy(&mut draft, place.definition, place.way(place.change))?,
-            Where::Everywhere => self.put_changed(&mut draft, place)?,
+            Where::Once => draft.put_copy(place.definition, place.way(place.change))?,
+            Where::Everywhere => draft.put_changed(place)?,
         };
-        self.put_way(&mut draft, place.entry, changed)?;
-        let Draft {
-            definitions,
-            bodies,
-            ..
-        } = draft;
-        self.guarded(&definitions, bodies)
+        draft.put_way(place.entry, changed)?;
+        draft.guarded()
     }
 
     /// The package of one definition, `_`, in place of the root.
@@ -68,21 +55,37 @@ impl Walk<'_> {
     /// # Errors
     /// Where memory runs out.
     pub fn of_everything(&self) -> Result<Option<Guarded>, AllocError> {
-        let alone = vec![in self.alloc; Shape::Top]?;
-        self.guarded(&[self.root], vec![in self.alloc; alone]?)
+        let mut draft = Draft::new(self, false);
+        let anything = vec![in self.alloc; Shape::Top]?;
+        let _ = draft.put(self.root, anything)?;
+        draft.guarded()
+    }
+}
+
+impl<'w, 'a> Draft<'w, 'a> {
+    fn new(walk: &'w Walk<'a>, is_least: bool) -> Draft<'w, 'a> {
+        let alloc = walk.alloc;
+        let copying = Copying {
+            alloc,
+            which: walk.which,
+            is_least,
+        };
+        Draft {
+            walk,
+            copying,
+            definitions: Vec::new(alloc),
+            bodies: Vec::new(alloc),
+        }
     }
 
-    /// The package of copies of these definitions with these bodies, where it is guarded.
-    fn guarded(
-        &self,
-        definitions: &[usize],
-        bodies: Vec<Vec<Shape>>,
-    ) -> Result<Option<Guarded>, AllocError> {
-        let names = names_of(self.alloc, self.package, definitions)?;
-        let Some(package) = whole(names, bodies) else {
+    /// The package of these definitions, where it is guarded.
+    fn guarded(self) -> Result<Option<Guarded>, AllocError> {
+        let alloc = self.walk.alloc;
+        let names = names_of(alloc, self.walk.package, &self.definitions)?;
+        let Some(package) = whole(names, self.bodies) else {
             return Ok(None);
         };
-        match guard(self.alloc, package) {
+        match guard(alloc, package) {
             Ok(guarded) => Ok(Some(guarded)),
             Err(GuardFault::OutOfMemory) => Err(AllocError),
             Err(GuardFault::Cycle { .. } | GuardFault::ChainTooLong { .. }) => Ok(None),
@@ -91,19 +94,14 @@ impl Walk<'_> {
 
     /// Puts copies of the definitions that refer to the one of an entry behind the others, on the way back to the root. The first
     /// copy refers to the definition of that number instead, and each further one to the copy before it.
-    fn put_way(
-        &self,
-        draft: &mut Draft,
-        entry: usize,
-        definition: usize,
-    ) -> Result<(), AllocError> {
-        let mut entry = entry;
-        let mut last = definition;
-        for _ in 0..self.reached.len() {
-            let Some(from) = self.reference_to(entry) else {
+    fn put_way(&mut self, entry: usize, definition: usize) -> Result<(), AllocError> {
+        let walk = self.walk;
+        let (mut entry, mut last) = (entry, definition);
+        for _ in 0..walk.reached.len() {
+            let Some(from) = walk.reference_to(entry) else {
                 break;
             };
-            last = self.put_copy(draft, from.definition, from.way(Change::Definition(last)))?;
+            last = self.put_copy(from.definition, from.way(Change::Definition(last)))?;
             entry = from.entry;
         }
         Ok(())
@@ -111,43 +109,38 @@ impl Walk<'_> {
 
     /// Changes the definition of a place in its stead; its number. The root, which was reached first, has a copy too, since the last
     /// definition counts as the root.
-    fn put_changed(&self, draft: &mut Draft, place: &Place<'_>) -> Result<usize, AllocError> {
+    fn put_changed(&mut self, place: &Place<'_>) -> Result<usize, AllocError> {
         let way = place.way(place.change);
-        let copies = self.copied(draft.copying, place.definition, way)?;
-        if let Some(bodies) = draft.bodies.get_mut(place.definition) {
+        let copies = self.copied(place.definition, way)?;
+        if let Some(bodies) = self.bodies.get_mut(place.definition) {
             *bodies = copies;
         }
         if place.entry == 0 {
-            self.put_copy(draft, place.definition, way)?;
+            self.put_copy(place.definition, way)?;
         }
         Ok(place.definition)
     }
 
     /// Puts a copy of a definition behind the others, with what a way puts in it; its number.
-    fn put_copy(
-        &self,
-        draft: &mut Draft,
-        definition: usize,
-        way: Way<'_>,
-    ) -> Result<usize, AllocError> {
-        let number = draft.bodies.len();
-        let copies = self.copied(draft.copying, definition, way)?;
-        draft.definitions.push(definition)?;
-        draft.bodies.push(copies)?;
+    fn put_copy(&mut self, definition: usize, way: Way<'_>) -> Result<usize, AllocError> {
+        let copies = self.copied(definition, way)?;
+        self.put(definition, copies)
+    }
+
+    /// Puts a definition with these bodies behind the others; its number.
+    fn put(&mut self, definition: usize, bodies: Vec<Shape>) -> Result<usize, AllocError> {
+        let number = self.bodies.len();
+        self.definitions.push(definition)?;
+        self.bodies.push(bodies)?;
         Ok(number)
     }
 
     /// The bodies of a definition, with what a way puts in them; none where the root doesn't reach it.
-    fn copied(
-        &self,
-        copying: Copying,
-        definition: usize,
-        way: Way<'_>,
-    ) -> Result<Vec<Shape>, AllocError> {
-        let package = self.package;
-        if definition >= package.count() || self.uses.get(definition) == Some(&0) {
-            return Ok(Vec::new(self.alloc));
+    fn copied(&self, definition: usize, way: Way<'_>) -> Result<Vec<Shape>, AllocError> {
+        let package = self.walk.package;
+        if definition >= package.count() || self.walk.uses.get(definition) == Some(&0) {
+            return Ok(Vec::new(self.walk.alloc));
         }
-        copying.copy_shapes(package.bodies(definition), way)
+        self.copying.copy_shapes(package.bodies(definition), way)
     }
 }

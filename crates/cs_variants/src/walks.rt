@@ -74,8 +74,7 @@ impl<'a> Walk<'a> {
     /// Whether a place without a document is asked about again, for every reference: where no instances are asked for, and its
     /// definition or one on the way to it is referred to more than once.
     pub fn is_asked_again(&self, place: &Place<'_>) -> bool {
-        let mut entry = place.entry;
-        let mut is_shared = self.is_shared(place.definition);
+        let (mut entry, mut is_shared) = (place.entry, self.is_shared(place.definition));
         for _ in 0..self.reached.len() {
             let Some(from) = self.reference_to(entry) else {
                 break;
@@ -157,8 +156,7 @@ impl<'a> Walk<'a> {
         } else {
             Some(self.place(Change::Definition(definition))?)
         };
-        self.reached.push(Reached { definition, from })?;
-        Ok(())
+        Ok(self.reached.push(Reached { definition, from })?)
     }
 
     #[cycle(visit)]
@@ -291,10 +289,8 @@ impl<'a> Walk<'a> {
     /// Here is a further rule, with a place for each of these.
     fn put_turns(&mut self, turns: Turns<'a>) -> Result<(), AllocError> {
         self.put_rule(self.which, &[])?;
-        for simple in [turns.0, turns.1] {
-            if let Some(simple) = simple {
-                self.put(Change::Simple(simple))?;
-            }
+        for simple in [turns.0, turns.1].into_iter().flatten() {
+            self.put(Change::Simple(simple))?;
         }
         Ok(())
     }

@@ -5,7 +5,7 @@ ghost use Rattle.std.specs.List.{AllByRecursion};
 ghost use Rattle.cs_package.specs.View.{IsTable};
 ghost use Rattle.cs_variants.specs.Sound.{IsSound, IsSoundPart, IsSoundEnd};
 
-use cs_package::{NameTable, Package, Part, Shape, ShapeEnd, package_of};
+use cs_package::{Inside, NameTable, Package, Part, Shape, ShapeEnd, package_of};
 
 /// The package of these names and bodies, where they are as many, each reference is to one of them, and each `&` and `|` has two
 /// operands or more.
@@ -48,24 +48,13 @@ fn are_sound(count: usize, shapes: &[Shape]) -> bool
 fn is_sound(count: usize, shape: &Shape) -> bool
     ensures { IsTrue result → IsSound count shape.now }
 {
-    match shape {
-        Shape::Definition(number) => *number < count,
-        Shape::And(operands) => are_operands(count, operands),
-        Shape::Or(operands) => are_operands(count, operands),
-        Shape::Struct { parts, .. } => are_sound_parts(count, parts),
-        Shape::List { front, end } => are_sound(count, front) && is_sound_end(count, end),
-        Shape::Top
-        | Shape::Bottom
-        | Shape::Null
-        | Shape::Bool(_)
-        | Shape::Int(_)
-        | Shape::Text(_)
-        | Shape::Kind(_)
-        | Shape::Range { .. }
-        | Shape::Bound { .. }
-        | Shape::NotInt(_)
-        | Shape::NotText(_)
-        | Shape::NotNull => true,
+    match shape.inside() {
+        Inside::Simple(_) => true,
+        Inside::Definition(number) => number < count,
+        Inside::And(operands) => are_operands(count, operands),
+        Inside::Or(operands) => are_operands(count, operands),
+        Inside::Struct { parts, .. } => are_sound_parts(count, parts),
+        Inside::List { front, end } => are_sound(count, front) && is_sound_end(count, end),
     }
 }
 

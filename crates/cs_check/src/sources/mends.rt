@@ -165,16 +165,12 @@ pub(crate) fn mend_at(source: &Source<'_>, offset: usize, made: usize) -> Option
     }
 }
 
-/// What a mend puts in the place of what is embedded.
-const EMBEDDED: &str = "{...}";
-
 /// The mend of an embedding at a place: of what is embedded, or of the name there alone. None where none is.
 pub(crate) fn mended_embedding(source: &Source<'_>, place: usize, is_name: bool) -> Option<Mend> {
     let embedded = Near { source, place }.embedding()?;
-    if is_name {
-        return Some(Mend::over(source, place, place.saturating_add(1), EMBEDDED));
-    }
-    Some(Mend::over(source, embedded.from, embedded.to, EMBEDDED))
+    let name = embedded.between(place, place.saturating_add(1));
+    let Part { from, to, .. } = if is_name { name } else { embedded };
+    Some(Mend::over(source, from, to, "{...}"))
 }
 
 /// The mend of a value that an embedding would open: `_`. None where no embedding is beside it.

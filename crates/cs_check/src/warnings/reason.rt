@@ -53,10 +53,8 @@ impl<'a> Reason<'a> {
             Reason::Lengths => text.push_str("its lists have different lengths"),
             Reason::MissingKey { key, closed } => {
                 put_quoted(text, "it requires ", key)?;
-                put_all(
-                    text,
-                    &[", and ", closed, ", which is closed, doesn't allow it"],
-                )
+                let parts = [", and ", closed, ", which is closed, doesn't allow it"];
+                put_all(text, &parts)
             }
             Reason::Field { key } => put_quoted(text, "nothing may stand under its key ", key),
             Reason::Element { place } => {

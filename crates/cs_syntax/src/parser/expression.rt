@@ -2,7 +2,8 @@
 // may nest. It begins at 29, a body and 28 values inside it, which is what
 // tokens within the limit of nesting need: however long a source is, the stack bears it.
 
-ghost use Rattle.std.specs.Prelude.{◌≡◌, ◌≤◌, map, length, true, false};
+ghost use Rattle.std.specs.Prelude.{◌≡◌, ◌≤◌, map, length, true, false, IfOk};
+ghost use Rattle.cs_grammar.specs.Spells.{start_at};
 ghost use Rattle.cs_grammar.specs.View.{expr_view, field_view, declaration_view, end_view};
 ghost use Rattle.cs_syntax.specs.Left.{left, Reads};
 ghost use Rattle.cs_syntax.specs.Reading.{inner, field_with, fields_with, struct_with, rest_with, end_with, elements_with, list_with};
@@ -12,7 +13,7 @@ ghost use Rattle.cs_syntax.specs.Reading.{paren_with, uncalled_with, operand_wit
 use crate::parser::kind::kind_of;
 use crate::parser::literal::literal;
 use crate::parser::place::Parser;
-use cs_grammar::{Declaration, Expr, Field, Kind, ListEnd, SyntaxFault, Wide};
+use cs_grammar::{Declaration, Expr, Field, Kind, ListEnd, Site, SyntaxFault, Wide};
 
 impl Parser<'_, '_> {
     /// A value, which may be a field alone, or an expression, where no such short form is allowed.
@@ -44,16 +45,24 @@ impl Parser<'_, '_> {
     #[tactic(auto, unfolding(crate::specs::Reading::field_with))]
     fn field(&mut self, depth: usize) -> Result<Field, SyntaxFault>
         requires { depth ≤ most_depth }
-        ensures { Reads field_view result self.new (field_with (inner depth) (left self.old)) }
+        ensures read { Reads field_view result self.new (field_with (inner depth) (left self.old)) }
+        ensures at { IfOk result (λ f. f.site.at ≡ start_at (left self.old)) }
     {
+        let at = self.start();
         let (label, quoted, mark) = self.head()?;
         self.expect(Kind::Colon)?;
         let value = self.inside(depth, true)?;
+        let site = Site {
+            at,
+            by: None,
+            all: Vec::new(self.alloc),
+        };
         Ok(Field {
             label,
             quoted,
             mark,
             value,
+            site,
         })
     }
 

@@ -7,7 +7,7 @@ ghost use Rattle.cs_grammar.specs.Height.{height, height_all, height_fields, hei
 ghost use Rattle.cs_grammar.specs.Height.{height_wide, height_declarations};
 ghost use Rattle.cs_syntax.specs.SeenHeight.{declaration_height};
 
-use cs_grammar::{Declaration, Definition, Expr, Field, ListEnd, Wide};
+use cs_grammar::{Declaration, Definition, Expr, Field, ListEnd, Wide, atom};
 
 /// Whether an expression is at most so high.
 #[cycle(height)]
@@ -26,10 +26,7 @@ fn is_low(expr: &Expr, limit: usize) -> bool
         Expr::List { front, end } => are_low(front, inside) && is_low_end(end, inside),
         Expr::Wide(wide) => is_low_wide(wide, limit),
         // The others have no parts.
-        Expr::Top | Expr::Bottom | Expr::Null => true,
-        Expr::Bool(_) | Expr::Int(_) | Expr::Text(_) => true,
-        Expr::Name { .. } | Expr::Reference { .. } => true,
-        Expr::Bound { .. } | Expr::NotInt(_) | Expr::NotText(_) | Expr::NotNull => true,
+        atom!() | Expr::Name { .. } | Expr::Reference { .. } => true,
     }
 }
 

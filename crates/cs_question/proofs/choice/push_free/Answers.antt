@@ -8,5 +8,5 @@ pub returns : goal.returns
 returns c = λ J s.
     let P = HoldsState J s in (
       λ h. subst (SomeOf P) (sym c.in_ok-push-2.ensures.items) (some_front P c.args.states.now.items _ h),
-      λ h. subst (SomeOf P) (sym c.in_ok-push-2.ensures.items) (some_back P c.args.states.now.items _ (inl (subst (Each (IsTaken J s)) (sym (c.in_ok-from_slice.ensures.items ∙ c.deref-2.ensures.value)) h))),
+      λ h. subst (SomeOf P) (sym c.in_ok-push-2.ensures.items) (some_back P c.args.states.now.items _ (inl (subst (Each (IsTaken J s)) (sym (c.in_ok-chosen.ensures.items ∙ c.deref.ensures.value)) h))),
     )

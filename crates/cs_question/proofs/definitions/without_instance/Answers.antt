@@ -20,7 +20,7 @@ returns-clause-none c = λ i e.
     let E = c.args.«package».now in
     let all = c.in_ok-numbering.field-0 in
     let w = c.in_ok-numbering.ensures in
-    let ns : Nodes = record { admitting = c.in_ok-side_of.field-0; refusing = c.new.result } in
+    let ns : Nodes = record { alloc = c.args.alloc; admitting = c.in_ok-side_of.field-0; refusing = c.new.result } in
     let table = c.in_ok-table.table in
     let first : Says (map (numbered all.numbering.children.items) all.numbering.rules.items) (map asked_of ns.admitting.items) = subst (λ cs. Says cs (map asked_of ns.admitting.items)) (ap₂ (λ inner rules. map (numbered inner) rules) c.deref-2.ensures.value c.deref.ensures.value) c.in_ok-side_of.ensures in
     let within : i < length E = let l = slice_get_within c.in_ok-all.all.items i true e in omega (arith, l, c.in_ok-all.ensures.long, ap length c.deref-4.ensures.value, w.long) in

@@ -1,9 +1,6 @@
-use Rattle.std.proofs.Common.{◌≡◌, ℕ, ◌<◌, length, arith}
-use Rattle.std.specs.Prelude.{slice_get}
-use Rattle.cs_question.proofs.Some.{lists_same}
+use Rattle.std.proofs.Common.{rules}
+use Rattle.std.proofs.lemmas.Slice.Eq.{slice_eq-Decides}
 use Rattle.cs_question.proofs.literal.are_same.Goals as goal
 
 pub returns : goal.returns
-returns c = λ e.
-    let size : length c.args.first.now ≡ length c.args.second.now = c.if-first-second.false in
-    lists_same c.args.first.now c.args.second.now size (λ k l. c.loop-i.invariant k (let t = c.loop-i-test.false in omega (arith, t, l)))
+returns c = λ e. (slice_eq-Decides (search rules) _ _ _ c.eq.ensures).0 e

@@ -13,7 +13,7 @@ returns-in_default-clause-none c = λ e I n x i named d sep.
     let E = c.args.«package».now in
     let root = c.in_ok-numbering.field-0 in
     let name = name_of E root.definition in
-    let ns : Nodes = record { admitting = c.in_ok-side_of.field-0; refusing = c.new.result } in
+    let ns : Nodes = record { alloc = c.args.alloc; admitting = c.in_ok-side_of.field-0; refusing = c.new.result } in
     let asked = c.in_ok-asked.asked.items in
     let first : Says (map (numbered root.numbering.children.items) root.numbering.rules.items) (map asked_of ns.admitting.items) = subst (λ cs. Says cs (map asked_of ns.admitting.items)) (ap₂ (λ inner rules. map (numbered inner) rules) c.deref-2.ensures.value c.deref.ensures.value) c.in_ok-side_of.ensures in
     let none = subst (IsMetByNoDocument ns) c.deref-3.ensures.value (c.in_ok-doc.ensures.none (ap is_some c.in_default.is)) in

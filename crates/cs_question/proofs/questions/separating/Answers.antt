@@ -16,7 +16,7 @@ returns-in_default-clause-none c = λ e I J n m x i j named other d sep.
     let two = c.in_ok-second.second in
     let name = name_of E one.definition in
     let name' = name_of F two.definition in
-    let ns : Nodes = record { admitting = c.in_ok-side_of.field-0; refusing = c.in_ok-side_of-2.field-0 } in
+    let ns : Nodes = record { alloc = c.args.alloc; admitting = c.in_ok-side_of.field-0; refusing = c.in_ok-side_of-2.field-0 } in
     let asked = c.in_ok-asked.asked.items in
     let first : Says (map (numbered one.numbering.children.items) one.numbering.rules.items) (map asked_of ns.admitting.items) = subst (λ cs. Says cs (map asked_of ns.admitting.items)) (ap₂ (λ inner rules. map (numbered inner) rules) c.deref-2.ensures.value c.deref.ensures.value) c.in_ok-side_of.ensures in
     let second : Says (map (numbered two.numbering.children.items) two.numbering.rules.items) (map asked_of ns.refusing.items) = subst (λ cs. Says cs (map asked_of ns.refusing.items)) (ap₂ (λ inner rules. map (numbered inner) rules) c.deref-4.ensures.value c.deref-3.ensures.value) c.in_ok-side_of-2.ensures in

@@ -6,9 +6,9 @@ use Rattle.cs_question.proofs.Loops.{item_some}
 use Rattle.cs_question.proofs.Between.{absorbed}
 use Rattle.cs_question.proofs.ranges.limits_of_all.Goals as goal
 
-pub returns-in-Some-limits_at : goal.returns-in-Some-limits_at
-returns-in-Some-limits_at c =
+pub returns : goal.returns
+returns c =
     IfSome_then c.narrowed.result c.narrowed.ensures (λ l f J side x.
-    sym (absorbed (J c.in-Some.first.now x) (list_all (λ p. J p x) c.args.parts.now) (λ h. all_placed (λ p. J p x) c.args.parts.now 0 c.in-Some.first.now h (item_some c.args.parts.now 0 c.in-Some.first c.in-Some.ensures.item)))
-    ∙ ap (λ b. b && list_all (λ p. J p x) c.args.parts.now) (c.in-Some-limits_at.ensures J side x)
+    sym (absorbed (J c.in_ok-first.first.now x) (list_all (λ p. J p x) c.args.parts.now) (λ h. all_placed (λ p. J p x) c.args.parts.now 0 c.in_ok-first.first.now h (item_some c.args.parts.now 0 c.in_ok-first.first c.in_ok-first.ensures.item)))
+    ∙ ap (λ b. b && list_all (λ p. J p x) c.args.parts.now) (c.in_ok-limits.ensures J side x)
     ∙ f J side x)

@@ -8,4 +8,4 @@ use Rattle.cs_question.specs.Between.{is_between}
 use Rattle.cs_question.proofs.ranges.narrowed.Given as goal
 
 abbrev pub invariant-loop-other : goal.invariant-loop-other
-invariant-loop-other l = (J : ℕ → Document → Bool) → IsSide (map asked_of l.nodes) J → (x : Document) → (is_integer (is_between l.fn.limits.least l.fn.limits.greatest) (outline (opened x)) && list_all (λ p. J p x) (take l.other-index l.others)) ≡ is_integer (is_between l.all.least l.all.greatest) (outline (opened x))
+invariant-loop-other l = (J : ℕ → Document → Bool) → IsSide (map asked_of l.nodes) J → (x : Document) → (is_integer (is_between l.fn.limits.0 l.fn.limits.1) (outline (opened x)) && list_all (λ p. J p x) (take l.other-index l.others)) ≡ is_integer (is_between l.all.0 l.all.1) (outline (opened x))

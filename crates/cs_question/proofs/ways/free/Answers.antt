@@ -10,6 +10,6 @@ returns-then-further c = λ e ended t s h b taken.
 
 pub returns-then-branch : goal.returns-then-branch
 returns-then-branch c = λ e ended t s h b taken.
-    no_further t.J t.n c.args.table.now.entries.items t c.args.further.now c.in-Behind.more c.in_ok-with.field-0.items
-    (λ f g k. c.in_ok-with.ensures f (ap (list_all f) c.deref-2.ensures.value ∙ c.in_ok-asked.ensures f (ap (list_all f) c.deref.ensures.value ∙ g) k) tt)
+    no_further t.J t.n c.args.table.now.entries.items t c.args.further.now c.in-Behind.more c.in_ok-asked.asked.items
+    (λ f g k. c.in_ok-asked.ensures f (ap (list_all f) c.deref.ensures.value ∙ g) k)
     (c.in_ok-is_shut.ensures c.if-branch.true ended) s.further h (subst (IsTaken t.J s) c.in-Behind.is taken)

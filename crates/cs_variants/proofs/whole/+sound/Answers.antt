@@ -2,7 +2,7 @@ use Rattle.std.proofs.Common.{◌≤◌, length, subst, arith}
 use Rattle.std.specs.List.{AllByRecursion}
 use Rattle.std.proofs.lemmas.List.{take_all}
 use Rattle.cs_variants.specs.Sound.{IsSound, IsSoundPart}
-use Rattle.cs_variants.proofs.Sounds.{each_more, sound_And, sound_Or, sound_Struct, sound_List, sound_Each, sound_Part}
+use Rattle.cs_variants.proofs.Sounds.{each_more, sound_Simple, sound_And, sound_Or, sound_Struct, sound_List, sound_Each, sound_Part}
 use Rattle.cs_variants.proofs.whole.+sound.Goals as goal
 
 pub are_sound-loop-shape-preserved : goal.are_sound-loop-shape-preserved
@@ -19,25 +19,33 @@ are_sound_parts-loop-part-preserved t c =
 pub are_sound_parts-returns : goal.are_sound_parts-returns
 are_sound_parts-returns t c = λ e. subst (AllByRecursion (IsSoundPart c.args.count)) (take_all c.loop-part.part-index c.args.parts.now (omega arith)) c.loop-part.invariant
 
+pub is_sound-returns-in-Simple : goal.is_sound-returns-in-Simple
+is_sound-returns-in-Simple t c = λ e.
+    sound_Simple c.args.count c.in-Simple.field-0 c.args.shape.now (c.in-Simple.ensures.made c.args.count) c.in-Simple.ensures.means
+
 pub is_sound-returns-in-And : goal.is_sound-returns-in-And
 is_sound-returns-in-And t c = λ e.
-    let two = subst (λ xs. 2 ≤ length xs) c.deref.ensures.value (c.are_operands.ensures.two e) in
-    let sound = subst (AllByRecursion (IsSound c.args.count)) c.deref.ensures.value (c.are_operands.ensures.sound e) in
-    sound_And c.args.count c.args.shape.now c.in-And.operands c.in-And.is two sound
+    let m = c.in-And.ensures.made in
+    let two = subst (λ xs. 2 ≤ length xs) m.2 (c.are_operands.ensures.two e) in
+    let sound = subst (AllByRecursion (IsSound c.args.count)) m.2 (c.are_operands.ensures.sound e) in
+    sound_And c.args.count c.args.shape.now m.0 m.1 two sound
 
 pub is_sound-returns-in-Or : goal.is_sound-returns-in-Or
 is_sound-returns-in-Or t c = λ e.
-    let two = subst (λ xs. 2 ≤ length xs) c.deref-in-Or.ensures.value (c.are_operands-in-Or.ensures.two e) in
-    let sound = subst (AllByRecursion (IsSound c.args.count)) c.deref-in-Or.ensures.value (c.are_operands-in-Or.ensures.sound e) in
-    sound_Or c.args.count c.args.shape.now c.in-Or.operands c.in-Or.is two sound
+    let m = c.in-Or.ensures.made in
+    let two = subst (λ xs. 2 ≤ length xs) m.2 (c.are_operands-in-Or.ensures.two e) in
+    let sound = subst (AllByRecursion (IsSound c.args.count)) m.2 (c.are_operands-in-Or.ensures.sound e) in
+    sound_Or c.args.count c.args.shape.now m.0 m.1 two sound
 
 pub is_sound-returns-in-Struct : goal.is_sound-returns-in-Struct
 is_sound-returns-in-Struct t c = λ e.
-    sound_Struct c.args.count c.args.shape.now c.in-Struct.parts c.in-Struct.opened c.in-Struct.is (subst (AllByRecursion (IsSoundPart c.args.count)) c.deref-in-Struct.ensures.value (c.are_sound_parts.ensures e))
+    let m = c.in-Struct.ensures.made in
+    sound_Struct c.args.count c.args.shape.now m.0 c.in-Struct.opened m.1 (subst (AllByRecursion (IsSoundPart c.args.count)) m.2 (c.are_sound_parts.ensures e))
 
 pub is_sound-returns-then-are_sound : goal.is_sound-returns-then-are_sound
 is_sound-returns-then-are_sound t c = λ e.
-    sound_List c.args.count c.args.shape.now c.in-List.front c.in-List.end c.in-List.is (subst (AllByRecursion (IsSound c.args.count)) c.deref-in-List.ensures.value (c.are_sound.ensures c.if-are_sound.true)) (c.is_sound_end.ensures e)
+    let m = c.in-List.ensures.made in
+    sound_List c.args.count c.args.shape.now m.0 c.in-List.end.now m.1 (subst (AllByRecursion (IsSound c.args.count)) m.2 (c.are_sound.ensures c.if-are_sound.true)) (c.is_sound_end.ensures e)
 
 pub is_sound_end-returns-in-Each : goal.is_sound_end-returns-in-Each
 is_sound_end-returns-in-Each t c = λ e. sound_Each c.args.count c.args.end.now c.in-Each.shape c.in-Each.is (subst (IsSound c.args.count) c.deref.ensures (c.is_sound.ensures e))

@@ -5,8 +5,8 @@ use Rattle.cs_grammar.proofs.Views.{view-label}
 use Rattle.cs_embeddings.specs.Alternatives.{Brought}
 use Rattle.cs_embeddings.proofs.gathered.Declared.of_brought.Goals as goal
 
-pub returns : goal.returns
-returns c =
+pub returns-clause-seen : goal.returns-clause-seen
+returns-clause-seen c =
     let b = c.args.brought in let f = b.field.now in
     ap (λ (s : List ℕ). let d : Brought = record { label = record { text = s; quotes = f.quoted }; mark = f.mark; value = expr_view f.value; place = b.place; embedding = b.embedding } in d)
     c.as_str.ensures.value

@@ -11,6 +11,6 @@ returns c ds bs told =
     let without = btree_map_updates_str name c.args.self.now.by_text c.remove-known.new.self None c.remove-known.ensures.updates in
     let after = btree_map_updates_str name c.remove-known.new.self c.insert.new.self _ c.in_ok-insert.ensures.updates in
     let known = subst (λ o. TellsLabel o ds name bs []) (sym c.remove-known.ensures.value) (told name) in
-    let more = c.in_ok-add.ensures name (those_of name bs) (c.together-together.ensures ds bs known) in
+    let more = c.in_ok-add.ensures.seen name (those_of name bs) (c.together-together.ensures ds bs known) in
     label_added c.args.self.now (record { by_text = c.insert.new.self }) c.remove-known.new.self ds bs (declared_view c.args.declared) name c.add.new.self
     refl c.requires told without after more

@@ -534,7 +534,7 @@ joined-returns-in_ok-add-in-Struct t c ds n tells well embeds deep =
     let o = c.in-Struct.at in let b = c.in-Struct.opened in let fs = fields_view c.deref-in-Struct.result.now in
     let is = ap expr_view c.in-Struct.is ∙ view-Struct o c.in-Struct.fields b ∙ ap (λ gs. T.struct o (fields_view gs) b) (sym c.deref-in-Struct.ensures.value) in
     let same = is_own p fs b (alternative_view c.add.new.self)
-    (c.in_ok-add-in-Struct.ensures ∙ ap₂ (λ q a. with_fields q fs a) c.itself.ensures c.nothing-own.ensures) in
+    (c.in_ok-add-in-Struct.ensures ∙ ap₂ (λ q a. with_fields q fs a) c.itself.ensures.seen c.nothing-own.ensures) in
     let here = own_well (inner ds n) p fs b (subst (λ u. embeds_well (inner ds n) u ≡ true) is embeds) in
     subst (λ u. Makes r file room.levels nodes rest (joined_with ds V room.is_whole p u) (clashes_with ds C p u)) (sym is)
     (subst (λ (q : ℕ). Makes r file room.levels nodes rest (literal_of ds V q (J.own p fs b)) (clashes_of ds C false (J.own p fs b))) c.unwrap_or-at.ensures
@@ -554,7 +554,7 @@ joined_standing-returns-in-Several t c ds n tells well sound embeds deep =
 
 pub joined_declaration-returns-in_err-value : goal.joined_declaration-returns-in_err-value
 joined_declaration-returns-in_err-value t c ds n tells well sound embeds deep =
-    let p = err_from_is_err_and c.from_residual.result c.from_residual.ensures.1 in
+    let p = err_from_is_err_and c.from_residual-in_err-value.result c.from_residual-in_err-value.ensures.1 in
     let d = gathered_view c.args.declaration.now in let V = joined_value ds n in let C = clashes_value ds n in
     rw (p.1, p.2)
     (subst (λ q. let m = joined_with ds V true q d.value in IsNoRoom c.in_err-value.field-0.0 c.args.self.file c.args.room.levels c.args.nodes.now (height m) (size m)
@@ -567,7 +567,7 @@ joined_declaration-returns t c ds n tells well sound embeds deep =
     (clashes_with ds C q d.value)) c.place-place.ensures (c.in_ok-value.ensures ds n tells well sound embeds deep) in
     let mark = c.placed-mark.ensures ∙ ap₂ placed c.place-place.ensures c.mark.ensures in
     record {
-      made = same_field (field_view c.in_ok-field.field-0) d (joined_with ds V true d.place) _ _ _ x c.in_ok-field.ensures
+      made = same_field (field_view c.in_ok-field.field-0) d (joined_with ds V true d.place) _ _ _ x c.in_ok-field.ensures.seen
           c.label.ensures c.is_quoted.ensures mark made.made;
       low = made.low;
       left = made.left;

@@ -145,7 +145,7 @@ join-returns-in-Reference t c ds tells can =
     let read = ap (λ t. reference t x.at) (sym c.deref-in-Reference.ensures) in
     let is = ap expr_view x.is ∙ view-Reference x.text x.at ∙ read in
     let here = at_reference ds c.args.steps c.in-Some.left (origin_view c.args.origin) a one (expr_view c.args.expr.now) s x.at is can in
-    let made = here.1 ∙ ap (λ p. Spec.join_definition (Spec.alternatives ds c.in-Some.left) s p (bodies s ds) a) (sym c.referred_at.ensures) in
+    let made = here.1 ∙ ap (λ p. Spec.join_definition (Spec.alternatives ds c.in-Some.left) s p (bodies s ds) a) (sym c.referred_at.ensures.seen) in
     subst (λ xs. Reaches c.join_definition.result c.args.self.room (alternatives_view c.args.found.now.alternatives.items ++ xs)
     (alternatives_view c.join_definition.new.found.alternatives.items)) (sym made) (c.join_definition.ensures ds tells here.0)
 
@@ -315,7 +315,22 @@ join_values-returns-in_err-found t c ds tells well =
     let before = c.loop-value.invariant ds tells well in
     let s = body_step can inner (origin_view c.args.origin) bs i b c.loop-value-test.true c.value-item.is found _ before.0 before.1 in
     rw (p.1, p.2) (bodies_too_much can inner (alternatives_grow ds c.args.steps) (origin_view c.args.origin) e c.args.self.room
-    (flat_map (inner (origin_view c.args.origin) (expr_view b.now)) found) _ (bodies_view (drop (i + 1) bs)) s.1 s.2 (c.in_err-found.ensures ds tells s.0))
+    (flat_map (inner (origin_view c.args.origin) (expr_view b.now)) found) _ (bodies_view (drop (i + 1) bs)) s.1 s.2
+    (subst (λ q. IsTooMuch e c.args.self.room (flat_map (inner q (expr_view b.now)) found)) c.of_value-own.ensures (c.in_err-found.ensures ds tells s.0)))
+
+pub join_values-loop-value-preserved : goal.join_values-loop-value-preserved
+join_values-loop-value-preserved t c ds tells well =
+    let can = can_be_embedded ds c.args.steps in
+    let inner = Spec.alternatives ds c.args.steps in
+    let o = origin_view c.args.origin in
+    let bs = c.args.values.now in
+    let i = c.loop-value.value-index in
+    let b = c.value-item.result in
+    let found = alternatives_view c.loop-value.found.alternatives.items in
+    let before = c.loop-value.invariant ds tells well in
+    let s = body_step can inner o bs i b c.loop-value-test.true c.value-item.is found _ before.0 before.1 in
+    let made = c.in_ok-found.ensures ds tells s.0 ∙ ap (λ q. flat_map (inner q (expr_view b.now)) found) c.of_value-own.ensures in
+    (s.1, ap (λ xs. Spec.join_bodies inner o (bodies_view (drop (i + 1) bs)) xs) made ∙ s.2)
 
 -- ---- operands one behind the other
 

@@ -8,6 +8,6 @@ use Rattle.cs_embeddings.proofs.joining.Joining.united.Goals as goal
 pub returns : goal.returns
 returns c ds tells can =
     let ts = bodies_view c.args.operands.now in
-    let made = ap₂ (λ q a. Spec.join_bodies (Spec.alternatives ds 127) q ts (a ∷ [])) c.itself.ensures c.nothing.ensures
+    let made = ap₂ (λ q a. Spec.join_bodies (Spec.alternatives ds 127) q ts (a ∷ [])) c.itself.ensures.seen c.nothing.ensures
     ∙ joined_in_turn ds most_steps 127 ts refl can (Spec.itself c.args.place) nothing in
     subst (λ xs. ReachesAll c.join_values.result c.args.self.room xs) made (c.join_values.ensures ds tells (each_can ds most_steps 127 ts refl can))

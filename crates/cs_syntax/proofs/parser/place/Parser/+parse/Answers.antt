@@ -16,14 +16,14 @@ fields-returns-in_err-field t c =
     let n = length c.args.self.now.tokens.now - (c.loop.counter + 1) in
     let is : k ≡ suc n = omega arith in
     let f = c.in_err-field.field-0.0 in
-    rw (p.1, p.2) (fails-of f _ _ c.loop.invariant (breaks field_view another_field (field_with (inner c.args.depth)) c.loop.fields.items f k n (left c.loop.self) (left c.skip_to_field.new.self) is c.if-not-skip_to_field.ensures c.in_err-field.ensures))
+    rw (p.1, p.2) (fails-of f _ _ c.loop.invariant (breaks field_view another_field (field_with (inner c.args.depth)) c.loop.fields.items f k n (left c.loop.self) (left c.skip_to_field.new.self) is c.if-not-skip_to_field.ensures c.in_err-field.ensures.read))
 
 pub fields-loop-preserved : goal.fields-loop-preserved
 fields-loop-preserved t c =
     let k = length c.args.self.now.tokens.now - c.loop.counter in
     let n = length c.args.self.now.tokens.now - (c.loop.counter + 1) in
     let is : k ≡ suc n = omega arith in
-    rw c.in_ok-push.ensures.items (goes_on field_view another_field (field_with (inner c.args.depth)) c.loop.fields.items c.in_ok-field.field-0 k n (left c.loop.self) (left c.skip_to_field.new.self) (left c.field.new.self) is c.if-not-skip_to_field.ensures c.in_ok-field.ensures ∙ c.loop.invariant)
+    rw c.in_ok-push.ensures.items (goes_on field_view another_field (field_with (inner c.args.depth)) c.loop.fields.items c.in_ok-field.field-0 k n (left c.loop.self) (left c.skip_to_field.new.self) (left c.field.new.self) is c.if-not-skip_to_field.ensures c.in_ok-field.ensures.read ∙ c.loop.invariant)
 
 pub fields-returns-then-not-skip_to_field : goal.fields-returns-then-not-skip_to_field
 fields-returns-then-not-skip_to_field t c = sym c.loop.invariant ∙ ends field_view another_field (field_with (inner c.args.depth)) c.loop.fields.items _ (left c.loop.self) c.if-not-skip_to_field.ensures.0 ∙ ap (λ ts. Ok (map field_view c.loop.fields.items, ts)) (sym c.if-not-skip_to_field.ensures.1)
