@@ -18,6 +18,8 @@ use cs_rules::{Known, Rulebook};
 use cs_table::Verdicts;
 use std::alloc::{AllocError, Global};
 
+type Told = Result<(), AllocError>;
+
 /// A document, the rules that it was judged by, and the table of the verdicts.
 #[derive(Drop)]
 pub(crate) struct InstanceGraph<'a> {
@@ -62,12 +64,7 @@ impl Explains for InstanceGraph<'_> {
         self.book.numbering.rules.len()
     }
 
-    fn causes(
-        &self,
-        item: usize,
-        rule: usize,
-        found: &mut Vec<InstanceCause>,
-    ) -> Result<(), AllocError> {
+    fn causes(&self, item: usize, rule: usize, found: &mut Vec<InstanceCause>) -> Told {
         let value = self.flat.item(item);
         let known = Known {
             item,
@@ -101,12 +98,7 @@ impl Chooses for InstanceGraph<'_> {
         InstanceCause::NoAlternative
     }
 
-    fn keep_near(
-        &self,
-        item: usize,
-        _rule: usize,
-        alternatives: &mut Vec<InstanceCause>,
-    ) -> Result<(), AllocError> {
+    fn keep_near(&self, item: usize, _rule: usize, alternatives: &mut Vec<InstanceCause>) -> Told {
         *alternatives = near(self, item, alternatives)?;
         Ok(())
     }

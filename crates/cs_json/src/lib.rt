@@ -5,7 +5,6 @@
 mod document;
 mod listing;
 mod numbers;
-mod pretty;
 mod read;
 mod shown;
 mod write;
@@ -15,7 +14,6 @@ pub use cs_flat::{Flat, Item, flatten};
 pub use document::{Document, read_document};
 pub use json::Scratch;
 pub use listing::read_flat;
-pub use pretty::write_pretty;
 pub use read::read_doc;
 pub use shown::{is_read_as, shown_text};
-pub use write::write_doc;
+pub use write::{write_doc, write_pretty};

@@ -10,7 +10,7 @@ use Rattle.cs_package.specs.Environment.{Environment}
 use Rattle.cs_profile.specs.Validity.{IsValidity, OneMeaning as OneValidity}
 use Rattle.cs_validate.specs.Refusal.{IsRefusal}
 use Rattle.cs_validate.specs.Rules.{HasManyPairs as HasManyBySchema}
-use Rattle.cs_validate.specs.declared.fault.ValidateFault.{ValidateFault}
+use Rattle.cs_table.specs.declared.fault.TableFault.{TableFault}
 
 -- by the definition of that name
 pub record IsRootVerdict {T : Type 0} (E : Environment) (n : List ℕ) (d : Document) (result : Result T InstanceFault) (truth : T → Bool) : Type 0 where
@@ -21,7 +21,7 @@ pub record IsRootVerdict {T : Type 0} (E : Environment) (n : List ℕ) (d : Docu
   pub known : IsErrOf result UnknownRoot → ⊥
 
 -- by the schema
-pub record IsSchemaVerdict {T : Type 0} (S d : Document) (result : Result T ValidateFault) (truth : T → Bool) : Type 0 where
+pub record IsSchemaVerdict {T : Type 0} (S d : Document) (result : Result T TableFault) (truth : T → Bool) : Type 0 where
   pub one_meaning : OnOk result (OneValidity S)
   pub answer : IfOk result (λ t. (V : Document → Document → Bool) → IsValidity S V → truth t ≡ V S d)
   pub within : OnOk result (¬ HasManyBySchema S d)

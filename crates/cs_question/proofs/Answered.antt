@@ -1,7 +1,7 @@
 -- A table at rest says the truth of all documents: by induction on how deep they are.
 use Rattle.std.proofs.Common.{◌≡◌, ℕ, zero, suc, ◌<◌, ◌≤◌, true, List, arith}
 use Rattle.cs_document.specs.Document.{Document, IsDocument, depth}
-use Rattle.cs_question.specs.declared.literal.Literal.{Literal}
+use Rattle.cs_question.specs.declared.nodes.Literal.{Literal}
 use Rattle.cs_question.specs.declared.nodes.Nodes.{Nodes}
 use Rattle.cs_question.specs.declared.table.Table.{Table}
 use Rattle.cs_question.specs.Nodes.{Judgement, IsMeaning}

@@ -10,7 +10,7 @@ use Rattle.cs_package.specs.Expression.{Declaration, is_every}
 use Rattle.cs_instance.specs.Constraint.{allows, may_be_absent, value_holds, declaration_holds, fields_hold}
 use Rattle.cs_question.specs.Spread.{SomeOf, is_among, others}
 use Rattle.cs_question.proofs.Some.{some_false, some_true, some_map, any_from, or_left, beq_same, all_contained}
-use Rattle.cs_question.specs.declared.literal.Literal.{Literal}
+use Rattle.cs_question.specs.declared.nodes.Literal.{Literal}
 use Rattle.cs_question.specs.Nodes.{Judgement}
 use Rattle.cs_question.specs.Asked.{meets}
 use Rattle.std.proofs.lemmas.Slice.Eq.{bytes_eq-Decides}

@@ -6,8 +6,7 @@ use Rattle.std.proofs.lemmas.Bool.{and_parts, and_cases}
 use Rattle.std.proofs.lemmas.Option.{same_Some}
 use Rattle.cs_document.specs.Document.{Document, Documents, no_documents, document, list, elements, IsDocument, AreDocuments, depth, documents_depth}
 use Rattle.cs_instance.specs.Constraint.{Rest, nothing, anything, each, rest_holds, elements_hold}
-use Rattle.cs_question.specs.declared.lists.Element.TheVariants.{Each}
-use Rattle.cs_question.specs.Elements.{element_at, element_behind, fits, IsFrom}
+use Rattle.cs_question.specs.Elements.{element_at, fits, IsFrom}
 use Rattle.cs_question.specs.Spread.{SomeOf}
 use Rattle.cs_question.specs.Truth.{IsInner}
 
@@ -66,7 +65,7 @@ module _ (inside : Document → ℕ → Bool) where
   all_got e (z ∷ ys) zero y h g = ap (λ x. inside x e) (sym (same_Some z y g)) ∙ (and_parts (inside z e) (list_all (λ x. inside x e) ys) h).0
   all_got e (z ∷ ys) (suc i) y h g = all_got e ys i y (and_parts (inside z e) (list_all (λ x. inside x e) ys) h).1 g
 
-  rest_fits : (rest : Rest ℕ) (ys : List Document) (i : ℕ) (y : Document) → rest_holds inside rest ys ≡ true → slice_get ys i ≡ Some y → fits inside (element_behind rest) y ≡ true
+  rest_fits : (rest : Rest ℕ) (ys : List Document) (i : ℕ) (y : Document) → rest_holds inside rest ys ≡ true → slice_get ys i ≡ Some y → fits inside rest y ≡ true
   rest_fits nothing [] i y h g = cc
   rest_fits nothing (z ∷ ys) i y h g = cc
   rest_fits anything ys i y h g = refl
@@ -95,7 +94,7 @@ module _ (inside : Document → ℕ → Bool) where
     | inr k ↦ let f = all_fails e ys k in (suc f.0, f.1, f.2, f.3)
   ]
 
-  rest_fails : (rest : Rest ℕ) (ys : List Document) → rest_holds inside rest ys ≡ false → Fails (λ i y. fits inside (element_behind rest) y) ys
+  rest_fails : (rest : Rest ℕ) (ys : List Document) → rest_holds inside rest ys ≡ false → Fails (λ i y. fits inside rest y) ys
   rest_fails nothing [] h = cc
   rest_fails nothing (z ∷ ys) h = (0, z, refl, refl)
   rest_fails anything ys h = cc
@@ -109,7 +108,7 @@ module _ (inside : Document → ℕ → Bool) where
     | inr k ↦ let f = fails es rest ys (omega (arith, l)) k in (suc f.0, f.1, f.2, f.3)
   ]
 
-pub behind_is : (es : List ℕ) (rest : Rest ℕ) (i : ℕ) → length es ≤ i → element_at es rest i ≡ element_behind rest
+pub behind_is : (es : List ℕ) (rest : Rest ℕ) (i : ℕ) → length es ≤ i → element_at es rest i ≡ rest
 behind_is [] rest i l = refl
 behind_is (e ∷ es) rest zero l = absurd (omega (arith, l))
 behind_is (e ∷ es) rest (suc i) l = behind_is es rest i (omega (arith, l))
@@ -119,12 +118,12 @@ pub element_from : (es : List ℕ) (rest : Rest ℕ) (place i : ℕ) (b : Bool) 
 element_from es rest place i false is h = ap (element_at es rest) is
 element_from es rest place i true l h = let k = h refl in behind_is es rest i (omega (arith, k, l)) ∙ sym (behind_is es rest place k)
 
-pub element_got : (es : List ℕ) (rest : Rest ℕ) (i e : ℕ) → slice_get es i ≡ Some e → element_at es rest i ≡ Each e
+pub element_got : (es : List ℕ) (rest : Rest ℕ) (i e : ℕ) → slice_get es i ≡ Some e → element_at es rest i ≡ each e
 element_got [] rest i e g = cc
-element_got (d ∷ es) rest zero e g = ap Each (same_Some d e g)
+element_got (d ∷ es) rest zero e g = ap each (same_Some d e g)
 element_got (d ∷ es) rest (suc i) e g = element_got es rest i e g
 
-pub element_past : (es : List ℕ) (rest : Rest ℕ) (i : ℕ) → slice_get es i ≡ None → element_at es rest i ≡ element_behind rest
+pub element_past : (es : List ℕ) (rest : Rest ℕ) (i : ℕ) → slice_get es i ≡ None → element_at es rest i ≡ rest
 element_past [] rest i g = refl
 element_past (d ∷ es) rest zero g = cc
 element_past (d ∷ es) rest (suc i) g = element_past es rest i g

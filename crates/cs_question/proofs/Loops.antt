@@ -5,8 +5,8 @@ use Rattle.std.specs.Slice.{IsItemAt}
 use Rattle.std.specs.List.{list_all, list_any, AllByRecursion as Each}
 use Rattle.std.proofs.lemmas.Bool.{and_parts, and_from, or_cases}
 use Rattle.std.proofs.lemmas.List.{get_or_default}
-use Rattle.cs_question.specs.declared.literal.Literal.{Literal}
-use Rattle.cs_question.specs.declared.literal.Side.TheVariants.{Admitting}
+use Rattle.cs_question.specs.declared.nodes.Literal.{Literal}
+use Rattle.cs_question.specs.declared.nodes.Side.TheVariants.{Admitting}
 use Rattle.std.proofs.lemmas.List.Folds.{list_all-append, list_any-append, list_all-map}
 use Rattle.cs_document.proofs.Each.{each_append, each_front, each_back}
 use Rattle.cs_document.proofs.Maps.{take_at}

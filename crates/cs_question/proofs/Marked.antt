@@ -6,7 +6,7 @@ use Rattle.std.proofs.lemmas.Bool.{cases_Bool}
 use Rattle.std.proofs.lemmas.Int.{ints}
 use Rattle.cs_document.specs.Opened.{an_integer}
 use Rattle.cs_document.proofs.Each.{each_map, all_same}
-use Rattle.cs_question.specs.declared.literal.Literal.{Literal}
+use Rattle.cs_question.specs.declared.nodes.Literal.{Literal}
 use Rattle.cs_question.specs.declared.nodes.Nodes.{Nodes}
 use Rattle.cs_question.specs.Outlines.{may, may_all, SameSides, AreMarked, IsNoneBeside}
 use Rattle.cs_question.specs.Spread.{SomeOf}

@@ -13,8 +13,8 @@ use Rattle.cs_instance.specs.Numbering.{rule_at, IsNumbering}
 use Rattle.cs_instance.specs.Steps.{numbered}
 use Rattle.cs_instance.specs.declared.rules.Rule.{Rule as Coded}
 use Rattle.cs_instance.proofs.Satisfied.{named}
-use Rattle.cs_question.specs.declared.literal.Side.TheVariants.{Admitting, Refusing}
-use Rattle.cs_question.specs.declared.literal.Literal.{Literal}
+use Rattle.cs_question.specs.declared.nodes.Side.TheVariants.{Admitting, Refusing}
+use Rattle.cs_question.specs.declared.nodes.Literal.{Literal}
 use Rattle.cs_question.specs.Asked.{meets}
 use Rattle.cs_question.specs.Truth.{IsMetByNoDocument}
 use Rattle.cs_question.proofs.Some.{beq_same}

@@ -10,7 +10,7 @@ use Rattle.cs_instance.specs.Constraint.{Constraint, simple, is_satisfied}
 use Rattle.cs_instance.specs.Steps.{numbered, asked_of as rule_asks}
 use Rattle.cs_instance.specs.declared.rules.Rule.{Rule as Coded}
 use Rattle.cs_instance.proofs.Satisfied.{named}
-use Rattle.cs_question.specs.declared.literal.Literal.{Literal}
+use Rattle.cs_question.specs.declared.nodes.Literal.{Literal}
 use Rattle.cs_question.specs.declared.nodes.Node.{Node}
 use Rattle.cs_question.specs.declared.nodes.Nodes.{Nodes}
 use Rattle.cs_question.specs.Asked.{meets}

@@ -7,7 +7,7 @@ use Rattle.cs_document.specs.Document.{Document, null, boolean, integer, text, l
 use Rattle.cs_document.specs.Opened.{Opened, opened, a_null, a_boolean, an_integer, a_text, a_list, an_object}
 use Rattle.cs_document.proofs.Each.{each_map, all_true}
 use Rattle.cs_instance.specs.Constraint.{Outline, outline, Constraint, simple, all_of, any_of, object_of, list_of, is_satisfied}
-use Rattle.cs_question.specs.declared.literal.Literal.{Literal}
+use Rattle.cs_question.specs.declared.nodes.Literal.{Literal}
 use Rattle.cs_question.specs.declared.nodes.Node.{Node}
 use Rattle.cs_question.specs.declared.nodes.Nodes.{Nodes}
 use Rattle.cs_question.specs.Nodes.{Judgement, IsMeaning, asked_of, nodes_on}

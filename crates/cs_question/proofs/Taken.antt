@@ -5,7 +5,7 @@ use Rattle.cs_question.proofs.Some.{beq_same}
 use Rattle.cs_question.proofs.Listed.{got_taken}
 use Rattle.std.specs.List.{list_all, AllByRecursion as Each}
 use Rattle.cs_document.specs.Document.{Document}
-use Rattle.cs_question.specs.declared.literal.Literal.{Literal}
+use Rattle.cs_question.specs.declared.nodes.Literal.{Literal}
 use Rattle.cs_question.specs.declared.places.Key.{Key}
 use Rattle.cs_question.specs.declared.places.Place.{Place}
 use Rattle.cs_question.specs.declared.places.Further as further

@@ -8,7 +8,7 @@ use Rattle.cs_instance.specs.Constraint.{fields_hold, elements_hold}
 use Rattle.cs_instance.specs.Steps.{field_of}
 use Rattle.cs_instance.specs.declared.fields.Fields.{Fields}
 use Rattle.cs_document.proofs.Each.{each_map, all_true}
-use Rattle.cs_question.specs.declared.literal.Literal.{Literal}
+use Rattle.cs_question.specs.declared.nodes.Literal.{Literal}
 use Rattle.cs_question.specs.declared.nodes.Node.{Node}
 use Rattle.cs_question.specs.declared.nodes.Node.TheVariants as node
 use Rattle.cs_question.specs.declared.nodes.Nodes.{Nodes}

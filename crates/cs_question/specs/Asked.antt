@@ -3,7 +3,7 @@ use Rattle.std.specs.Prelude.{◌≡◌, Bool, true, List}
 use Rattle.std.specs.Bool.{beq}
 use Rattle.std.specs.List.{list_all}
 use Rattle.cs_document.specs.Document.{Document}
-use Rattle.cs_question.specs.declared.literal.Literal.{Literal}
+use Rattle.cs_question.specs.declared.nodes.Literal.{Literal}
 use Rattle.cs_question.specs.Nodes.{Judgement}
 
 abbrev pub meets : Judgement → Document → Literal → Bool

@@ -2,30 +2,23 @@
 use Rattle.std.specs.Prelude.{◌≡◌, ◌≤◌, ℕ, zero, suc, Bool, true, false, List, [], ◌∷◌, length}
 use Rattle.cs_document.specs.Document.{Document, Documents, list, elements, IsDocument, depth}
 use Rattle.cs_instance.specs.Constraint.{Rest, nothing, anything, each}
-use Rattle.cs_question.specs.declared.literal.Literal.{Literal}
+use Rattle.cs_question.specs.declared.nodes.Literal.{Literal}
 use Rattle.cs_question.specs.declared.nodes.Nodes.{Nodes}
 use Rattle.cs_question.specs.declared.table.Table.{Table}
 use Rattle.cs_question.specs.Asked.{meets_all}
 use Rattle.cs_question.specs.Nodes.{IsMeaning}
 use Rattle.cs_question.specs.Truth.{Truth}
-use Rattle.cs_question.specs.declared.lists.Element.{Element}
-use Rattle.cs_question.specs.declared.lists.Element.TheVariants.{Nothing, Anything, Each}
 
-abbrev pub element_behind : Rest ℕ → Element
-element_behind nothing = Nothing
-element_behind anything = Anything
-element_behind (each e) = Each e
-
-abbrev pub element_at : List ℕ → Rest ℕ → ℕ → Element
-element_at [] rest i = element_behind rest
-element_at (e ∷ es) rest zero = Each e
+abbrev pub element_at : List ℕ → Rest ℕ → ℕ → Rest ℕ
+element_at [] rest i = rest
+element_at (e ∷ es) rest zero = each e
 element_at (e ∷ es) rest (suc i) = element_at es rest i
 
 -- whether a document is as asked there
-abbrev pub fits : (Document → ℕ → Bool) → Element → Document → Bool
-fits inside Nothing y = false
-fits inside Anything y = true
-fits inside (Each e) y = inside y e
+abbrev pub fits : (Document → ℕ → Bool) → Rest ℕ → Document → Bool
+fits inside nothing y = false
+fits inside anything y = true
+fits inside (each e) y = inside y e
 
 -- a place is the one that is meant, or also one behind it
 abbrev pub IsFrom : ℕ → Bool → ℕ → Type 0

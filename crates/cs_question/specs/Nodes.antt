@@ -5,8 +5,8 @@ use Rattle.cs_document.specs.Opened.{opened}
 use Rattle.cs_package.specs.View.{expression_of}
 use Rattle.cs_instance.specs.Constraint.{Rest, nothing, anything, each, Outline, Constraint, simple, all_of, any_of, object_of, list_of, is_integer, is_within, is_satisfied}
 use Rattle.cs_instance.specs.Steps.{test_of, field_of}
-use Rattle.cs_question.specs.declared.literal.Side.{Side}
-use Rattle.cs_question.specs.declared.literal.Side.TheVariants.{Admitting, Refusing}
+use Rattle.cs_question.specs.declared.nodes.Side.{Side}
+use Rattle.cs_question.specs.declared.nodes.Side.TheVariants.{Admitting, Refusing}
 use Rattle.cs_question.specs.declared.nodes.Node.{Node}
 use Rattle.cs_question.specs.declared.nodes.Node.TheVariants as node
 use Rattle.cs_question.specs.declared.nodes.NodeEnd.{NodeEnd}

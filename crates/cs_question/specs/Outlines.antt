@@ -8,7 +8,7 @@ use Rattle.std.specs.Str.{bytes_eq}
 use Rattle.std.specs.List.{list_all, AllByRecursion}
 use Rattle.cs_document.specs.Opened.{a_null, a_boolean, an_integer, a_text, a_list, an_object}
 use Rattle.cs_instance.specs.Constraint.{Outline, Constraint, simple, all_of, any_of, object_of, list_of}
-use Rattle.cs_question.specs.declared.literal.Literal.{Literal}
+use Rattle.cs_question.specs.declared.nodes.Literal.{Literal}
 use Rattle.cs_question.specs.declared.nodes.Node.{Node}
 use Rattle.cs_question.specs.declared.nodes.Nodes.{Nodes}
 use Rattle.cs_question.specs.Nodes.{asked_of, nodes_on}

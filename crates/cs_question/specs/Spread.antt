@@ -4,14 +4,14 @@ use Rattle.std.specs.Borrow.{Bor}
 use Rattle.std.specs.List.{AllByRecursion, list_any, filter}
 use Rattle.std.specs.Str.{bytes_eq}
 use Rattle.cs_document.specs.Document.{Document, Members, Entry, AreMembers, entries, under}
-use Rattle.cs_question.specs.declared.literal.Literal.{Literal}
+use Rattle.cs_question.specs.declared.nodes.Literal.{Literal}
 use Rattle.cs_question.specs.declared.places.Key.TheVariants as key
 use Rattle.cs_question.specs.declared.places.Key.{Key}
 use Rattle.cs_question.specs.declared.places.Place.{Place}
 use Rattle.cs_question.specs.declared.places.Further as further
 use Rattle.cs_question.specs.declared.places.Way.{Way}
 use Rattle.cs_question.specs.declared.places.Way.TheVariants.{Absent, Present, Optional, Behind}
-use Rattle.cs_question.specs.declared.state.State.{State}
+use Rattle.cs_question.specs.declared.choice.State.{State}
 use Rattle.cs_question.specs.declared.table.Table.{Table}
 use Rattle.cs_question.specs.Nodes.{Judgement}
 use Rattle.cs_question.specs.Asked.{meets, meets_all}

@@ -2,8 +2,8 @@
 use Rattle.std.specs.Prelude.{◌≡◌, ℕ, ◌<◌, ◌≤◌, Bool, true, List, [], ◌∷◌, Some, IsNone, slice_get}
 use Rattle.std.specs.List.{list_all}
 use Rattle.cs_document.specs.Document.{Document, Documents, Members, list, object, IsDocument, depth}
-use Rattle.cs_question.specs.declared.literal.Literal.{Literal}
-use Rattle.cs_question.specs.declared.literal.Side.TheVariants.{Admitting}
+use Rattle.cs_question.specs.declared.nodes.Literal.{Literal}
+use Rattle.cs_question.specs.declared.nodes.Side.TheVariants.{Admitting}
 use Rattle.cs_question.specs.declared.nodes.Nodes.{Nodes}
 use Rattle.cs_question.specs.declared.table.Entry.{Entry}
 use Rattle.cs_question.specs.declared.table.Table.{Table}

@@ -1,23 +1,109 @@
-// The cases of a question: what is asked of the same document is opened, alternative by alternative.
-ghost use Rattle.std.specs.Prelude.{◌≡◌, ◌<◌, true, IfOk, IfSome, IsNone, IsTrue, OnOk, slice_get, Some};
+// The cases of a question: what is asked of the same document is opened, alternative by alternative, and then a document is looked for.
+ghost use Rattle.std.specs.Prelude.{◌≡◌, true, IsTrue, IfOk, IsNone, ◌<◌, IfSome, OnOk, slice_get, Some};
 ghost use Rattle.std.specs.List.{list_all, list_any};
 ghost use Rattle.cs_document.specs.Document.{Document};
 ghost use Rattle.cs_question.specs.Asked.{meets, meets_all};
-ghost use Rattle.cs_question.specs.Cases.{IsCovered, Continues, Covers};
 ghost use Rattle.cs_question.specs.Nodes.{Judgement, IsMeaning};
+ghost use Rattle.cs_question.specs.Outlines.{NoScalar};
 ghost use Rattle.cs_question.specs.Truth.{NoDocument};
+ghost use Rattle.cs_question.specs.Cases.{IsCovered, Continues, Covers};
 
-use crate::budget::MOST_STEPS;
-use crate::effort::Effort;
-use crate::fault::SearchFault;
-use crate::found::Found;
-use crate::leaves::document_of;
-use crate::literal::{Literal, add, are_same, part_of, without};
-use crate::nodes::{Node, Nodes};
-use crate::refused::Refused;
-use crate::table::Table;
-use std::alloc::{AllocError, Global};
-use std::collections::BTreeSet;
+use crate::fault::{Effort, MOST_STEPS, SearchFault};
+use crate::lists::list_of;
+use crate::maps::map_of;
+use crate::nodes::{Literal, Node, Nodes, add, are_same, part_of, without};
+use crate::scalars::{integer_of, may_meet_all, text_of};
+use crate::sides::{Sign, are_alike, sign_of};
+use crate::table::{Found, Table};
+use cs_document::Doc;
+use cs_flat::Item;
+use std::alloc::AllocError;
+use std::collections::{BTreeMap, BTreeSet};
+
+/// The places of the constants and ranges that aren't to be met.
+#[derive(Drop)]
+pub(crate) struct Refused<'n> {
+    places: BTreeMap<Sign<'n>, usize>,
+}
+
+impl<'n> Refused<'n> {
+    /// Those among what is asked.
+    pub(crate) fn of(nodes: &Nodes<'n>, asked: &[Literal]) -> Result<Refused<'n>, AllocError> {
+        let mut places = BTreeMap::new(nodes.alloc);
+        for (place, literal) in asked.iter().enumerate() {
+            if !literal.holds {
+                if let Some(sign) = nodes.of(*literal).and_then(|node| sign_of(node)) {
+                    let _ = places.insert(sign, place)?;
+                }
+            }
+        }
+        Ok(Refused { places })
+    }
+
+    /// Whether one of them is what is to be met: both are the same constant, or the same range.
+    pub(crate) fn has(&self, nodes: &Nodes<'n>, asked: &[Literal], literal: Literal) -> bool
+        ensures { IsTrue result → (J : Judgement) (x : Document) → IsMeaning nodes.now J → meets_all J x asked.now ≡ true → meets J x literal ≡ true → ⊥ }
+    {
+        let Some(node) = nodes.of(literal) else {
+            return false;
+        };
+        let Some(sign) = sign_of(node) else {
+            return false;
+        };
+        let Some(place) = self.places.get(&sign) else {
+            return false;
+        };
+        let Some(other) = asked.get(*place) else {
+            return false;
+        };
+        match nodes.of(*other) {
+            Some(rule) => other.holds != literal.holds && are_alike(node, rule),
+            None => false,
+        }
+    }
+}
+
+/// A scalar that is all that is asked.
+fn scalar_of<'a>(nodes: &Nodes<'_>, asked: &[Literal]) -> Result<Option<Found<'a>>, AllocError>
+    ensures { IfOk result (λ o. IsNone o → NoScalar nodes.now asked.now) }
+{
+    if may_meet_all(nodes, asked, &Item::Null) {
+        return Ok(Some(Found::Scalar(Doc::Null)));
+    }
+    if may_meet_all(nodes, asked, &Item::Bool(false)) {
+        return Ok(Some(Found::Scalar(Doc::Bool(false))));
+    }
+    if may_meet_all(nodes, asked, &Item::Bool(true)) {
+        return Ok(Some(Found::Scalar(Doc::Bool(true))));
+    }
+    if let Some(integer) = integer_of(nodes, asked)? {
+        return Ok(Some(Found::Scalar(Doc::Int(integer))));
+    }
+    match text_of(nodes, asked)? {
+        Some(text) => Ok(Some(Found::Scalar(Doc::Text(text)))),
+        None => Ok(None),
+    }
+}
+
+/// A document that is all that is asked, where no rule asks others of the same document.
+fn document_of<'a>(
+    nodes: &Nodes<'a>,
+    table: &Table<'_>,
+    asked: &[Literal],
+    effort: &mut Effort,
+) -> Result<Option<Found<'a>>, SearchFault>
+    ensures { IfOk result (λ o. IsNone o → NoDocument nodes.now table.now asked.now) }
+{
+    let scalar = scalar_of(nodes, asked)?;
+    if scalar.is_some() {
+        return Ok(scalar);
+    }
+    let list = list_of(nodes, table, asked, effort)?;
+    if list.is_some() {
+        return Ok(list);
+    }
+    map_of(nodes, table, asked, effort)
+}
 
 /// A case: what is asked, and the last of it that is opened next.
 #[derive(Drop, PartialEq, Eq, PartialOrd, Ord)]
@@ -26,9 +112,12 @@ struct Case {
     asked: Vec<Literal>,
 }
 
-/// Whether a rule asks others of the same document.
-fn has_parts(nodes: &Nodes<'_>, literal: Literal) -> bool {
-    matches!(nodes.of(literal), Some(Node::All(_) | Node::Any(_)))
+/// The rules that a rule asks of the same document, if it asks others of it.
+fn parts_of<'n>(nodes: &'n Nodes<'_>, literal: Literal) -> Option<&'n [usize]> {
+    match nodes.of(literal)? {
+        Node::All(parts) | Node::Any(parts) => Some(parts),
+        Node::Simple(_) | Node::Within { .. } | Node::Struct { .. } | Node::List { .. } => None,
+    }
 }
 
 /// What is opened next, and its place: the last rule that asks others of the same document.
@@ -37,7 +126,7 @@ fn opened_at(nodes: &Nodes<'_>, asked: &[Literal]) -> Option<(usize, Literal)>
 {
     let place = asked
         .iter()
-        .rposition(|literal| has_parts(nodes, *literal))?;
+        .rposition(|literal| parts_of(nodes, *literal).is_some())?;
     let literal = asked.get(place)?;
     Some((place, *literal))
 }
@@ -90,8 +179,7 @@ fn put_all(
 ) -> Result<(), SearchFault>
     ensures kept { OnOk result (Continues cases.old.keys cases.new.keys) }
     ensures there { OnOk result ((J : Judgement) (x : Document) → meets_all J x asked.items ≡ true
-        → list_all (λ p. meets J x (record literal { rule = p })) parts.now ≡ true
-        → IsCovered J x cases.new.keys) }
+        → list_all (λ p. meets J x (record literal { rule = p })) parts.now ≡ true → IsCovered J x cases.new.keys) }
 {
     for part in parts {
         add(&mut asked, part_of(literal, *part))?;
@@ -112,21 +200,13 @@ fn put_each<'n>(
     effort: &mut Effort,
 ) -> Result<(), SearchFault>
     ensures kept { OnOk result (Continues cases.old.keys cases.new.keys) }
-    ensures there { OnOk result ((J : Judgement) (x : Document) → IsMeaning nodes.now J
-        → meets_all J x asked.now ≡ true
-        → list_any (λ p. meets J x (record literal { rule = p })) parts.now ≡ true
-        → IsCovered J x cases.new.keys) }
+    ensures there { OnOk result ((J : Judgement) (x : Document) → IsMeaning nodes.now J → meets_all J x asked.now ≡ true
+        → list_any (λ p. meets J x (record literal { rule = p })) parts.now ≡ true → IsCovered J x cases.new.keys) }
 {
     let refused = Refused::of(nodes, asked)?;
     for part in parts {
-        put_with(
-            nodes,
-            cases,
-            &refused,
-            asked,
-            part_of(literal, *part),
-            effort,
-        )?;
+        let one = part_of(literal, *part);
+        put_with(nodes, cases, &refused, asked, one, effort)?;
     }
     Ok(())
 }
@@ -141,8 +221,7 @@ fn put_with<'n>(
     effort: &mut Effort,
 ) -> Result<(), SearchFault>
     ensures kept { OnOk result (Continues cases.old.keys cases.new.keys) }
-    ensures there { OnOk result ((J : Judgement) (x : Document) → IsMeaning nodes.now J
-        → meets_all J x asked.now ≡ true → meets J x literal ≡ true
+    ensures there { OnOk result ((J : Judgement) (x : Document) → IsMeaning nodes.now J → meets_all J x asked.now ≡ true → meets J x literal ≡ true
         → IsCovered J x cases.new.keys) }
 {
     if refused.has(nodes, asked, literal) {
@@ -168,8 +247,7 @@ fn open(
 ) -> Result<(), SearchFault>
     requires { slice_get asked.now place ≡ Some literal }
     ensures kept { OnOk result (Continues cases.old.keys cases.new.keys) }
-    ensures there { OnOk result ((J : Judgement) (x : Document) → IsMeaning nodes.now J
-        → meets_all J x asked.now ≡ true → IsCovered J x cases.new.keys) }
+    ensures there { OnOk result ((J : Judgement) (x : Document) → IsMeaning nodes.now J → meets_all J x asked.now ≡ true → IsCovered J x cases.new.keys) }
 {
     let rest = without(effort.alloc, asked, place)?;
     match nodes.of(literal) {
@@ -184,25 +262,10 @@ fn open(
     }
 }
 
-/// How many parts a rule asks of the same document.
-fn count_parts(nodes: &Nodes<'_>, literal: Literal) -> usize {
-    match nodes.of(literal) {
-        Some(Node::All(parts) | Node::Any(parts)) => parts.len(),
-        _ => 0,
-    }
-}
-
-/// How many declarations a rule has.
-fn count_fields(nodes: &Nodes<'_>, literal: Literal) -> usize {
-    match nodes.of(literal) {
-        Some(Node::Struct { fields, .. }) => fields.all.len(),
-        _ => 0,
-    }
-}
-
-/// The steps for a rule of so many parts that is opened beside so many others, at which it looks.
-fn cost_of_opening(parts: usize, others: usize) -> usize {
+/// The steps for a rule that is opened beside so many others: a look at these, and its parts.
+fn cost_of_opening(nodes: &Nodes<'_>, literal: Literal, others: usize) -> usize {
     const LOOKS: usize = 16;
+    let parts = parts_of(nodes, literal).map_or(0, |parts| parts.len());
     (others / LOOKS).saturating_add(parts)
 }
 
@@ -210,12 +273,6 @@ fn cost_of_opening(parts: usize, others: usize) -> usize {
 fn cost_of_copying(asked: usize) -> usize {
     const COPIES: usize = 4;
     (asked / COPIES).saturating_add(1)
-}
-
-/// Whether a rule is met by one value alone.
-fn is_value(nodes: &Nodes<'_>, literal: Literal) -> bool {
-    let node = nodes.of(literal);
-    literal.holds && matches!(node, Some(Node::Simple(shape)) if shape.literal().is_some())
 }
 
 /// The steps for a document that is all that is asked: each declaration is put to its label, each label is looked for in each
@@ -227,9 +284,10 @@ fn cost_of(nodes: &Nodes<'_>, asked: &[Literal]) -> usize {
     let mut fields: usize = 0;
     let mut compared = asked.len();
     for literal in asked {
-        fields = fields.saturating_add(count_fields(nodes, *literal));
-        if is_value(nodes, *literal) {
-            compared = 1;
+        match nodes.of(*literal) {
+            Some(Node::Struct { fields: own, .. }) => fields = fields.saturating_add(own.all.len()),
+            Some(Node::Simple(shape)) if literal.holds && shape.literal().is_some() => compared = 1,
+            _ => {}
         }
     }
     let values = asked.len().saturating_mul(compared.saturating_add(fields));
@@ -257,7 +315,7 @@ pub(crate) fn found_for<'a>(
         effort.take(1)?;
         match opened_at(nodes, &case.asked) {
             Some((place, literal)) => {
-                effort.take(cost_of_opening(count_parts(nodes, literal), case.asked.len()))?;
+                effort.take(cost_of_opening(nodes, literal, case.asked.len()))?;
                 open(nodes, &mut cases, &case.asked, place, literal, effort)?;
             }
             None => {

@@ -4,19 +4,22 @@ ghost use Rattle.std.specs.List.{AllByRecursion};
 ghost use Rattle.cs_question.specs.Nodes.{Judgement};
 ghost use Rattle.cs_question.specs.Spread.{Spread, SomeOf, ByTable, HoldsPlaces, HoldsState, HoldsFurther, PutsState, AreTaken, IsTaken, IsBehind};
 
-use crate::budget::MOST_STEPS;
-use crate::effort::Effort;
-use crate::fault::SearchFault;
-use crate::literal::Literal;
-use crate::places::{Further, Place, Way};
-use crate::state::{Chosen, State};
-use crate::table::Table;
-use crate::ways::{free, is_dead, is_shut, take};
+use crate::fault::{Effort, MOST_STEPS, SearchFault};
+use crate::nodes::Literal;
+use crate::places::{Further, Place, Way, free, is_dead, is_shut, take};
+use crate::table::{Chosen, Table};
 use std::alloc::{AllocError, Global};
 
+/// The ways that were chosen at the places, which rules have no way yet, and the values at none of the places.
+#[derive(Drop)]
+pub(crate) struct State<'a> {
+    chosen: Vec<Way<'a>>,
+    left: Vec<usize>,
+    further: Vec<Vec<Literal>>,
+}
+
 fn copy_places<'a>(alloc: Global, places: &[Place<'a>]) -> Result<Vec<Place<'a>>, AllocError>
-    ensures { IfOk result (λ v. (J : Judgement) (n : ℕ) (s : Spread) → HoldsPlaces J n s places.now
-        → HoldsPlaces J n s v.items) }
+    ensures { IfOk result (λ v. (J : Judgement) (n : ℕ) (s : Spread) → HoldsPlaces J n s places.now → HoldsPlaces J n s v.items) }
 {
     let mut copies = Vec::with_capacity(alloc, places.len())?;
     for place in places {
@@ -132,8 +135,7 @@ fn push_free<'a>(
     asked: Vec<Literal>,
     states: &mut Vec<State<'a>>,
 ) -> Result<(), AllocError>
-    ensures { OnOk result ((J : Judgement) (s : Spread)
-        → PutsState J s states.old.items states.new.items (λ some. HoldsState J s state.now → some)) }
+    ensures { OnOk result ((J : Judgement) (s : Spread) → PutsState J s states.old.items states.new.items (λ some. HoldsState J s state.now → some)) }
 {
     let mut further = state.further.clone()?;
     further.push(asked)?;
@@ -177,8 +179,7 @@ fn push_ways<'a>(
     effort: &mut Effort,
 ) -> Result<(), AllocError>
     ensures { OnOk result (ByTable table.now (λ t s. PutsState t.J s states.old.items states.new.items
-        (λ some. HoldsPlaces t.J t.n s places.now → HoldsState t.J s state.now
-        → SomeOf (λ way. (IsBehind way → ⊥) × IsTaken t.J s way) ways.now → some))) }
+        (λ some. HoldsPlaces t.J t.n s places.now → HoldsState t.J s state.now → SomeOf (λ way. (IsBehind way → ⊥) × IsTaken t.J s way) ways.now → some))) }
 {
     for way in ways {
         if let Way::Behind(_) = way {
@@ -203,8 +204,7 @@ fn push_states<'a>(
     effort: &mut Effort,
 ) -> Result<(), AllocError>
     ensures { OnOk result (ByTable table.now (λ t s. PutsState t.J s states.old.items states.new.items
-        (λ some. HoldsPlaces t.J t.n s places.now → HoldsState t.J s state.now
-        → HoldsFurther t.J t.n s further.now → AreTaken t.J s ways.now → some))) }
+        (λ some. HoldsPlaces t.J t.n s places.now → HoldsState t.J s state.now → HoldsFurther t.J t.n s further.now → AreTaken t.J s ways.now → some))) }
 {
     let mut left = Vec::from_slice(effort.alloc, &state.left)?;
     if place < left.len() {
@@ -219,13 +219,9 @@ fn push_states<'a>(
 fn first_state<'a>(alloc: Global, rules: usize) -> Result<State<'a>, AllocError>
     ensures { IfOk result (λ v. v.chosen.items ≡ []) }
 {
-    let mut left = Vec::with_capacity(alloc, rules)?;
-    for rule in 0..rules {
-        left.push(rule)?;
-    }
     Ok(State {
         chosen: Vec::new(alloc),
-        left,
+        left: (0..rules).collect(alloc)?,
         further: Vec::new(alloc),
     })
 }
@@ -321,8 +317,7 @@ fn chosen_of<'a>(
 
 /// The ways of one of the rules left.
 fn ways_of<'r, 'a>(rules: &'r [Vec<Way<'a>>], left: &[usize], place: usize) -> Option<&'r [Way<'a>]>
-    ensures { IfSome result (λ ways. (J : Judgement) (s : Spread)
-        → AllByRecursion (λ w. AreTaken J s w.items) rules.now → AreTaken J s ways.now) }
+    ensures { IfSome result (λ ways. (J : Judgement) (s : Spread) → AllByRecursion (λ w. AreTaken J s w.items) rules.now → AreTaken J s ways.now) }
 {
     let rule = left.get(place)?;
     Some(rules.get(*rule)?.as_slice())

@@ -1,12 +1,13 @@
-// Why a question isn't answered.
-ghost use Rattle.std.specs.Prelude.{◌≡◌};
+// Why a question isn't answered, how much questions may take together, how much was done for one, and what it needs to know.
+ghost use Rattle.std.specs.Prelude.{◌≡◌, ◌-◌};
 ghost use Rattle.cs_question.specs.declared.fault.QuestionFault.TheVariants.{OutOfMemory};
 ghost use Rattle.cs_question.specs.Faults.{fault_of_search, fault_of_judging};
 
+use crate::nodes::Literal;
 use cs_document::DocFault;
 use cs_instance::InstanceFault;
 use cs_meanings::meaning;
-use std::alloc::{AllocError, AllocFailed};
+use std::alloc::{AllocError, AllocFailed, Global};
 use std::error::Error;
 use std::fmt;
 
@@ -103,5 +104,80 @@ impl From<InstanceFault> for QuestionFault {
             InstanceFault::UnknownRoot => QuestionFault::UnknownRoot,
             InstanceFault::TooManyPairs { .. } => QuestionFault::TooManyCases,
         }
+    }
+}
+
+/// The most steps of unfolding and search that one question may take.
+pub(crate) const MOST_STEPS: usize = 5_000_000;
+
+/// The steps that questions may take still, all together. A step is about a microsecond's work.
+#[derive(Clone, Copy)]
+pub struct Budget {
+    pub steps: usize,
+}
+
+impl Budget {
+    /// What one question may take: 5,000,000 steps.
+    pub fn new() -> Budget
+        ensures { result.steps ≡ 5000000 }
+    {
+        Budget { steps: MOST_STEPS }
+    }
+
+    /// So many steps fewer, and none where there are fewer than those.
+    pub fn spend(&mut self, steps: usize)
+        ensures { self.new.steps ≡ self.old.steps - steps }
+    {
+        self.steps = self.steps.saturating_sub(steps);
+    }
+}
+
+/// The steps that were done and may be, and the questions that were met.
+#[derive(Drop)]
+pub(crate) struct Effort {
+    pub(crate) alloc: Global,
+    pub(crate) steps: usize,
+    most: usize,
+    /// Those that aren't in the table.
+    pub(crate) wanted: Vec<Vec<Literal>>,
+    /// The places of those in it that have no answer yet.
+    pub(crate) unanswered: Vec<usize>,
+    /// Whether all parts of a list or a map are asked about, and not those alone that come before the first one without an answer.
+    pub(crate) asks_all: bool,
+}
+
+impl Effort {
+    /// No step of so many at most.
+    pub(crate) fn new(alloc: Global, most: usize, asks_all: bool) -> Effort {
+        Effort {
+            alloc,
+            steps: 0,
+            most,
+            wanted: Vec::new(alloc),
+            unanswered: Vec::new(alloc),
+            asks_all,
+        }
+    }
+
+    /// The steps for a look at a question in the table, at which so many are asked: copies of them, and comparisons with others.
+    /// Where they are too many, no step is left.
+    pub(crate) fn look(&mut self, asked: usize) {
+        const COPIES: usize = 8;
+        const COMPARISONS: usize = 2;
+        let steps = self.steps.saturating_add(asked / COPIES);
+        self.steps = steps.saturating_add(COMPARISONS);
+    }
+
+    /// So many steps more, and no more than there may be.
+    ///
+    /// # Errors
+    /// `TooManyCases` where the limit is met.
+    pub(crate) fn take(&mut self, count: usize) -> Result<(), SearchFault> {
+        self.steps = self.steps.saturating_add(count);
+        if self.steps > self.most {
+            self.steps = self.most;
+            return Err(SearchFault::TooManyCases);
+        }
+        Ok(())
     }
 }

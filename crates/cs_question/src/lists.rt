@@ -4,49 +4,27 @@ ghost use Rattle.std.specs.List.{AllByRecursion};
 ghost use Rattle.cs_document.specs.Document.{Document, Documents, list, elements};
 ghost use Rattle.cs_instance.specs.Constraint.{elements_hold};
 ghost use Rattle.cs_question.specs.Asked.{meets, meets_all};
-ghost use Rattle.cs_question.specs.Elements.{element_at, element_behind, fits, IsFrom, NoLength};
+ghost use Rattle.cs_question.specs.Elements.{element_at, fits, IsFrom, NoLength};
 ghost use Rattle.cs_question.specs.Nodes.{Judgement, IsMeaning, end_of};
 ghost use Rattle.cs_question.specs.Spread.{HoldsPlace, HoldsPlaces, IsFurther, AreTaken, AddsWays, spread_list};
 ghost use Rattle.cs_question.specs.Truth.{NoList, IsInner};
 
 use crate::choice::choice;
-use crate::effort::Effort;
-use crate::fault::SearchFault;
-use crate::found::Found;
-use crate::literal::{Literal, add, part_of};
-use crate::nodes::{Node, NodeEnd, Nodes};
+use crate::fault::{Effort, SearchFault};
+use crate::nodes::{Literal, Node, NodeEnd, Nodes, add, part_of};
 use crate::places::{Further, Key, Place, Way};
 use crate::scalars::may_meet_all;
-use crate::state::Chosen;
-use crate::table::Table;
+use crate::table::{Found, Table};
 use cs_flat::Item;
 use std::alloc::{AllocError, Global};
 
-/// What a list literal asks of a place: nothing can be there, anything, or an instance of a rule.
-#[derive(Clone, Copy)]
-enum Element {
-    Nothing,
-    Anything,
-    Each(usize),
-}
-
-/// What it asks of what is behind its front.
-fn behind(end: NodeEnd) -> Element
-    ensures { result ≡ element_behind (end_of end) }
-{
-    match end {
-        NodeEnd::Closed => Element::Nothing,
-        NodeEnd::Any => Element::Anything,
-        NodeEnd::Each(rule) => Element::Each(rule),
-    }
-}
-
-fn element_in(front: &[usize], end: NodeEnd, place: usize) -> Element
-    ensures { result ≡ element_at front.now (end_of end) place }
+/// What a list literal asks of a place: behind its front what it asks of each one there.
+fn element_in(front: &[usize], end: NodeEnd, place: usize) -> NodeEnd
+    ensures { end_of result ≡ element_at front.now (end_of end) place }
 {
     match front.get(place) {
-        Some(rule) => Element::Each(*rule),
-        None => behind(end),
+        Some(rule) => NodeEnd::Each(*rule),
+        None => end,
     }
 }
 
@@ -55,9 +33,7 @@ fn longest_front(nodes: &Nodes<'_>, asked: &[Literal]) -> usize {
     let mut longest = 0;
     for literal in asked {
         if let Some(Node::List { front, .. }) = nodes.of(*literal) {
-            if front.len() > longest {
-                longest = front.len();
-            }
+            longest = longest.max(front.len());
         }
     }
     longest
@@ -65,8 +41,7 @@ fn longest_front(nodes: &Nodes<'_>, asked: &[Literal]) -> usize {
 
 /// Whether one rule is met by longer lists alone.
 fn asks_for_more(nodes: &Nodes<'_>, literal: Literal, count: usize) -> bool
-    ensures { IsTrue result → (J : Judgement) (ds : Documents) → IsMeaning nodes.now J
-        → meets J (list ds) literal ≡ true → count < length (elements ds) }
+    ensures { IsTrue result → (J : Judgement) (ds : Documents) → IsMeaning nodes.now J → meets J (list ds) literal ≡ true → count < length (elements ds) }
 {
     match nodes.of(literal) {
         Some(Node::List { front, .. }) => literal.holds && front.len() > count,
@@ -88,18 +63,18 @@ fn some_ask_for_more(nodes: &Nodes<'_>, asked: &[Literal], count: usize) -> bool
 }
 
 /// Adds what is asked of an element.
-fn ask_element(further: &mut Further, literal: Literal, element: Element) -> Result<(), AllocError>
+fn ask_element(further: &mut Further, literal: Literal, element: NodeEnd) -> Result<(), AllocError>
     requires { literal.holds ≡ true }
-    ensures { OnOk result ((J : Judgement) (n : ℕ) (y : Document) → fits (λ z p. J literal.side p z) element y ≡ true
+    ensures { OnOk result ((J : Judgement) (n : ℕ) (y : Document) → fits (λ z p. J literal.side p z) (end_of element) y ≡ true
         → IsFurther J n further.old y → IsFurther J n further.new y) }
 {
     match element {
-        Element::Nothing => {
+        NodeEnd::Closed => {
             further.is_barred = true;
             Ok(())
         }
-        Element::Anything => Ok(()),
-        Element::Each(rule) => add(&mut further.asked, part_of(literal, rule)),
+        NodeEnd::Any => Ok(()),
+        NodeEnd::Each(rule) => add(&mut further.asked, part_of(literal, rule)),
     }
 }
 
@@ -135,8 +110,7 @@ fn asked_at(
     is_behind: bool,
 ) -> Result<Further, AllocError>
     ensures { IfOk result (λ f. (J : Judgement) (n i : ℕ) (ds : Documents) (y : Document) → IsMeaning nodes.now J
-        → meets_all J (list ds) asked.now ≡ true → IsFrom place is_behind i → slice_get (elements ds) i ≡ Some y
-        → IsInner n y → IsFurther J n f y) }
+        → meets_all J (list ds) asked.now ≡ true → IsFrom place is_behind i → slice_get (elements ds) i ≡ Some y → IsInner n y → IsFurther J n f y) }
 {
     let mut further = Further {
         is_barred: false,
@@ -150,8 +124,7 @@ fn asked_at(
 
 fn place_of<'a>(nodes: &Nodes<'_>, asked: &[Literal], place: usize) -> Result<Place<'a>, AllocError>
     ensures { IfOk result (λ p. (J : Judgement) (n : ℕ) (ds : Documents) (count : ℕ) → IsMeaning nodes.now J
-        → meets_all J (list ds) asked.now ≡ true → AllByRecursion (IsInner n) (elements ds)
-        → place < count → count ≤ length (elements ds)
+        → meets_all J (list ds) asked.now ≡ true → AllByRecursion (IsInner n) (elements ds) → place < count → count ≤ length (elements ds)
         → HoldsPlace J n (spread_list count (elements ds)) p) }
 {
     let Further { is_barred, asked } = asked_at(nodes, asked, place, false)?;
@@ -183,21 +156,20 @@ fn places_of<'a>(
 fn add_way<'a>(
     ways: &mut Vec<Way<'a>>,
     literal: Literal,
-    element: Element,
+    element: NodeEnd,
     place: usize,
     count: usize,
 ) -> Result<(), AllocError>
     requires { literal.holds ≡ false }
     ensures kept { OnOk result (AddsWays ways.old.items ways.new.items) }
     ensures all { OnOk result ((J : Judgement) (ys : List Document) (i : ℕ) (y : Document)
-        → place ≤ i → (place < count → i ≡ place) → slice_get ys i ≡ Some y
-        → fits (λ z p. J literal.side p z) element y ≡ false
+        → place ≤ i → (place < count → i ≡ place) → slice_get ys i ≡ Some y → fits (λ z p. J literal.side p z) (end_of element) y ≡ false
         → AreTaken J (spread_list count ys) ways.new.items) }
 {
     let more = match element {
-        Element::Nothing => None,
-        Element::Anything => return Ok(()),
-        Element::Each(rule) => Some(part_of(literal, rule)),
+        NodeEnd::Closed => None,
+        NodeEnd::Any => return Ok(()),
+        NodeEnd::Each(rule) => Some(part_of(literal, rule)),
     };
     let way = if place < count {
         Way::Present(Key::Index(place), more)
@@ -218,20 +190,14 @@ fn list_ways<'a>(
     requires holds { literal.holds ≡ false }
     requires front { length front.now ≤ count }
     ensures { IfOk result (λ v. (J : Judgement) (ys : List Document) → count ≤ length ys
-        → elements_hold (λ y p. J literal.side p y) front.now (end_of end) ys ≡ false
-        → AreTaken J (spread_list count ys) v.items) }
+        → elements_hold (λ y p. J literal.side p y) front.now (end_of end) ys ≡ false → AreTaken J (spread_list count ys) v.items) }
 {
     let mut ways = Vec::new(alloc);
     for place in 0..count {
-        add_way(
-            &mut ways,
-            literal,
-            element_in(front, end, place),
-            place,
-            count,
-        )?;
+        let element = element_in(front, end, place);
+        add_way(&mut ways, literal, element, place, count)?;
     }
-    add_way(&mut ways, literal, behind(end), count, count)?;
+    add_way(&mut ways, literal, end, count, count)?;
     Ok(ways)
 }
 
@@ -242,8 +208,7 @@ fn add_rule<'a>(
     literal: Literal,
     count: usize,
 ) -> Result<(), AllocError>
-    ensures { OnOk result ((J : Judgement) (ds : Documents) → IsMeaning nodes.now J
-        → meets J (list ds) literal ≡ true → count ≤ length (elements ds)
+    ensures { OnOk result ((J : Judgement) (ds : Documents) → IsMeaning nodes.now J → meets J (list ds) literal ≡ true → count ≤ length (elements ds)
         → AllByRecursion (λ w. AreTaken J (spread_list count (elements ds)) w.items) rules.old.items
         → AllByRecursion (λ w. AreTaken J (spread_list count (elements ds)) w.items) rules.new.items) }
 {
@@ -302,10 +267,8 @@ fn list_of_length<'a>(
         asked: Vec::new(effort.alloc),
     };
     let rules = rules_of(nodes, asked, count)?;
-    match choice(table, &places, &further, &rules, effort)? {
-        None => Ok(None),
-        Some(Chosen { parts, .. }) => Ok(Some(Found::List(parts))),
-    }
+    let chosen = choice(table, &places, &further, &rules, effort)?;
+    Ok(chosen.map(|chosen| Found::List(chosen.parts)))
 }
 
 /// A list that is longer than so many elements, as many as the longest front has, that is all that is asked.
@@ -323,16 +286,13 @@ fn longer_list<'a>(
     let further = asked_at(nodes, asked, count, true)?;
     let mut rules = rules_of(nodes, asked, count)?;
     rules.push(any_behind(effort.alloc)?)?;
-    match choice(table, &places, &further, &rules, effort)? {
-        None => Ok(None),
-        Some(Chosen { parts, .. }) => Ok(Some(Found::List(parts))),
-    }
+    let chosen = choice(table, &places, &further, &rules, effort)?;
+    Ok(chosen.map(|chosen| Found::List(chosen.parts)))
 }
 
 /// The way of a list that has an element behind all places.
 fn any_behind<'a>(alloc: Global) -> Result<Vec<Way<'a>>, AllocError>
-    ensures { IfOk result (λ v. (J : Judgement) (ys : List Document) (count : ℕ) → count < length ys
-        → AreTaken J (spread_list count ys) v.items) }
+    ensures { IfOk result (λ v. (J : Judgement) (ys : List Document) (count : ℕ) → count < length ys → AreTaken J (spread_list count ys) v.items) }
 {
     let mut ways = Vec::with_capacity(alloc, 1)?;
     ways.push(Way::Behind(None))?;

@@ -1,51 +1,231 @@
-// A map that is all that is asked.
-ghost use Rattle.std.specs.Prelude.{◌≡◌, ◌≤◌, ℕ, [], true, false, map, Contains, IfOk, IsNone, OnOk};
-ghost use Rattle.std.specs.List.{AllByRecursion};
-ghost use Rattle.cs_document.specs.Document.{Document, Members, Entry, object, AreMembers, depth, entries};
-ghost use Rattle.cs_instance.specs.Constraint.{fields_hold};
+// A map that is all that is asked, and what the declarations of struct literals ask of it.
+ghost use Rattle.std.specs.Prelude.{◌≡◌, ℕ, List, true, false, Some, map, IfSome, IsTrue, OnOk, Contains, ◌≤◌, [], IfOk, IsNone};
+ghost use Rattle.std.specs.List.{list_all, list_any, AllByRecursion};
+ghost use Rattle.cs_document.specs.Document.{Document, Entry, under, Members, object, AreMembers, depth, entries};
+ghost use Rattle.cs_package.specs.Expression.{is_every};
+ghost use Rattle.cs_instance.specs.Constraint as constraint;
 ghost use Rattle.cs_instance.specs.Steps.{field_of};
-ghost use Rattle.cs_question.specs.Asked.{meets, meets_all};
+ghost use Rattle.cs_instance.specs.Constraint.{fields_hold};
 ghost use Rattle.cs_question.specs.Nodes.{Judgement, IsMeaning};
-ghost use Rattle.cs_question.specs.Spread.{HoldsPlaces, HoldsFurther, IsFurther, AreTaken, FailsBy, is_among, spread_map};
+ghost use Rattle.cs_question.specs.Spread.{KeepsPlaces, FailsBy, IsSuch, IsFurther, AddsWays, is_among, HoldsPlaces, HoldsFurther, AreTaken, spread_map};
+ghost use Rattle.cs_question.specs.Asked.{meets, meets_all};
 ghost use Rattle.cs_question.specs.Truth.{NoMap};
 
 use crate::choice::choice;
-use crate::effort::Effort;
-use crate::fault::SearchFault;
-use crate::fields::{are_all_among, ask_fields, ask_further, bar_others, extra_ways, field_ways};
-use crate::found::Found;
-use crate::literal::Literal;
-use crate::nodes::{Node, Nodes};
-use crate::places::{Further, Key, Place, Way};
+use crate::fault::{Effort, SearchFault};
+use crate::nodes::{Literal, Node, Nodes, add, part_of};
+use crate::places::{Further, Key, Place, Way, take};
 use crate::scalars::may_meet_all;
-use crate::table::Table;
+use crate::table::{Found, Table};
 use cs_flat::Item;
-use cs_instance::Fields;
+use cs_instance::{Field, Fields, is_for_every_key, may_be_absent};
 use std::alloc::{AllocError, Global};
+
+/// Whether some declaration allows a key.
+fn is_allowed(fields: &Fields<'_>, key: &str) -> bool
+    ensures { result ≡ list_any (λ d. constraint.allows d key.now) (map field_of fields.now.all.items) }
+{
+    let mut next = 0;
+    fields.allow(key, &mut next)
+}
+
+/// Whether some declaration is for every key.
+fn has_every(fields: &[Field<'_>]) -> bool
+    ensures { result ≡ list_any (λ d. is_every d.mark) (map field_of fields.now) }
+{
+    for field in fields {
+        if is_for_every_key(field.mark) {
+            return true;
+        }
+    }
+    false
+}
+
+/// Whether a key is one of these labels, which are in order.
+fn is_one_of(labels: &[&str], key: &str) -> bool
+    ensures { IsTrue result → is_among labels.now key.now ≡ true }
+{
+    let Ok(place) = labels.binary_search(&key) else {
+        return false;
+    };
+    match labels.get(place) {
+        Some(label) => key == *label,
+        None => false,
+    }
+}
+
+/// Whether each key that the declarations are for is one of these: none of them is for every key.
+fn are_all_among(labels: &[&str], fields: &[Field<'_>]) -> bool
+    ensures { IsTrue result → (k : List ℕ) → list_any (λ d. constraint.allows d k) (map field_of fields.now) ≡ true → is_among labels.now k ≡ true }
+{
+    for field in fields {
+        if is_for_every_key(field.mark) || !is_one_of(labels, field.label) {
+            return false;
+        }
+    }
+    true
+}
+
+/// Bars the places of the labels that no declaration allows.
+fn bar_others<'a>(
+    places: &mut Vec<Place<'a>>,
+    labels: &[&'a str],
+    fields: &Fields<'a>,
+) -> Result<(), AllocError>
+    ensures { OnOk result (KeepsPlaces places.old.items places.new.items (λ J ms.
+        list_all (λ m. list_any (λ d. constraint.allows d m.0) (map field_of fields.now.all.items)) ms ≡ true)) }
+{
+    for label in labels {
+        if !is_allowed(fields, *label) {
+            take(places, &Way::Absent(Key::Label(*label)))?;
+        }
+    }
+    Ok(())
+}
+
+/// Asks the same of what is at each of the places of the labels.
+fn ask_each<'a>(
+    places: &mut Vec<Place<'a>>,
+    labels: &[&'a str],
+    value: Literal,
+) -> Result<(), AllocError>
+    ensures { OnOk result (KeepsPlaces places.old.items places.new.items (λ J ms. (k : List ℕ) → IfSome (under k ms) (IsSuch J (Some value)))) }
+{
+    for label in labels {
+        take(places, &Way::Optional(Key::Label(*label), value))?;
+    }
+    Ok(())
+}
+
+/// Adds to the places of the labels what a declaration asks of them.
+fn ask_field<'a>(
+    places: &mut Vec<Place<'a>>,
+    labels: &[&'a str],
+    literal: Literal,
+    field: &Field<'a>,
+) -> Result<(), AllocError>
+    requires { literal.holds ≡ true }
+    ensures { OnOk result (KeepsPlaces places.old.items places.new.items (λ J ms.
+        constraint.declaration_holds (λ y p. J literal.side p y) (field_of field.now) ms ≡ true)) }
+{
+    let value = part_of(literal, field.value);
+    if is_for_every_key(field.mark) {
+        return ask_each(places, labels, value);
+    }
+    let key = Key::Label(field.label);
+    if may_be_absent(field.mark) {
+        return take(places, &Way::Optional(key, value));
+    }
+    take(places, &Way::Present(key, Some(value)))
+}
+
+/// Adds to the places of the labels what declarations ask of them.
+fn ask_fields<'a>(
+    places: &mut Vec<Place<'a>>,
+    labels: &[&'a str],
+    literal: Literal,
+    fields: &[Field<'a>],
+) -> Result<(), AllocError>
+    requires { literal.holds ≡ true }
+    ensures { OnOk result (KeepsPlaces places.old.items places.new.items (λ J ms.
+        list_all (λ d. constraint.declaration_holds (λ y p. J literal.side p y) d ms) (map field_of fields.now) ≡ true)) }
+{
+    for field in fields {
+        ask_field(places, labels, literal, field)?;
+    }
+    Ok(())
+}
+
+/// Adds what declarations ask of the values under further keys.
+fn ask_further(
+    further: &mut Further,
+    literal: Literal,
+    fields: &[Field<'_>],
+) -> Result<(), AllocError>
+    requires { literal.holds ≡ true }
+    ensures barred { further.new.is_barred ≡ further.old.is_barred }
+    ensures asked { OnOk result ((J : Judgement) (n : ℕ) (ms : List (Entry Document)) (m : Entry Document)
+        → list_all (λ d. constraint.declaration_holds (λ y p. J literal.side p y) d ms) (map field_of fields.now) ≡ true
+        → Contains ms m → IsFurther J n further.old m.1 → IsFurther J n further.new m.1) }
+{
+    for field in fields {
+        if is_for_every_key(field.mark) {
+            add(&mut further.asked, part_of(literal, field.value))?;
+        }
+    }
+    Ok(())
+}
+
+/// Adds the ways in which a map fails to have each value as `[string]` asks.
+fn every_ways<'a>(
+    labels: &[&'a str],
+    value: Literal,
+    ways: &mut Vec<Way<'a>>,
+) -> Result<(), AllocError>
+    requires { value.holds ≡ false }
+    ensures kept { OnOk result (AddsWays ways.old.items ways.new.items) }
+    ensures all { OnOk result (FailsBy labels.now ways.new.items (λ J ms. list_all (λ m. J value.side value.rule m.1) ms ≡ false)) }
+{
+    for label in labels {
+        ways.push(Way::Present(Key::Label(*label), Some(value)))?;
+    }
+    Ok(ways.push(Way::Behind(Some(value)))?)
+}
+
+/// Adds the ways in which a map fails to meet a declaration.
+fn field_ways<'a>(
+    labels: &[&'a str],
+    literal: Literal,
+    field: &Field<'a>,
+    ways: &mut Vec<Way<'a>>,
+) -> Result<(), AllocError>
+    requires { literal.holds ≡ false }
+    ensures kept { OnOk result (AddsWays ways.old.items ways.new.items) }
+    ensures all { OnOk result (FailsBy labels.now ways.new.items (λ J ms.
+        constraint.declaration_holds (λ y p. J literal.side p y) (field_of field.now) ms ≡ false)) }
+{
+    let value = part_of(literal, field.value);
+    if is_for_every_key(field.mark) {
+        return every_ways(labels, value, ways);
+    }
+    if !may_be_absent(field.mark) {
+        ways.push(Way::Absent(Key::Label(field.label)))?;
+    }
+    Ok(ways.push(Way::Present(Key::Label(field.label), Some(value)))?)
+}
+
+/// Adds the ways in which a map has a key that isn't allowed.
+fn extra_ways<'a>(
+    labels: &[&'a str],
+    fields: &Fields<'a>,
+    ways: &mut Vec<Way<'a>>,
+) -> Result<(), AllocError>
+    ensures kept { OnOk result (AddsWays ways.old.items ways.new.items) }
+    ensures all { OnOk result (FailsBy labels.now ways.new.items (λ J ms.
+        list_all (λ m. list_any (λ d. constraint.allows d m.0) (map field_of fields.now.all.items)) ms ≡ false)) }
+{
+    for label in labels {
+        if !is_allowed(fields, *label) {
+            ways.push(Way::Present(Key::Label(*label), None))?;
+        }
+    }
+    if !has_every(&fields.all) {
+        ways.push(Way::Behind(None))?;
+    }
+    Ok(())
+}
 
 /// The labels that the rules declare, in order, each once.
 fn labels_of<'a>(nodes: &Nodes<'a>, asked: &[Literal]) -> Result<Vec<&'a str>, AllocError> {
     let mut labels = Vec::new(nodes.alloc);
     for literal in asked {
-        add_labels(&mut labels, nodes, *literal)?;
+        if let Some(Node::Struct { fields, .. }) = nodes.of(*literal) {
+            labels.extend(fields.all.iter().map(|field| field.label))?;
+        }
     }
     labels.sort_unstable();
     labels.dedup();
     Ok(labels)
-}
-
-/// Adds the labels that one rule declares.
-fn add_labels<'a>(
-    labels: &mut Vec<&'a str>,
-    nodes: &Nodes<'a>,
-    literal: Literal,
-) -> Result<(), AllocError> {
-    if let Some(Node::Struct { fields, .. }) = nodes.of(literal) {
-        for field in &fields.all {
-            labels.push(field.label)?;
-        }
-    }
-    Ok(())
 }
 
 /// Places of which nothing is asked.
@@ -95,8 +275,7 @@ fn places_of<'a>(
     labels: &[&'a str],
 ) -> Result<Vec<Place<'a>>, AllocError>
     ensures { IfOk result (λ v. (J : Judgement) (n : ℕ) (ms : Members) → IsMeaning nodes.now J
-        → AreMembers ms → depth (object ms) ≤ n → meets_all J (object ms) asked.now ≡ true
-        → HoldsPlaces J n (spread_map labels.now (entries ms)) v.items) }
+        → AreMembers ms → depth (object ms) ≤ n → meets_all J (object ms) asked.now ≡ true → HoldsPlaces J n (spread_map labels.now (entries ms)) v.items) }
 {
     let mut places = empty_places(nodes.alloc, labels)?;
     for literal in asked {
@@ -131,8 +310,7 @@ fn ask_rest(
 /// What the rules that are met ask of keys that are none of their labels.
 fn further_of(nodes: &Nodes<'_>, labels: &[&str], asked: &[Literal]) -> Result<Further, AllocError>
     ensures { IfOk result (λ f. (J : Judgement) (n : ℕ) (ms : Members) → IsMeaning nodes.now J
-        → AreMembers ms → depth (object ms) ≤ n → meets_all J (object ms) asked.now ≡ true
-        → HoldsFurther J n (spread_map labels.now (entries ms)) f) }
+        → AreMembers ms → depth (object ms) ≤ n → meets_all J (object ms) asked.now ≡ true → HoldsFurther J n (spread_map labels.now (entries ms)) f) }
 {
     let mut further = Further {
         is_barred: false,
@@ -173,8 +351,7 @@ fn add_rule<'a>(
     labels: &[&'a str],
     literal: Literal,
 ) -> Result<(), AllocError>
-    ensures { OnOk result ((J : Judgement) (ms : Members) → IsMeaning nodes.now J → AreMembers ms
-        → meets J (object ms) literal ≡ true
+    ensures { OnOk result ((J : Judgement) (ms : Members) → IsMeaning nodes.now J → AreMembers ms → meets J (object ms) literal ≡ true
         → AllByRecursion (λ w. AreTaken J (spread_map labels.now (entries ms)) w.items) rules.old.items
         → AllByRecursion (λ w. AreTaken J (spread_map labels.now (entries ms)) w.items) rules.new.items) }
 {
@@ -193,8 +370,7 @@ fn rules_of<'a>(
     asked: &[Literal],
     labels: &[&'a str],
 ) -> Result<Vec<Vec<Way<'a>>>, AllocError>
-    ensures { IfOk result (λ v. (J : Judgement) (ms : Members) → IsMeaning nodes.now J → AreMembers ms
-        → meets_all J (object ms) asked.now ≡ true
+    ensures { IfOk result (λ v. (J : Judgement) (ms : Members) → IsMeaning nodes.now J → AreMembers ms → meets_all J (object ms) asked.now ≡ true
         → AllByRecursion (λ w. AreTaken J (spread_map labels.now (entries ms)) w.items) v.items) }
 {
     let mut rules = Vec::new(nodes.alloc);
@@ -220,8 +396,6 @@ pub(crate) fn map_of<'a>(
     let places = places_of(nodes, asked, &labels)?;
     let further = further_of(nodes, &labels, asked)?;
     let rules = rules_of(nodes, asked, &labels)?;
-    match choice(table, &places, &further, &rules, effort)? {
-        None => Ok(None),
-        Some(chosen) => Ok(Some(Found::Map { chosen, labels })),
-    }
+    let chosen = choice(table, &places, &further, &rules, effort)?;
+    Ok(chosen.map(|chosen| Found::Map { chosen, labels }))
 }

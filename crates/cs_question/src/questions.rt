@@ -1,5 +1,6 @@
-// Whether there is a document that a definition admits and another one doesn't.
-ghost use Rattle.std.specs.Prelude.{◌≡◌, ◌⊎◌, ℕ, [], ◌∷◌, List, Bool, true, false, IfOk, IfErr, IfSome, IsNone, IsTrue, OnOk};
+// Whether there is a document that a definition admits and another one doesn't, and which definitions of a package have no instance.
+ghost use Rattle.std.specs.Prelude.{◌≡◌, ◌⊎◌, ℕ, [], ◌∷◌, List, Bool, true, false, IfOk, IfErr, IfSome, IsNone, OnOk, Some, IsErrOf, length, slice_get};
+ghost use Rattle.std.specs.Prelude.{slice_index, IsTrue};
 ghost use Rattle.cs_document.specs.Document.{Document, IsDocument};
 ghost use Rattle.cs_document.specs.View.{doc_view};
 ghost use Rattle.cs_package.specs.Environment.{Names};
@@ -7,20 +8,18 @@ ghost use Rattle.cs_instance.specs.Instance.{Rule, definition, IsInstance};
 ghost use Rattle.cs_question.specs.Separates.{Separates};
 ghost use Rattle.cs_question.specs.Faults.{IsRefusal};
 ghost use Rattle.cs_question.specs.ReadAgain.{IsReadAgain};
-ghost use Rattle.cs_question.specs.Truth.{IsMetByNoDocument};
-ghost use Rattle.std.specs.List.{list_all};
+ghost use Rattle.cs_question.specs.Truth.{IsMetByNoDocument, IsMetByNone};
+ghost use Rattle.cs_question.specs.NoInstance.{HasNoDocument};
 
-use crate::budget::Budget;
-use crate::explore::explored;
-use crate::fault::{QuestionFault, SearchFault};
-use crate::literal::{Literal, Side, add, met};
-use crate::nodes::Nodes;
-use crate::read_again::is_read_again;
+use crate::fault::{Budget, QuestionFault, SearchFault};
+use crate::nodes::{Literal, Nodes, Side, add, met};
 use crate::sides::side_of;
-use crate::witness::{Witness, witness_of};
+use crate::table::{Table, explored, explored_all};
+use crate::witness::witness_of;
 use cs_document::Doc;
 use cs_guard::Guarded;
-use cs_instance::{NumberedRoot, is_instance, numbered_root};
+use cs_instance::{NumberedPackage, NumberedRoot, is_instance, numbered_package, numbered_root};
+use cs_json::{is_read_as, write_doc};
 use std::alloc::{AllocError, Global};
 
 /// How many pairs of a rule and a value are a step, where the rules judge a document.
@@ -41,18 +40,14 @@ pub fn separating(
     budget: &mut Budget,
 ) -> Result<Option<Doc>, QuestionFault>
     ensures none { IfOk result (λ o. IsNone o → (I J : Rule → Document → Bool) (n m : List ℕ) (x : Document)
-        → IsInstance admitting.now I → IsInstance refusing.now J
-        → Names admitting.now admitting_root.now n → Names refusing.now refusing_root.now m
+        → IsInstance admitting.now I → IsInstance refusing.now J → Names admitting.now admitting_root.now n → Names refusing.now refusing_root.now m
         → IsDocument x → ¬ Separates (I (definition n) ∷ []) (J (definition m) ∷ []) x) }
     ensures one { IfOk result (λ o. IfSome o (λ d. (I J : Rule → Document → Bool) (n m : List ℕ)
-        → IsInstance admitting.now I → IsInstance refusing.now J
-        → Names admitting.now admitting_root.now n → Names refusing.now refusing_root.now m
+        → IsInstance admitting.now I → IsInstance refusing.now J → Names admitting.now admitting_root.now n → Names refusing.now refusing_root.now m
         → Separates (I (definition n) ∷ []) (J (definition m) ∷ []) (doc_view d))) }
     ensures read { IfOk result (λ o. IfSome o (λ d. IsReadAgain (doc_view d))) }
-    ensures declared { OnOk result (((n : List ℕ) × Names admitting.now admitting_root.now n)
-        × ((m : List ℕ) × Names refusing.now refusing_root.now m)) }
-    ensures refused { IfErr result (λ e. IsRefusal e admitting.now admitting_root.now
-        ⊎ IsRefusal e refusing.now refusing_root.now) }
+    ensures declared { OnOk result (((n : List ℕ) × Names admitting.now admitting_root.now n) × ((m : List ℕ) × Names refusing.now refusing_root.now m)) }
+    ensures refused { IfErr result (λ e. IsRefusal e admitting.now admitting_root.now ⊎ IsRefusal e refusing.now refusing_root.now) }
 {
     let first = numbered_root(alloc, admitting, admitting_root)?;
     let second = numbered_root(alloc, refusing, refusing_root)?;
@@ -61,17 +56,19 @@ pub fn separating(
         admitting: side_of(alloc, &first.numbering.rules, &first.numbering.children)?,
         refusing: side_of(alloc, &second.numbering.rules, &second.numbering.children)?,
     };
-    let asked = both(alloc, first.number, second.number)?;
+    let mut asked = met(alloc, first.number)?;
+    let unmet = Literal {
+        side: Side::Refusing,
+        rule: second.number,
+        holds: false,
+    };
+    add(&mut asked, unmet)?;
     let Some(doc) = document_for(alloc, &nodes, &asked, budget)? else {
         return Ok(None);
     };
-    if is_judged(alloc, admitting, admitting_root, &doc, true)?
-        && is_judged(alloc, refusing, refusing_root, &doc, false)?
-    {
-        Ok(Some(doc))
-    } else {
-        Err(QuestionFault::TooManyCases)
-    }
+    judged(alloc, admitting, admitting_root, &doc, true)?;
+    judged(alloc, refusing, refusing_root, &doc, false)?;
+    Ok(Some(doc))
 }
 
 /// A document that a search finds to be all that is asked, and that its text is read as; none where no document is.
@@ -89,7 +86,7 @@ fn document_for(
     if table.is_shut_at(0, asked) {
         return Ok(None);
     }
-    let Witness { doc, values } = witness_of(alloc, &table)?;
+    let (doc, values) = witness_of(alloc, &table)?;
     budget.spend(nodes.count().saturating_mul(values) / PAIRS_OF_STEP);
     if is_read_again(alloc, &doc)? {
         Ok(Some(doc))
@@ -98,37 +95,26 @@ fn document_for(
     }
 }
 
-/// Whether a document is an instance of the root, or isn't.
-fn is_judged(
+/// A document is judged as it was found.
+///
+/// # Errors
+/// `TooManyCases` where it isn't, which is never so.
+fn judged(
     alloc: Global,
     package: &Guarded,
     root: &str,
     doc: &Doc,
     wanted: bool,
-) -> Result<bool, QuestionFault>
-    ensures judged { IfOk result (λ b. IsTrue b → (I : Rule → Document → Bool) (n : List ℕ)
-        → IsInstance «package».now I → Names «package».now root.now n
+) -> Result<(), QuestionFault>
+    ensures judged { OnOk result ((I : Rule → Document → Bool) (n : List ℕ) → IsInstance «package».now I → Names «package».now root.now n
         → I (definition n) (doc_view doc.now) ≡ wanted) }
     ensures refused { IfErr result (λ e. IsRefusal e «package».now root.now) }
 {
-    Ok(is_instance(alloc, package, root, doc)? == wanted)
-}
-
-/// A rule that is to be met, and one that isn't.
-fn both(alloc: Global, first: usize, second: usize) -> Result<Vec<Literal>, AllocError>
-    ensures { IfOk result (λ v. (p : Literal → Bool)
-        → p (record { side = Side.Admitting; rule = first; holds = true }) ≡ true
-        → p (record { side = Side.Refusing; rule = second; holds = false }) ≡ true
-        → list_all p v.items ≡ true) }
-{
-    let mut asked = met(alloc, first)?;
-    let unmet = Literal {
-        side: Side::Refusing,
-        rule: second,
-        holds: false,
-    };
-    add(&mut asked, unmet)?;
-    Ok(asked)
+    if is_instance(alloc, package, root, doc)? == wanted {
+        Ok(())
+    } else {
+        Err(QuestionFault::TooManyCases)
+    }
 }
 
 /// An instance of the root, a definition of the package named with its `#`, that its text is read as; none where it has none.
@@ -143,11 +129,9 @@ pub fn instance_of(
     budget: &mut Budget,
 ) -> Result<Option<Doc>, QuestionFault>
     ensures none { IfOk result (λ o. IsNone o → (I : Rule → Document → Bool) (n : List ℕ) (x : Document)
-        → IsInstance «package».now I → Names «package».now root.now n
-        → IsDocument x → ¬ Separates (I (definition n) ∷ []) [] x) }
+        → IsInstance «package».now I → Names «package».now root.now n → IsDocument x → ¬ Separates (I (definition n) ∷ []) [] x) }
     ensures one { IfOk result (λ o. IfSome o (λ d. (I : Rule → Document → Bool) (n : List ℕ)
-        → IsInstance «package».now I → Names «package».now root.now n
-        → Separates (I (definition n) ∷ []) [] (doc_view d))) }
+        → IsInstance «package».now I → Names «package».now root.now n → Separates (I (definition n) ∷ []) [] (doc_view d))) }
     ensures read { IfOk result (λ o. IfSome o (λ d. IsReadAgain (doc_view d))) }
     ensures declared { OnOk result ((n : List ℕ) × Names «package».now root.now n) }
     ensures refused { IfErr result (λ e. IsRefusal e «package».now root.now) }
@@ -166,9 +150,51 @@ pub fn instance_of(
     let Some(doc) = document_for(alloc, &nodes, &asked, budget)? else {
         return Ok(None);
     };
-    if is_judged(alloc, package, root, &doc, true)? {
-        Ok(Some(doc))
-    } else {
-        Err(QuestionFault::TooManyCases)
+    judged(alloc, package, root, &doc, true)?;
+    Ok(Some(doc))
+}
+
+/// For each rule whether no document meets it, where the table began with the questions for these rules.
+fn unmet(alloc: Global, table: &Table<'_>, rules: &[usize]) -> Result<Vec<bool>, AllocError>
+    ensures long { IfOk result (λ v. length v.items ≡ length rules.now) }
+    ensures none { IfOk result (λ v. (i : ℕ) → slice_get v.items i ≡ Some true → IsMetByNone table.now.entries.items (slice_index rules.now i)) }
+{
+    let mut all = Vec::with_capacity(alloc, rules.len())?;
+    for (place, rule) in rules.iter().enumerate() {
+        let asked = met(alloc, *rule)?;
+        all.push(table.is_shut_at(place, &asked))?;
     }
+    Ok(all)
+}
+
+/// For each definition, by its number, whether no document is an instance of it. One that has no instance may not be told where
+/// a limit is met: 100,000 questions, 500,000 steps at a time for one of them, and 3,000,000 in all.
+///
+/// # Errors
+/// `OutOfMemory`. `TooManyCases` where the limits leave nothing that is sure.
+pub fn without_instance(alloc: Global, package: &Guarded) -> Result<Vec<bool>, QuestionFault>
+    ensures long { IfOk result (λ v. length v.items ≡ length «package».now) }
+    ensures none { IfOk result (λ v. (i : ℕ) → slice_get v.items i ≡ Some true → HasNoDocument «package».now i) }
+    ensures known { IsErrOf result QuestionFault.UnknownRoot → ⊥ }
+{
+    let NumberedPackage { numbering, numbers } = numbered_package(alloc, package)?;
+    let nodes = Nodes {
+        alloc,
+        admitting: side_of(alloc, &numbering.rules, &numbering.children)?,
+        refusing: Vec::new(alloc),
+    };
+    let table = explored_all(alloc, &nodes, &numbers)?;
+    let all = unmet(alloc, &table, &numbers)?;
+    Ok(all)
+}
+
+/// Whether a document is what its text is read as: always, where it nests no deeper than documents are read.
+///
+/// # Errors
+/// `OutOfMemory`.
+fn is_read_again(alloc: Global, doc: &Doc) -> Result<bool, SearchFault>
+    ensures { IfOk result (λ b. IsTrue b → IsReadAgain (doc_view doc.now)) }
+{
+    let text = write_doc(alloc, doc)?;
+    Ok(is_read_as(alloc, &text, doc)?)
 }

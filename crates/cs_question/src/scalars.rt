@@ -1,15 +1,21 @@
-// What rules say of a document by its outline: its kind, and the value of a scalar.
-ghost use Rattle.std.specs.Prelude.{◌≡◌};
+// What rules say of a document by its outline: its kind, and the value of a scalar; and an integer and a text that are all that is asked.
+ghost use Rattle.std.specs.Prelude.{◌≡◌, ℤ, [], false, FitsSigned, IfOk, IsNone, OnOk, ◌<◌, ◌≤◌, ℕ, List, length, string_bytes, All};
+ghost use Rattle.std.specs.Int.{w64};
 ghost use Rattle.cs_flat.specs.View.{item_view};
 ghost use Rattle.cs_instance.specs.Constraint.{outline};
+ghost use Rattle.cs_document.specs.Opened.{an_integer, a_text};
+ghost use Rattle.cs_package.specs.Expression.{range};
+ghost use Rattle.cs_package.specs.View.{expression_of};
+ghost use Rattle.cs_instance.specs.Steps.{test_of};
 ghost use Rattle.cs_question.specs.Nodes.{asked_of};
-ghost use Rattle.cs_question.specs.Outlines.{verdict_of, may, may_all};
+ghost use Rattle.cs_question.specs.Outlines.{verdict_of, may, may_all, AreMarked, IsToldBy, HasMore, IsNoneBeside, IsOneMarked, AreMarkedTexts, IsToldByText};
+ghost use Rattle.cs_question.specs.Outlines.{IsOneMarkedText, HasMoreTexts};
 
-use crate::literal::Literal;
-use crate::nodes::{Node, Nodes};
+use crate::nodes::{Literal, Node, Nodes};
 use cs_flat::Item;
 use cs_instance::holds_simply;
-use cs_package::Shape;
+use cs_package::{Comparison, Shape};
+use std::alloc::{AllocError, Global};
 
 /// Whether a document of that outline meets a rule, where that is seen.
 fn verdict(node: &Node<'_>, item: &Item<'_>) -> Option<bool>
@@ -44,10 +50,170 @@ fn may_meet(nodes: &Nodes<'_>, literal: Literal, item: &Item<'_>) -> bool
 pub(crate) fn may_meet_all(nodes: &Nodes<'_>, asked: &[Literal], item: &Item<'_>) -> bool
     ensures { result ≡ may_all nodes.now (outline (item_view item.now)) asked.now }
 {
+    asked.iter().all(|literal| may_meet(nodes, *literal, item))
+}
+
+fn mark_range(marks: &mut Vec<i64>, least: i64, greatest: Option<i64>) -> Result<(), AllocError>
+    ensures told { OnOk result (IsToldBy (test_of (range least greatest)) marks.new.items) }
+    ensures more { OnOk result (HasMore marks.old.items marks.new.items) }
+{
+    marks.push(least)?;
+    match greatest {
+        Some(limit) => Ok(marks.push(limit)?),
+        None => Ok(()),
+    }
+}
+
+/// Marks what an expression that looks at no part compares integers with.
+fn mark_shape(marks: &mut Vec<i64>, shape: &Shape) -> Result<(), AllocError>
+    ensures told { OnOk result (IsToldBy (test_of (expression_of [] shape.now)) marks.new.items) }
+    ensures more { OnOk result (HasMore marks.old.items marks.new.items) }
+{
+    match shape.comparison() {
+        Comparison::Integer(integer) => Ok(marks.push(integer)?),
+        Comparison::Range { least, greatest } => mark_range(marks, least, greatest),
+        Comparison::Nothing | Comparison::Text(_) => Ok(()),
+    }
+}
+
+fn mark(marks: &mut Vec<i64>, nodes: &Nodes<'_>, literal: Literal) -> Result<(), AllocError>
+    ensures told { OnOk result (IsOneMarked nodes.now literal marks.new.items) }
+    ensures more { OnOk result (HasMore marks.old.items marks.new.items) }
+{
+    match nodes.of(literal) {
+        Some(Node::Simple(shape)) => mark_shape(marks, shape),
+        Some(Node::Within { least, greatest }) => mark_range(marks, *least, *greatest),
+        _ => Ok(()),
+    }
+}
+
+/// The integers that rules compare with.
+fn marks_of(nodes: &Nodes<'_>, asked: &[Literal]) -> Result<Vec<i64>, AllocError>
+    ensures { IfOk result (λ v. AreMarked nodes.now asked.now v.items) }
+{
+    let mut marks = Vec::new(nodes.alloc);
     for literal in asked {
-        if !may_meet(nodes, *literal, item) {
-            return false;
+        mark(&mut marks, nodes, *literal)?;
+    }
+    Ok(marks)
+}
+
+/// Whether an integer may be all that is asked.
+fn may_be(nodes: &Nodes<'_>, asked: &[Literal], integer: i64) -> bool
+    ensures { result ≡ may_all nodes.now (an_integer integer) asked.now }
+{
+    may_meet_all(nodes, asked, &Item::Int(integer))
+}
+
+/// A mark, or an integer beside it, that may be all that is asked.
+fn beside(nodes: &Nodes<'_>, asked: &[Literal], mark: i64) -> Option<i64>
+    ensures { IsNone result → IsNoneBeside nodes.now asked.now mark }
+{
+    if may_be(nodes, asked, mark) {
+        return Some(mark);
+    }
+    if mark > i64::MIN && may_be(nodes, asked, mark - 1) {
+        return Some(mark - 1);
+    }
+    if mark < i64::MAX && may_be(nodes, asked, mark + 1) {
+        return Some(mark + 1);
+    }
+    None
+}
+
+/// An integer that is all that is asked: between two neighbouring marks all are alike.
+pub(crate) fn integer_of(nodes: &Nodes<'_>, asked: &[Literal]) -> Result<Option<i64>, AllocError>
+    ensures { IfOk result (λ o. IsNone o → (z : ℤ) → FitsSigned w64 z → may_all nodes.now (an_integer z) asked.now ≡ false) }
+{
+    if may_be(nodes, asked, 0) {
+        return Ok(Some(0));
+    }
+    let marks = marks_of(nodes, asked)?;
+    for mark in &marks {
+        let found = beside(nodes, asked, *mark);
+        if found.is_some() {
+            return Ok(found);
         }
     }
-    true
+    Ok(None)
+}
+
+/// The text that an expression that looks at no part compares with.
+fn mark_of<'a>(shape: &'a Shape) -> Option<&'a str>
+    ensures { IsToldByText (test_of (expression_of [] shape.now)) result }
+{
+    match shape.comparison() {
+        Comparison::Text(text) => Some(text),
+        Comparison::Nothing | Comparison::Integer(_) | Comparison::Range { .. } => None,
+    }
+}
+
+/// Marks the text that a rule compares with.
+fn mark_text<'a>(
+    marks: &mut Vec<&'a str>,
+    nodes: &Nodes<'a>,
+    literal: Literal,
+) -> Result<(), AllocError>
+    ensures told { OnOk result (IsOneMarkedText nodes.now literal marks.new.items) }
+    ensures more { OnOk result (HasMoreTexts marks.old.items marks.new.items) }
+{
+    let Some(Node::Simple(shape)) = nodes.of(literal) else {
+        return Ok(());
+    };
+    match mark_of(shape) {
+        Some(text) => Ok(marks.push(text)?),
+        None => Ok(()),
+    }
+}
+
+/// The texts that rules compare with.
+fn texts_of<'a>(nodes: &Nodes<'a>, asked: &[Literal]) -> Result<Vec<&'a str>, AllocError>
+    ensures { IfOk result (λ v. AreMarkedTexts nodes.now asked.now v.items) }
+{
+    let mut marks = Vec::new(nodes.alloc);
+    for literal in asked {
+        mark_text(&mut marks, nodes, *literal)?;
+    }
+    Ok(marks)
+}
+
+fn longest(marks: &[&str]) -> usize
+    ensures { All (λ m. length m.now ≤ result) marks.now }
+{
+    let mut most = 0;
+    for mark in marks {
+        if mark.len() > most {
+            most = mark.len();
+        }
+    }
+    most
+}
+
+/// A text that is none of these, since it is longer.
+pub(crate) fn other_text(alloc: Global, marks: &[&str]) -> Result<String, AllocError>
+    ensures { IfOk result (λ t. All (λ m. length m.now < length (string_bytes t)) marks.now) }
+{
+    let most = longest(marks);
+    let mut text = String::new(alloc);
+    while text.len() <= most {
+        text.push('a')?;
+    }
+    Ok(text)
+}
+
+/// A text that is all that is asked: one that rules compare with, or one that is none of these.
+pub(crate) fn text_of(nodes: &Nodes<'_>, asked: &[Literal]) -> Result<Option<String>, AllocError>
+    ensures { IfOk result (λ o. IsNone o → (t : List ℕ) → may_all nodes.now (a_text t) asked.now ≡ false) }
+{
+    let marks = texts_of(nodes, asked)?;
+    for mark in &marks {
+        if may_meet_all(nodes, asked, &Item::Text(*mark)) {
+            return Ok(Some(String::from_str(nodes.alloc, *mark)?));
+        }
+    }
+    let other = other_text(nodes.alloc, &marks)?;
+    if may_meet_all(nodes, asked, &Item::Text(other.as_str())) {
+        return Ok(Some(other));
+    }
+    Ok(None)
 }

@@ -1,17 +1,278 @@
 // The rules of one side as few as they are told apart: a conjunction of ranges is one range, and values, ranges, structs and lists that
 // are the same are one rule where they are asked of parts.
-ghost use Rattle.std.specs.Prelude.{◌≡◌, ℕ, Bool, map, slice_index, IfOk, IsTrue};
+ghost use Rattle.std.specs.Prelude.{◌≡◌, [], IsTrue, map, ◌&&◌, ℕ, ℤ, Bool, IfSome, slice_get, slice_index, IfOk};
+ghost use Rattle.std.specs.List.{list_all};
+ghost use Rattle.cs_package.specs.View.{expression_of, mark_of, relation_of};
+ghost use Rattle.cs_instance.specs.Constraint.{Outline, outline, is_integer, is_related, is_satisfied, at_most_or_any};
+ghost use Rattle.cs_instance.specs.Steps.{test_of, field_of, numbered};
 ghost use Rattle.cs_document.specs.Document.{Document};
-ghost use Rattle.cs_instance.specs.Steps.{numbered};
-ghost use Rattle.cs_question.specs.Nodes.{asked_of, IsSide, Says};
+ghost use Rattle.cs_document.specs.Opened.{opened};
+ghost use Rattle.cs_question.specs.Nodes.{asked_of, AreAlike, IsSide, Says};
+ghost use Rattle.cs_question.specs.Between.{at_least_or_any, is_between, IsRange, AreBetween};
 
-use crate::alike::are_alike;
-use crate::forms::{Part, are_same_parts, form_of};
-use crate::nodes::{Node, nodes_of};
-use crate::ranges::fold;
-use cs_instance::Rule;
+use crate::nodes::{Node, NodeEnd, nodes_of};
+use cs_instance::{Field, Rule};
+use cs_package::{FieldMark, Kind, Literal, Relation, Shape, Simple};
 use std::alloc::{AllocError, Global};
 use std::collections::BTreeMap;
+
+/// What a constant or a range is found by.
+#[derive(Clone, Copy, PartialEq, Eq, PartialOrd, Ord)]
+pub(crate) enum Sign<'a> {
+    Literal(Literal<'a>),
+    Range(i64, Option<i64>),
+}
+
+/// What a rule is found by, where it is a constant or a range.
+pub(crate) fn sign_of<'a>(node: &Node<'a>) -> Option<Sign<'a>> {
+    match node {
+        Node::Simple(shape) => match shape.simple()? {
+            Simple::Literal(literal) => Some(Sign::Literal(literal)),
+            Simple::Range { least, greatest } => Some(Sign::Range(least, greatest)),
+            Simple::Top | Simple::Bottom | Simple::Excluded(_) => None,
+            Simple::Kind(_) | Simple::Bound { .. } => None,
+        },
+        Node::Within { least, greatest } => Some(Sign::Range(*least, *greatest)),
+        Node::All(_) | Node::Any(_) | Node::Struct { .. } | Node::List { .. } => None,
+    }
+}
+
+/// Whether two constants of the sources are the same.
+fn are_same_constants(first: &Shape, second: &Shape) -> bool
+    ensures { IsTrue result → (o : Outline) → test_of (expression_of [] first.now) o ≡ test_of (expression_of [] second.now) o }
+{
+    match (first, second) {
+        (Shape::Null, Shape::Null) => true,
+        (Shape::Bool(value), Shape::Bool(other)) => value == other,
+        (Shape::Int(integer), Shape::Int(other)) => integer == other,
+        (Shape::Text(text), Shape::Text(other)) => text.as_str() == other.as_str(),
+        _ => false,
+    }
+}
+
+/// Whether two constants or two ranges are the same.
+pub(crate) fn are_alike(first: &Node<'_>, second: &Node<'_>) -> bool
+    ensures { IsTrue result → AreAlike (asked_of first.now) (asked_of second.now) }
+{
+    match first {
+        Node::Simple(shape) =>
+            matches!(second, Node::Simple(other) if are_same_constants(shape, other)),
+        Node::Within { least, greatest } =>
+            matches!(second, Node::Within { least: other, greatest: limit }
+                if *least == *other && *greatest == *limit),
+        _ => false,
+    }
+}
+
+/// What a rule is found by: a piece of it for each of its parts.
+#[derive(Clone, Copy, PartialEq, Eq, PartialOrd, Ord)]
+pub(crate) enum Part<'a> {
+    Value(Sign<'a>),
+    Field(&'a str, usize),
+    Element(usize),
+    End(NodeEnd),
+}
+
+/// What a rule is found by: nothing, where it asks others of the same document.
+fn form_of<'a>(alloc: Global, node: &Node<'a>) -> Result<Vec<Part<'a>>, AllocError> {
+    let mut form = Vec::new(alloc);
+    if let Some(sign) = sign_of(node) {
+        form.push(Part::Value(sign))?;
+    }
+    match node {
+        Node::Struct { fields, .. } => {
+            for field in &fields.all {
+                form.push(Part::Field(field.label, field.value))?;
+            }
+        }
+        Node::List { front, end } => {
+            for element in front {
+                form.push(Part::Element(*element))?;
+            }
+            if *end != NodeEnd::Closed {
+                form.push(Part::End(*end))?;
+            }
+        }
+        Node::Simple(_) | Node::Within { .. } | Node::All(_) | Node::Any(_) => {}
+    }
+    Ok(form)
+}
+
+/// Whether two rules are structs of the same declarations, or lists of the same elements.
+fn are_same_parts(first: &Node<'_>, second: &Node<'_>) -> bool
+    ensures { IsTrue result → asked_of first.now ≡ asked_of second.now }
+{
+    match first {
+        Node::Struct { fields, opened } =>
+            matches!(second, Node::Struct { fields: others, opened: other }
+                if *opened == *other && are_same_fields(&fields.all, &others.all)),
+        Node::List { front, end } => matches!(second, Node::List { front: others, end: other }
+                if *end == *other && *front == *others),
+        _ => false,
+    }
+}
+
+fn is_same_mark(first: FieldMark, second: FieldMark) -> bool
+    ensures { IsTrue result → mark_of first ≡ mark_of second }
+{
+    matches!(
+        (first, second),
+        (FieldMark::Regular, FieldMark::Regular)
+            | (FieldMark::Optional, FieldMark::Optional)
+            | (FieldMark::Required, FieldMark::Required)
+            | (FieldMark::Every { .. }, FieldMark::Every { .. })
+    )
+}
+
+fn is_same_field(first: &Field<'_>, second: &Field<'_>) -> bool
+    ensures { IsTrue result → field_of first.now ≡ field_of second.now }
+{
+    first.value == second.value
+        && first.label == second.label
+        && is_same_mark(first.mark, second.mark)
+}
+
+fn is_same_at(first: &[Field<'_>], second: &[Field<'_>], place: usize) -> bool
+    ensures { IsTrue result → slice_get (map field_of first.now) place ≡ slice_get (map field_of second.now) place }
+{
+    match (first.get(place), second.get(place)) {
+        (Some(field), Some(other)) => is_same_field(field, other),
+        _ => false,
+    }
+}
+
+fn are_same_fields(first: &[Field<'_>], second: &[Field<'_>]) -> bool
+    ensures { IsTrue result → map field_of first.now ≡ map field_of second.now }
+{
+    if first.len() != second.len() {
+        return false;
+    }
+    for i in 0..first.len() {
+        if !is_same_at(first, second, i) {
+            return false;
+        }
+    }
+    true
+}
+
+/// The least and the greatest integer of a range, where it has them.
+type Limits = (Option<i64>, Option<i64>);
+
+fn greater(first: Option<i64>, second: Option<i64>) -> Option<i64>
+    ensures { (z : ℤ) → at_least_or_any result z ≡ at_least_or_any first z && at_least_or_any second z }
+{
+    match (first, second) {
+        (Some(a), Some(b)) => Some(a.max(b)),
+        (Some(limit), None) | (None, Some(limit)) => Some(limit),
+        (None, None) => None,
+    }
+}
+
+fn lesser(first: Option<i64>, second: Option<i64>) -> Option<i64>
+    ensures { (z : ℤ) → at_most_or_any result z ≡ at_most_or_any first z && at_most_or_any second z }
+{
+    match (first, second) {
+        (Some(a), Some(b)) => Some(a.min(b)),
+        (Some(limit), None) | (None, Some(limit)) => Some(limit),
+        (None, None) => None,
+    }
+}
+
+/// The limits of what two ranges have in common.
+fn in_both(first: Limits, second: Limits) -> Limits
+    ensures { (z : ℤ) → is_between result.0 result.1 z ≡ is_between first.0 first.1 z && is_between second.0 second.1 z }
+{
+    (greater(first.0, second.0), lesser(first.1, second.1))
+}
+
+/// The limits that a bound sets, where they are integers of 64 bits.
+fn limits_of_bound(relation: Relation, limit: i64) -> Option<Limits>
+    ensures { IfSome result (λ l. (z : ℤ) → is_related (relation_of relation) limit z ≡ is_between l.0 l.1 z) }
+{
+    match relation {
+        Relation::AtLeast => Some((Some(limit), None)),
+        Relation::AtMost => Some((None, Some(limit))),
+        Relation::More if limit < i64::MAX => Some((Some(limit + 1), None)),
+        Relation::Less if limit > i64::MIN => Some((None, Some(limit - 1))),
+        Relation::More | Relation::Less => None,
+    }
+}
+
+/// The limits of a rule, where it is a range.
+fn limits_of(node: &Node<'_>) -> Option<Limits>
+    ensures { IfSome result (λ l. IsRange (asked_of node.now) l.0 l.1) }
+{
+    match node {
+        Node::Simple(Shape::Kind(Kind::Int | Kind::Number)) => Some((None, None)),
+        Node::Simple(Shape::Range { least, greatest }) => Some((Some(*least), *greatest)),
+        Node::Simple(Shape::Bound { relation, limit }) => limits_of_bound(*relation, *limit),
+        Node::Within { least, greatest } => Some((Some(*least), *greatest)),
+        _ => None,
+    }
+}
+
+/// The limits of the rule of a number, where it is a range.
+fn limits_at(nodes: &[Node<'_>], rule: usize) -> Option<Limits>
+    ensures { IfSome result (λ l. AreBetween (map asked_of nodes.now) (λ J x. J rule x) l.0 l.1) }
+{
+    limits_of(nodes.get(rule)?)
+}
+
+/// The limits of what a range has in common with each of these rules, where each of them is a range.
+fn narrowed(nodes: &[Node<'_>], limits: Limits, others: &[usize]) -> Option<Limits>
+    ensures { IfSome result (λ l. AreBetween (map asked_of nodes.now) (λ J x.
+        is_integer (is_between limits.0 limits.1) (outline (opened x)) && list_all (λ p. J p x) others.now) l.0 l.1) }
+{
+    let mut all = limits;
+    for other in others {
+        let next = limits_at(nodes, *other)?;
+        all = in_both(all, next);
+    }
+    Some(all)
+}
+
+/// The limits of a conjunction of these rules, where each of them is a range.
+fn limits_of_all(nodes: &[Node<'_>], parts: &[usize]) -> Option<Limits>
+    ensures { IfSome result (λ l. AreBetween (map asked_of nodes.now) (λ J x. list_all (λ p. J p x) parts.now) l.0 l.1) }
+{
+    let first = parts.first()?;
+    let limits = limits_at(nodes, *first)?;
+    narrowed(nodes, limits, parts)
+}
+
+/// The rule at a place as one range, where it is a conjunction of ranges that has a least integer.
+fn range_at<'a>(nodes: &[Node<'a>], place: usize) -> Option<Node<'a>>
+    ensures { IfSome result (λ n. (J : ℕ → Document → Bool) → IsSide (map asked_of nodes.now) J → (x : Document) → J place x
+        ≡ is_satisfied (λ p. J p x) (λ y p. J p y) (asked_of n) (opened x)) }
+{
+    let Some(Node::All(parts)) = nodes.get(place) else {
+        return None;
+    };
+    let (least, greatest) = limits_of_all(nodes, parts)?;
+    let least = least?;
+    Some(Node::Within { least, greatest })
+}
+
+/// Makes a conjunction of ranges at a place one range.
+fn fold_at(nodes: &mut Vec<Node<'_>>, place: usize)
+    ensures { Says (map asked_of nodes.old.items) (map asked_of nodes.new.items) }
+{
+    let Some(range) = range_at(nodes, place) else {
+        return;
+    };
+    if place < nodes.len() {
+        nodes[place] = range;
+    }
+}
+
+/// Makes each conjunction of ranges one range.
+fn fold(nodes: &mut Vec<Node<'_>>)
+    ensures { Says (map asked_of nodes.old.items) (map asked_of nodes.new.items) }
+{
+    for place in 0..nodes.len() {
+        fold_at(nodes, place);
+    }
+}
 
 /// How often rules that are the same are looked for, each time by the numbers that the last one gave their parts. So structs and
 /// lists are one rule where they differ in what so many levels down asks the same.
@@ -19,8 +280,7 @@ const LEVELS: usize = 8;
 
 /// Whether two rules by their numbers are the same value, range, struct or list.
 fn are_same(nodes: &[Node<'_>], first: usize, second: usize) -> bool
-    ensures { IsTrue result → (J : ℕ → Document → Bool) → IsSide (map asked_of nodes.now) J
-        → (x : Document) → J first x ≡ J second x }
+    ensures { IsTrue result → (J : ℕ → Document → Bool) → IsSide (map asked_of nodes.now) J → (x : Document) → J first x ≡ J second x }
 {
     match (nodes.get(first), nodes.get(second)) {
         (Some(node), Some(other)) => are_alike(node, other) || are_same_parts(node, other),
@@ -35,8 +295,7 @@ fn first_of<'a>(
     firsts: &mut BTreeMap<Vec<Part<'a>>, usize>,
     rule: usize,
 ) -> Result<usize, AllocError>
-    ensures { IfOk result (λ r. (J : ℕ → Document → Bool) → IsSide (map asked_of nodes.now) J
-        → (x : Document) → J r x ≡ J rule x) }
+    ensures { IfOk result (λ r. (J : ℕ → Document → Bool) → IsSide (map asked_of nodes.now) J → (x : Document) → J r x ≡ J rule x) }
 {
     let Some(node) = nodes.get(rule) else {
         return Ok(rule);

@@ -1,11 +1,9 @@
 // The document that a table found, made of its parts.
 use crate::fault::SearchFault;
-use crate::found::Found;
-use crate::literal::Literal;
+use crate::nodes::Literal;
 use crate::places::Key;
-use crate::state::Chosen;
-use crate::table::Table;
-use crate::texts::other_text;
+use crate::scalars::other_text;
+use crate::table::{Chosen, Found, Table};
 use cs_document::Doc;
 use std::alloc::{AllocError, Global};
 use std::collections::BTreeMap;
@@ -15,13 +13,6 @@ const MOST_VALUES: usize = 100_000;
 
 const MOST_DEPTH: usize = 127;
 
-/// A document, and how many values it has.
-#[derive(Drop)]
-pub(crate) struct Witness {
-    pub(crate) doc: Doc,
-    pub(crate) values: usize,
-}
-
 /// How many values a document has, and how deep it nests.
 #[derive(Clone, Copy)]
 struct Extent {
@@ -29,44 +20,28 @@ struct Extent {
     depth: usize,
 }
 
-/// That of a scalar.
-const SCALAR: Extent = Extent {
-    values: 1,
-    depth: 0,
-};
-
-/// That of a list or a map with nothing inside.
-const EMPTY: Extent = Extent {
-    values: 1,
-    depth: 1,
-};
-
 /// That of a document that isn't found.
 const ENDLESS: Extent = Extent {
     values: usize::MAX,
     depth: usize::MAX,
 };
 
-/// That of what is around both.
-fn joined(first: Extent, second: Extent) -> Extent {
-    Extent {
-        values: first.values.saturating_add(second.values),
-        depth: first.depth.max(second.depth.saturating_add(1)),
-    }
-}
-
+/// That of what was found, around all of its parts.
 fn extent_found(table: &Table<'_>, extents: &[Extent], found: &Found<'_>) -> Extent {
-    let mut all = match found {
-        Found::Scalar(_) => SCALAR,
-        Found::List(_) | Found::Map { .. } => EMPTY,
+    let mut values: usize = 1;
+    let mut depth = match found {
+        Found::Scalar(_) => 0,
+        Found::List(_) | Found::Map { .. } => 1,
     };
     for part in found.parts() {
-        let extent = table
-            .place(part)
-            .and_then(|place| extents.get(place).copied());
-        all = joined(all, extent.unwrap_or(ENDLESS));
+        let place = table.place(part);
+        let extent = place
+            .and_then(|place| extents.get(place).copied())
+            .unwrap_or(ENDLESS);
+        values = values.saturating_add(extent.values);
+        depth = depth.max(extent.depth.saturating_add(1));
     }
-    all
+    Extent { values, depth }
 }
 
 /// The extent of the document that was found for each question.
@@ -125,8 +100,9 @@ struct Making<'t, 'a> {
 }
 
 impl Making<'_, '_> {
-    /// The document that was made for the question at a place: itself at its last use, and before that a copy.
-    fn take(&mut self, place: usize) -> Result<Doc, SearchFault> {
+    /// The document that was made for the question at a place, if it has one: itself at its last use, and before that a copy.
+    fn take(&mut self, place: Option<usize>) -> Result<Doc, SearchFault> {
+        let place = place.ok_or(SearchFault::TooManyCases)?;
         if let Some(times) = self.uses.get_mut(place) {
             *times = times.saturating_sub(1);
         }
@@ -138,18 +114,10 @@ impl Making<'_, '_> {
         self.docs.remove(&place).ok_or(SearchFault::TooManyCases)
     }
 
-    /// The document that was made for a question.
-    fn made(&mut self, asked: &Vec<Literal>) -> Result<Doc, SearchFault> {
-        match self.table.place(asked) {
-            Some(place) => self.take(place),
-            None => Err(SearchFault::TooManyCases),
-        }
-    }
-
     fn list_of(&mut self, parts: &[Vec<Literal>]) -> Result<Doc, SearchFault> {
         let mut elements = Vec::with_capacity(self.alloc, parts.len())?;
         for part in parts {
-            elements.push(self.made(part)?)?;
+            elements.push(self.take(self.table.place(part))?)?;
         }
         Ok(Doc::List(elements))
     }
@@ -157,7 +125,7 @@ impl Making<'_, '_> {
     fn map_of(&mut self, chosen: &Chosen<'_>, labels: &[&str]) -> Result<Doc, SearchFault> {
         let mut map = BTreeMap::new(self.alloc);
         for (number, part) in chosen.parts.iter().enumerate() {
-            let doc = self.made(part)?;
+            let doc = self.take(self.table.place(part))?;
             let _ = map.insert(key_at(self.alloc, &chosen.keys, labels, number)?, doc)?;
         }
         Ok(Doc::Object(map))
@@ -194,7 +162,7 @@ fn key_at(
 ///
 /// # Errors
 /// `TooManyCases` where it would have more values than a limit, or nest deeper.
-pub(crate) fn witness_of(alloc: Global, table: &Table<'_>) -> Result<Witness, SearchFault> {
+pub(crate) fn witness_of(alloc: Global, table: &Table<'_>) -> Result<(Doc, usize), SearchFault> {
     let extents = extents_of(alloc, table)?;
     let Extent { values, depth } = extents.first().copied().unwrap_or(ENDLESS);
     if values > MOST_VALUES || depth > MOST_DEPTH {
@@ -214,6 +182,5 @@ pub(crate) fn witness_of(alloc: Global, table: &Table<'_>) -> Result<Witness, Se
             }
         }
     }
-    let doc = making.take(0)?;
-    Ok(Witness { doc, values })
+    Ok((making.take(Some(0))?, values))
 }

@@ -14,7 +14,7 @@ use Rattle.std.proofs.lemmas.Map.Keys.{IsDistinct-push}
 use Rattle.std.proofs.lemmas.Map.Text.{is_eq-slice_cmp}
 use Rattle.cs_document.proofs.Each.{each_append, each_front, each_back}
 use Rattle.cs_package.specs.Environment.{Environment}
-use Rattle.cs_variants.specs.declared.sampled.Sampled.{Sampled}
+use Rattle.cs_variants.specs.declared.places.Sampled.{Sampled}
 use Rattle.cs_samples.specs.declared.asking.Asking.{Asking}
 use Rattle.cs_samples.specs.declared.found.Found.{Found}
 use Rattle.cs_samples.specs.Kept.{text_cmp, AreFound, IsSplit}

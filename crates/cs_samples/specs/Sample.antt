@@ -8,7 +8,7 @@ use Rattle.cs_package.specs.Environment.{Environment, Names}
 use Rattle.cs_instance.specs.Instance.{Rule, definition, IsInstance}
 use Rattle.cs_json.specs.Shown.{IsShown}
 use Rattle.cs_question.specs.ReadAgain.{IsReadAgain}
-use Rattle.cs_variants.specs.declared.sampled.Sampled.{Sampled}
+use Rattle.cs_variants.specs.declared.places.Sampled.{Sampled}
 use Rattle.cs_variants.specs.Sampled.{is_valid}
 
 -- a document is an instance of the root, or it is none, as is asked

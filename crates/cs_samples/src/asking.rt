@@ -113,8 +113,7 @@ impl Asking<'_, '_> {
     }
 
     fn is_sample(&self, doc: &Doc) -> Result<bool, InstanceFault>
-        ensures { IfOk result (λ b. IsTrue b → IsAsAsked self.now.package.now self.now.root.now
-            self.now.which (doc_view doc.now)) }
+        ensures { IfOk result (λ b. IsTrue b → IsAsAsked self.now.package.now self.now.root.now self.now.which (doc_view doc.now)) }
     {
         let is_valid = is_instance(self.alloc, self.package, self.root, doc)?;
         Ok(is_valid == self.which.is_valid())

@@ -4,10 +4,7 @@
 mod asking;
 mod found;
 mod sampling;
-mod tally;
-mod texts;
 
 pub use cs_question::QuestionFault;
 pub use cs_variants::Sampled;
-pub use sampling::samples;
-pub use texts::SampleTexts;
+pub use sampling::{SampleTexts, samples};

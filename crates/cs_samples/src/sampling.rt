@@ -1,4 +1,4 @@
-// Samples of a definition.
+// Samples of a definition: their texts, and what is left.
 ghost use Rattle.std.specs.Prelude.{◌≡◌, ◌≤◌, ◌<◌, ℕ, List, [], IfOk, OnOk, IsErrOf, length};
 ghost use Rattle.std.specs.List.{IsDistinct};
 ghost use Rattle.cs_package.specs.Environment.{Names};
@@ -6,14 +6,40 @@ ghost use Rattle.cs_samples.specs.Kept.{AreFound, IsSplit};
 ghost use Rattle.cs_samples.specs.Sample.{AreSamples, HasMore, HasNoInstance, same_text};
 
 use crate::asking::Asking;
-use crate::found::Found;
-use crate::tally::Tally;
-use crate::texts::SampleTexts;
+use crate::found::{Found, Tally};
 use cs_guard::Guarded;
 use cs_json::shown_text;
 use cs_question::{Budget, QuestionFault, instance_of};
 use cs_variants::{Sampled, walk_of};
 use std::alloc::Global;
+
+/// The texts of documents, no two alike, and what is known of others.
+#[derive(Drop)]
+pub struct SampleTexts {
+    /// A line for each document, without its newline.
+    pub texts: Vec<Vec<u8>>,
+    /// How many documents were found beside these: none where they are fewer than are asked for.
+    pub more: usize,
+    /// Whether there are no others for the places of the definition: each of them was asked about, and no limit was met.
+    pub is_complete: bool,
+    /// For how many rules no document was looked for, or a limit was met.
+    pub untried: usize,
+}
+
+impl SampleTexts {
+    /// These texts, where no others were looked for.
+    pub(crate) fn alone(texts: Vec<Vec<u8>>) -> SampleTexts
+        ensures texts { result.texts ≡ texts }
+        ensures more { result.more ≡ 0 }
+    {
+        SampleTexts {
+            texts,
+            more: 0,
+            is_complete: true,
+            untried: 0,
+        }
+    }
+}
 
 /// The texts of documents of the root, a definition of the package named with its `#`, or of documents that just fail, no two alike,
 /// and at most as many as are asked for; and how many others were found. Hidden characters stand in them as escapes.
@@ -46,11 +72,9 @@ pub fn samples(
     ensures within { IfOk result (λ s. length s.texts.items ≤ most) }
     ensures distinct { IfOk result (λ s. IsDistinct same_text s.texts.items) }
     ensures more { IfOk result (λ s. HasMore «package».now root.now which s.texts.items s.more) }
-    ensures none { which ≡ Sampled.Valid → 0 < most
-        → IfOk result (λ s. s.texts.items ≡ [] → HasNoInstance «package».now root.now) }
+    ensures none { which ≡ Sampled.Valid → 0 < most → IfOk result (λ s. s.texts.items ≡ [] → HasNoInstance «package».now root.now) }
     ensures known { OnOk result ((n : List ℕ) × Names «package».now root.now n) }
-    ensures unknown { IsErrOf result QuestionFault.UnknownRoot
-        → (n : List ℕ) → ¬ Names «package».now root.now n }
+    ensures unknown { IsErrOf result QuestionFault.UnknownRoot → (n : List ℕ) → ¬ Names «package».now root.now n }
 {
     let Some(number) = package.package().find(root) else {
         return Err(QuestionFault::UnknownRoot);
@@ -99,15 +123,12 @@ fn first_of(found: Found, most: usize) -> SampleTexts
 
 /// The instance that the question about the root as it stands finds; none where nothing is an instance of the root.
 fn one_instance(asking: &Asking<'_, '_>, mut budget: Budget) -> Result<SampleTexts, QuestionFault>
-    ensures samples { IfOk result (λ s. AreSamples asking.now.package.now asking.now.root.now
-        Sampled.Valid s.texts.items) }
+    ensures samples { IfOk result (λ s. AreSamples asking.now.package.now asking.now.root.now Sampled.Valid s.texts.items) }
     ensures one { IfOk result (λ s. length s.texts.items ≤ 1) }
     ensures distinct { IfOk result (λ s. IsDistinct same_text s.texts.items) }
     ensures more { IfOk result (λ s. s.more ≡ 0) }
-    ensures none { IfOk result (λ s. s.texts.items ≡ []
-        → HasNoInstance asking.now.package.now asking.now.root.now) }
-    ensures unknown { IsErrOf result QuestionFault.UnknownRoot
-        → (n : List ℕ) → ¬ Names asking.now.package.now asking.now.root.now n }
+    ensures none { IfOk result (λ s. s.texts.items ≡ [] → HasNoInstance asking.now.package.now asking.now.root.now) }
+    ensures unknown { IsErrOf result QuestionFault.UnknownRoot → (n : List ℕ) → ¬ Names asking.now.package.now asking.now.root.now n }
 {
     let Some(doc) = instance_of(asking.alloc, asking.package, asking.root, &mut budget)? else {
         return Ok(SampleTexts::alone(Vec::new(asking.alloc)));

@@ -18,8 +18,8 @@ use Rattle.cs_profile.specs.Validity.{IsValidity, OneMeaning as OneValidity}
 use Rattle.cs_validate.proofs.Trimmed.{many_trimmed, many_untrimmed}
 use Rattle.cs_validate.specs.Refusal.{IsRefusal as IsSchemaRefusal, AreManyPairs as AreManyBySchema}
 use Rattle.cs_validate.specs.Rules.{HasManyPairs as HasManyBySchema}
-use Rattle.cs_validate.specs.declared.fault.ValidateFault.{ValidateFault}
-use Rattle.cs_validate.specs.declared.fault.ValidateFault.TheVariants as validate
+use Rattle.cs_table.specs.declared.fault.TableFault.{TableFault}
+use Rattle.cs_table.specs.declared.fault.TableFault.TheVariants as validate
 use Rattle.cs_tool.specs.Accepted.{DeclaresRoot}
 use Rattle.cs_tool.specs.Conversions.{of_document, of_instance, of_validate}
 use Rattle.cs_tool.specs.Headline.{IsVerdict, IsValidated}
@@ -88,7 +88,7 @@ module _ (text : List ℕ) (many : ManyPairs) where
 
   -- the trimmed schema has as many rules
   pub by_schema : (schema_text : List ℕ) (S : Document) → IsSchemaOf schema_text S → (d : Document) → Reads text d
-      → ((i r : ℕ) → SchemaHasManyPairs schema_text text i r → many i r true) → (e : ValidateFault) → IsSchemaRefusal e S d → Refuses text many (of_validate e)
+      → ((i r : ℕ) → SchemaHasManyPairs schema_text text i r → many i r true) → (e : TableFault) → IsSchemaRefusal e S d → Refuses text many (of_validate e)
   by_schema schema_text S is d read pairs validate.OutOfMemory h = tt
   by_schema schema_text S is d read pairs (validate.TooManyPairs i r) h = let schema = is.text in pairs i r (record {
     input = record { schema = schema.document; read_schema = schema.read; profile = schema.profile; document = d; read = read };

@@ -8,7 +8,7 @@ use Rattle.cs_guard.specs.declared.fault.GuardFault.TheVariants as guard
 use Rattle.cs_instance.specs.declared.fault.InstanceFault.TheVariants as instance
 use Rattle.cs_compile.specs.declared.fault.CompileFault.TheVariants as compile
 use Rattle.cs_profile.specs.declared.fault.SchemaFault.TheVariants as schema
-use Rattle.cs_validate.specs.declared.fault.ValidateFault.TheVariants as validate
+use Rattle.cs_table.specs.declared.fault.TableFault.TheVariants as validate
 use Rattle.cs_document.specs.declared.fault.DocFault.TheVariants as doc
 use Rattle.cs_tool.specs.Accepted.{most_bytes, bytes_of}
 use Rattle.cs_tool.specs.Conversions.{of_syntax, of_resolve, of_guard, of_instance, of_compile, of_schema, of_validate, of_document, of_schema_text}

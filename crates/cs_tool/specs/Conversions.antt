@@ -14,8 +14,8 @@ use Rattle.cs_compile.specs.declared.fault.CompileFault.{CompileFault}
 use Rattle.cs_compile.specs.declared.fault.CompileFault.TheVariants as compile
 use Rattle.cs_profile.specs.declared.fault.SchemaFault.{SchemaFault}
 use Rattle.cs_profile.specs.declared.fault.SchemaFault.TheVariants as schema
-use Rattle.cs_validate.specs.declared.fault.ValidateFault.{ValidateFault}
-use Rattle.cs_validate.specs.declared.fault.ValidateFault.TheVariants as validate
+use Rattle.cs_table.specs.declared.fault.TableFault.{TableFault}
+use Rattle.cs_table.specs.declared.fault.TableFault.TheVariants as validate
 use Rattle.cs_document.specs.declared.fault.DocFault.{DocFault}
 use Rattle.cs_document.specs.declared.fault.DocFault.TheVariants as doc
 
@@ -57,7 +57,7 @@ of_schema (schema.Shape place name) = Shape place name
 of_schema (schema.Reference place name) = Reference place name
 of_schema (schema.Loop names) = Loop names
 
-abbrev pub of_validate : ValidateFault → Fault
+abbrev pub of_validate : TableFault → Fault
 of_validate validate.OutOfMemory = OutOfMemory
 of_validate (validate.TooManyPairs items rules) = TooManyPairs items rules true
 

@@ -1,6 +1,6 @@
 // What the refusals of each crate are among those of the tool.
 ghost use Rattle.std.specs.Prelude.{◌≡◌};
-ghost use Rattle.cs_tool.specs.Conversions.{of_syntax, of_schema_text};
+ghost use Rattle.cs_tool.specs.Conversions.{of_syntax, of_resolve, of_guard, of_instance, of_compile, of_schema, of_validate, of_document, of_schema_text};
 
 use crate::Fault;
 use cs_compile::CompileFault;
@@ -11,6 +11,15 @@ use cs_resolve::ResolveFault;
 use cs_schema::SchemaFault;
 use cs_syntax::SyntaxFault;
 use cs_validate::ValidateFault;
+
+/// The fault of the tool that has the name of a crate's fault and carries the same, and behind a `;` what it carries beside that.
+macro_rules! told {
+    ($fault:expr; $of:ident { $($name:ident $({ $($part:ident),* $(; $more:ident: $value:expr)? })?),* }) => {
+        match $fault {
+            $($of::$name $({ $($part),* })? => Fault::$name $({ $($part,)* $($more: $value)? })?,)*
+        }
+    };
+}
 
 /// What a fault of the source in a file is.
 pub(crate) fn of_syntax(file: usize, fault: SyntaxFault) -> Fault
@@ -27,97 +36,51 @@ pub(crate) fn of_syntax(file: usize, fault: SyntaxFault) -> Fault
 }
 
 impl From<ResolveFault> for Fault {
-    ghost use Rattle.cs_tool.specs.Conversions.{of_resolve};
-
     ghost from_gives = { λ e f. f ≡ of_resolve e };
 
     fn from(fault: ResolveFault) -> Fault {
-        match fault {
-            ResolveFault::OutOfMemory => Fault::OutOfMemory,
-            ResolveFault::PackageName { file } => Fault::PackageName { file },
-            ResolveFault::UnknownName { file, offset } => Fault::UnknownName { file, offset },
-            ResolveFault::FieldReference { file, offset } => Fault::FieldReference { file, offset },
-            ResolveFault::NotOpened { file, offset } => Fault::NotOpened { file, offset },
-            ResolveFault::TooLarge { definitions } => Fault::TooLarge { definitions },
-        }
+        told!(fault; ResolveFault { OutOfMemory, PackageName { file }, UnknownName { file, offset }, FieldReference { file, offset },
+            NotOpened { file, offset }, TooLarge { definitions } })
     }
 }
 
 impl From<GuardFault> for Fault {
-    ghost use Rattle.cs_tool.specs.Conversions.{of_guard};
-
     ghost from_gives = { λ e f. f ≡ of_guard e };
 
     fn from(fault: GuardFault) -> Fault {
-        match fault {
-            GuardFault::OutOfMemory => Fault::OutOfMemory,
-            GuardFault::Cycle { names } => Fault::Cycle { names },
-            GuardFault::ChainTooLong { names } => Fault::ChainTooLong { names },
-        }
+        told!(fault; GuardFault { OutOfMemory, Cycle { names }, ChainTooLong { names } })
     }
 }
 
 impl From<InstanceFault> for Fault {
-    ghost use Rattle.cs_tool.specs.Conversions.{of_instance};
-
     ghost from_gives = { λ e f. f ≡ of_instance e };
 
     fn from(fault: InstanceFault) -> Fault {
-        match fault {
-            InstanceFault::OutOfMemory => Fault::OutOfMemory,
-            InstanceFault::UnknownRoot => Fault::UnknownRoot,
-            InstanceFault::TooManyPairs { items, rules } => Fault::TooManyPairs {
-                items,
-                rules,
-                by_schema: false,
-            },
-        }
+        told!(fault; InstanceFault { OutOfMemory, UnknownRoot, TooManyPairs { items, rules; by_schema: false } })
     }
 }
 
 impl From<CompileFault> for Fault {
-    ghost use Rattle.cs_tool.specs.Conversions.{of_compile};
-
     ghost from_gives = { λ e f. f ≡ of_compile e };
 
     fn from(fault: CompileFault) -> Fault {
-        match fault {
-            CompileFault::OutOfMemory => Fault::OutOfMemory,
-            CompileFault::UnknownRoot => Fault::UnknownRoot,
-        }
+        told!(fault; CompileFault { OutOfMemory, UnknownRoot })
     }
 }
 
 impl From<SchemaFault> for Fault {
-    ghost use Rattle.cs_tool.specs.Conversions.{of_schema};
-
     ghost from_gives = { λ e f. f ≡ of_schema e };
 
     fn from(fault: SchemaFault) -> Fault {
-        match fault {
-            SchemaFault::OutOfMemory => Fault::OutOfMemory,
-            SchemaFault::Keyword { place, name } => Fault::Keyword { place, name },
-            SchemaFault::Shape { place, name } => Fault::Shape { place, name },
-            SchemaFault::Reference { place, name } => Fault::Reference { place, name },
-            SchemaFault::Loop { names } => Fault::Loop { names },
-        }
+        told!(fault; SchemaFault { OutOfMemory, Keyword { place, name }, Shape { place, name }, Reference { place, name }, Loop { names } })
     }
 }
 
 impl From<ValidateFault> for Fault {
-    ghost use Rattle.cs_tool.specs.Conversions.{of_validate};
-
     ghost from_gives = { λ e f. f ≡ of_validate e };
 
     fn from(fault: ValidateFault) -> Fault {
-        match fault {
-            ValidateFault::OutOfMemory => Fault::OutOfMemory,
-            ValidateFault::TooManyPairs { items, rules } => Fault::TooManyPairs {
-                items,
-                rules,
-                by_schema: true,
-            },
-        }
+        told!(fault; ValidateFault { OutOfMemory, TooManyPairs { items, rules; by_schema: true } })
     }
 }
 
@@ -137,18 +100,9 @@ pub(crate) fn of_schema_text(fault: DocFault) -> Fault
 
 /// The fault of a document's text.
 impl From<DocFault> for Fault {
-    ghost use Rattle.cs_tool.specs.Conversions.{of_document};
-
     ghost from_gives = { λ e f. f ≡ of_document e };
 
     fn from(fault: DocFault) -> Fault {
-        match fault {
-            DocFault::OutOfMemory => Fault::OutOfMemory,
-            DocFault::NotJson { offset, is_cut } => Fault::NotJson { offset, is_cut },
-            DocFault::NotInteger { offset } => Fault::NotInteger {
-                offset,
-                in_schema: false,
-            },
-        }
+        told!(fault; DocFault { OutOfMemory, NotJson { offset, is_cut }, NotInteger { offset; in_schema: false } })
     }
 }

@@ -22,7 +22,6 @@ use Rattle.cs_validate.specs.Numbering.{map_constraint, said, schema_at}
 use Rattle.cs_validate.specs.Rules.{rules_of, HasManyPairs}
 use Rattle.cs_validate.specs.Judging.{IsJudge, IsTable}
 use Rattle.cs_validate.specs.Refusal.{IsRefusal, AreManyPairs}
-use Rattle.cs_validate.specs.Faults.{fault_of}
 use Rattle.cs_validate.specs.declared.rules.Rule.{Rule as Coded}
 use Rattle.cs_validate.specs.Steps.{asked_of, numbered, step}
 use Rattle.cs_validate.specs.Rooted.{IsRooted}
@@ -91,6 +90,6 @@ module _ (R : Document) (xs : List (Opened ℕ)) (root ic rc : ℕ) (judge : Jud
     many = l;
   }
 
-  pub refused : (e : TableFault) → limits.IsRefusal ic rc e → IsRefusal (fault_of e) R (document_in xs)
+  pub refused : (e : TableFault) → limits.IsRefusal ic rc e → IsRefusal e R (document_in xs)
   refused table.OutOfMemory h = tt
   refused (table.TooManyPairs items rules) h = subst₂ (AreManyPairs R (document_in xs)) (sym h.0) (sym h.1) (many_pairs h.2)

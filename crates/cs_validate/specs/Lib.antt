@@ -13,4 +13,3 @@ pub mod Looks
 pub mod Marked
 pub mod Placing
 pub mod Ranked
-pub mod Faults

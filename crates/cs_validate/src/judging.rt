@@ -10,12 +10,12 @@ ghost use Rattle.cs_validate.specs.Judging.{IsJudge, IsTable};
 ghost use Rattle.cs_validate.specs.Refusal.{IsRefusal};
 
 use crate::numbering::rooted::numbering_of;
-use crate::{ValidJudge, ValidateFault, schema_rules};
+use crate::{ValidJudge, schema_rules};
 use cs_document::Doc;
 use cs_flat::{Flat, flatten};
 use cs_profile::{SchemaDoc, one_meaning};
 use cs_rules::RuleJudge;
-use cs_table::{Judge, Verdicts, fill};
+use cs_table::{Judge, TableFault, Verdicts, fill};
 use std::alloc::Global;
 
 /// The judge of a document's values by a schema document, its definitions and every schema inside them, with the number
@@ -24,12 +24,12 @@ pub fn valid_judge<'a>(
     alloc: Global,
     schema: &'a SchemaDoc,
     flat: &'a Flat<'a>,
-) -> Result<(ValidJudge<'a>, usize), ValidateFault>
+) -> Result<(ValidJudge<'a>, usize), TableFault>
     ensures found { IfOk result (λ t. IsJudge (document_of schema.now) flat.now t.1
         (⟦<ValidJudge<'a> as Judge>⟧.item_count t.0)
         (⟦<ValidJudge<'a> as Judge>⟧.rule_count t.0)
         (⟦<ValidJudge<'a> as Judge>⟧.answer t.0)) }
-    ensures memory { IsOkUnless result ValidateFault.OutOfMemory }
+    ensures memory { IsOkUnless result TableFault.OutOfMemory }
 {
     let (numbering, number) = numbering_of(alloc, schema)?;
     Ok((RuleJudge::over(alloc, numbering, flat)?, number))
@@ -44,7 +44,7 @@ pub fn valid_table(
     alloc: Global,
     schema: &SchemaDoc,
     flat: &Flat<'_>,
-) -> Result<(Verdicts, usize), ValidateFault>
+) -> Result<(Verdicts, usize), TableFault>
     ensures found { IfOk result (λ t. IsTable (document_of schema.now) flat.now t.1 t.0) }
     ensures within { OnOk result (¬ HasManyPairs (document_of schema.now) (document_in flat.now)) }
     ensures refused { IfErr result (λ e. IsRefusal e (document_of schema.now) (document_in flat.now)) }
@@ -60,11 +60,7 @@ pub fn valid_table(
 ///
 /// # Errors
 /// `TooManyPairs` exactly where the values of the document and the schemas make more than 67,108,864 pairs.
-pub fn valid_verdict(
-    alloc: Global,
-    schema: &SchemaDoc,
-    flat: &Flat<'_>,
-) -> Result<bool, ValidateFault>
+pub fn valid_verdict(alloc: Global, schema: &SchemaDoc, flat: &Flat<'_>) -> Result<bool, TableFault>
     ensures one_meaning { OneMeaning (document_of schema.now) }
     ensures answer { IfOk result (λ b. (V : Document → Document → Bool)
         → IsValidity (document_of schema.now) V
@@ -84,7 +80,7 @@ pub fn valid_verdict(
 ///
 /// # Errors
 /// `TooManyPairs` exactly where the values of the document and the schemas make more than 67,108,864 pairs.
-pub fn is_valid(alloc: Global, schema: &SchemaDoc, doc: &Doc) -> Result<bool, ValidateFault>
+pub fn is_valid(alloc: Global, schema: &SchemaDoc, doc: &Doc) -> Result<bool, TableFault>
     ensures one_meaning { OneMeaning (document_of schema.now) }
     ensures answer { IfOk result (λ b. (V : Document → Document → Bool)
         → IsValidity (document_of schema.now) V → b ≡ V (document_of schema.now) (doc_view doc.now)) }
@@ -93,7 +89,7 @@ pub fn is_valid(alloc: Global, schema: &SchemaDoc, doc: &Doc) -> Result<bool, Va
 {
     one_meaning(schema); // for the proof: there is one validity
     let Ok(flat) = flatten(alloc, doc) else {
-        return Err(ValidateFault::OutOfMemory);
+        return Err(TableFault::OutOfMemory);
     };
     valid_verdict(alloc, schema, &flat)
 }

@@ -8,13 +8,12 @@ ghost use Rattle.cs_validate.specs.Rooted.{IsRooted};
 ghost use Rattle.cs_validate.specs.Rules.{HasManyPairs};
 ghost use Rattle.cs_validate.specs.Refusal.{IsRefusal};
 
-use crate::ValidateFault;
 use crate::numbering::rooted::numbering_of;
 use crate::rules::Rule;
 use cs_flat::Flat;
 use cs_profile::{SchemaDoc, one_meaning};
 use cs_rules::Rulebook;
-use cs_table::{Verdicts, refill};
+use cs_table::{TableFault, Verdicts, refill};
 use std::alloc::Global;
 use std::marker::Model;
 
@@ -45,12 +44,9 @@ impl<'a> Model for SchemaRules<'a> {
 
 /// The rules of a schema document: its definitions and every schema inside them (JSON Schema Core 2020-12, sections 4.3 and
 /// 7). Only memory can run out.
-pub fn schema_rules<'a>(
-    alloc: Global,
-    schema: &'a SchemaDoc,
-) -> Result<SchemaRules<'a>, ValidateFault>
+pub fn schema_rules<'a>(alloc: Global, schema: &'a SchemaDoc) -> Result<SchemaRules<'a>, TableFault>
     ensures schema { IfOk result (λ r. r ≡ document_of schema.now) }
-    ensures memory { IsOkUnless result ValidateFault.OutOfMemory }
+    ensures memory { IsOkUnless result TableFault.OutOfMemory }
 {
     let (numbering, root) = numbering_of(alloc, schema)?;
     let book = Rulebook::of(alloc, numbering)?;
@@ -79,7 +75,7 @@ impl SchemaRules<'_> {
     /// # Errors
     /// `TooManyPairs` exactly where the values of the document and the schemas make more than 67,108,864 pairs. The next
     /// document can be judged after any error.
-    pub fn verdict(&self, flat: &Flat<'_>, table: &mut Verdicts) -> Result<bool, ValidateFault>
+    pub fn verdict(&self, flat: &Flat<'_>, table: &mut Verdicts) -> Result<bool, TableFault>
         ensures one_meaning { OneMeaning self.now }
         ensures answer { IfOk result (λ b. (V : Document → Document → Bool)
             → IsValidity self.now V → b ≡ V self.now (document_in flat.now)) }

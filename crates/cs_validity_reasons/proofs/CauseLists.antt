@@ -3,7 +3,7 @@ use Rattle.std.proofs.Common.{◌≡◌, ℕ, zero, suc, ◌<◌, ◌≤◌, Lis
 use Rattle.std.proofs.lemmas.List.{append-nil, drop_all}
 use Rattle.cs_validity_reasons.specs.CauseLists.{each_from}
 use Rattle.cs_validate.specs.Steps.{places_from}
-use Rattle.cs_validity_reasons.specs.declared.placed_cause.PlacedCause.{PlacedCause}
+use Rattle.cs_validity_reasons.specs.Led.{PlacedCause}
 
 -- one more in front of the rest
 pub regrouped : (all found new first rest : List PlacedCause) → all ≡ found ++ (first ++ rest) → new ≡ found ++ first → all ≡ new ++ rest

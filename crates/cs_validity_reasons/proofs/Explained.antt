@@ -16,15 +16,14 @@ use Rattle.cs_rules.specs.Answers.{answer}
 use Rattle.cs_table.specs.Judged.{AllVerdicts, IsJudged}
 use Rattle.cs_profile.specs.Profile.{walk_fault}
 use Rattle.cs_profile.specs.Validity.{IsValidity}
-use Rattle.cs_validity_reasons.specs.PlacedCauses.{leads_to, is_alternative, IsPlacedCause}
+use Rattle.cs_validity_reasons.specs.Led.{PlacedCause, leads_to, is_alternative}
+use Rattle.cs_validity_reasons.specs.PlacedCauses.{IsPlacedCause}
 use Rattle.cs_validity_reasons.specs.PlacedTold.{IsNamed, AreReasonsOf}
 use Rattle.cs_validity_reasons.specs.Renamed.{IsUpRenamed, IsLinkRenamed, IsReasonRenamed, AreRenamed}
 use Rattle.cs_validate.specs.Rooted.{IsRooted}
 use Rattle.cs_validate.specs.Steps.{step}
-use Rattle.cs_validity_reasons.specs.WhyTold.{IsToldWhy}
-use Rattle.cs_validity_reasons.specs.declared.cause.ValidCause.{ValidCause}
-use Rattle.cs_validity_reasons.specs.declared.placed_cause.PlacedCause.{PlacedCause}
-use Rattle.cs_validity_reasons.specs.declared.placed_cause.PlacedCause.TheVariants.{NoAlternative}
+use Rattle.cs_validity_reasons.specs.WhyTold.{ValidCause, IsToldWhy}
+use Rattle.cs_validity_reasons.specs.declared.cause.KeyedCause.TheVariants.{NoAlternative}
 use Rattle.cs_validate.specs.declared.rules.Rule.{Rule as Coded}
 use Rattle.cs_validity_reasons.proofs.PlacedNamed.{named, are_named, only_none, alternatives, shown_alternative, follows_all, follows_closest}
 use Rattle.cs_validity_reasons.proofs.PlacedOnce.{placed_distinct}

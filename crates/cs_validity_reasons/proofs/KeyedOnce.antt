@@ -20,7 +20,7 @@ use Rattle.cs_validity_reasons.specs.PlacedCauses.{IsPlacedCause}
 use Rattle.cs_validity_reasons.specs.PlacedTold.{cause_at}
 use Rattle.cs_validate.specs.Steps.{numbered}
 use Rattle.cs_validate.specs.declared.rules.Rule.{Rule as Coded}
-use Rattle.cs_validity_reasons.specs.declared.placed_cause.PlacedCause.TheVariants.{Property}
+use Rattle.cs_validity_reasons.specs.declared.cause.KeyedCause.TheVariants.{Property}
 use Rattle.cs_validity_reasons.proofs.Contained.{place_of, at_place}
 use Rattle.cs_validity_reasons.proofs.PlacedNamed.{named_is}
 

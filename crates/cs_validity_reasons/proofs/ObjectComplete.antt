@@ -31,8 +31,8 @@ use Rattle.cs_validate.specs.Steps.{kind_of, unless_empty, of_count, places_from
 use Rattle.cs_validate.specs.declared.rules.Rule.{Rule as Coded}
 use Rattle.cs_validate.specs.declared.rules.Rule.TheVariants as rule
 use Rattle.cs_validate.specs.declared.rules.Conjunction.{Conjunction}
-use Rattle.cs_validity_reasons.specs.declared.placed_cause.PlacedCause.{PlacedCause}
-use Rattle.cs_validity_reasons.specs.declared.placed_cause.PlacedCause.TheVariants.{Reference, Part, Alternative, Property, Additional, Prefix, Items, Never, Missing, Keyword, NoAlternative}
+use Rattle.cs_validity_reasons.specs.Led.{PlacedCause}
+use Rattle.cs_validity_reasons.specs.declared.cause.KeyedCause.TheVariants.{Reference, Part, Alternative, Property, Additional, Prefix, Items, Never, Missing, Keyword, NoAlternative}
 use Rattle.cs_validity_reasons.proofs.Contained.{at_place, got_map_back, contains_map_back, in_each_back, in_single}
 
 -- ---- lists

@@ -12,8 +12,8 @@ use Rattle.cs_profile.specs.declared.keyword.Keyword.TheVariants as keyword
 use Rattle.cs_profile.specs.declared.schema.Keywords.{Keywords}
 use Rattle.cs_validity_reasons.specs.CauseLists.{unless, all_unless, each_from, any_told, upper_told, lower_told, integer_told, reference_told, part_told, alternative_told, negation_told, here_told, missing_told, front_told, rest_told, value_told, named_told, other_told, fronts_told, rests_told, list_told, all_named_told, others_told, map_told, kind_told, object_told}
 use Rattle.cs_validate.specs.declared.rules.Conjunction.{Conjunction}
-use Rattle.cs_validity_reasons.specs.declared.placed_cause.PlacedCause.{PlacedCause}
-use Rattle.cs_validity_reasons.specs.declared.placed_cause.PlacedCause.TheVariants.{Reference, Part, Alternative, Property, Additional, Prefix, Items, Missing, Keyword}
+use Rattle.cs_validity_reasons.specs.Led.{PlacedCause}
+use Rattle.cs_validity_reasons.specs.declared.cause.KeyedCause.TheVariants.{Reference, Part, Alternative, Property, Additional, Prefix, Items, Missing, Keyword}
 use Rattle.cs_validity_reasons.proofs.Once.{AreOnce, once_both, once_unless, once_each}
 
 -- where the list tells a cause: its piece, and its place there

@@ -23,8 +23,8 @@ use Rattle.cs_validate.specs.Steps.{step, places_from, items_place, prefix_place
 use Rattle.cs_validate.specs.declared.rules.Rule.{Rule as Coded}
 use Rattle.cs_validate.specs.declared.rules.Rule.TheVariants as rule
 use Rattle.cs_validate.specs.declared.rules.Conjunction.{Conjunction}
-use Rattle.cs_validity_reasons.specs.declared.placed_cause.PlacedCause.{PlacedCause}
-use Rattle.cs_validity_reasons.specs.declared.placed_cause.PlacedCause.TheVariants.{Keyword, Part, Alternative}
+use Rattle.cs_validity_reasons.specs.Led.{PlacedCause}
+use Rattle.cs_validity_reasons.specs.declared.cause.KeyedCause.TheVariants.{Keyword, Part, Alternative}
 
 -- what is asked holds where nothing is told
 record Tells (cs : List PlacedCause) (b : Bool) : Type 0 where

@@ -2,7 +2,7 @@
 use Rattle.std.proofs.Common.{◌≡◌, ◌⊎◌, inl, inr, ⊎_elim, ℕ, zero, suc, ◌+◌, ◌≤◌, Bool, true, false, List, [], ◌∷◌, ◌++◌, Some, length, refl, arith}
 use Rattle.std.specs.Prelude.{slice_get}
 use Rattle.cs_validity_reasons.specs.CauseLists.{each_from, unless}
-use Rattle.cs_validity_reasons.specs.declared.placed_cause.PlacedCause.{PlacedCause}
+use Rattle.cs_validity_reasons.specs.Led.{PlacedCause}
 
 abbrev pub AreOnce : List PlacedCause → Type 0
 AreOnce cs = (j k : ℕ) (c : PlacedCause) → slice_get cs j ≡ Some c → slice_get cs k ≡ Some c → j ≡ k

@@ -10,14 +10,14 @@ use Rattle.cs_reasons.specs.Reasons.{IsFollowed}
 use Rattle.cs_validity_reasons.specs.Causes as cause
 use Rattle.cs_validity_reasons.specs.Causes.{IsCause}
 use Rattle.cs_validity_reasons.specs.NumberedCauses.{NumberedCause, IsNumberedCause}
-use Rattle.cs_validity_reasons.specs.PlacedCauses.{leads_to, is_alternative, members_in, required_in, named_in, IsKeyed, StaysAt, IsPlacedCause}
+use Rattle.cs_validity_reasons.specs.Led.{PlacedCause, leads_to, is_alternative}
+use Rattle.cs_validity_reasons.specs.PlacedCauses.{members_in, required_in, named_in, IsKeyed, StaysAt, IsPlacedCause}
 use Rattle.cs_validity_reasons.specs.PlacedTold.{keyed, item_at, rule_at, cause_at}
 use Rattle.cs_validate.specs.Steps.{numbered}
 use Rattle.cs_validity_reasons.specs.Why.{led}
 use Rattle.cs_validate.specs.declared.rules.Rule.{Rule as Coded}
 use Rattle.cs_validate.specs.declared.rules.Rule.TheVariants as rule
-use Rattle.cs_validity_reasons.specs.declared.placed_cause.PlacedCause.{PlacedCause}
-use Rattle.cs_validity_reasons.specs.declared.placed_cause.PlacedCause.TheVariants.{Reference, Part, Alternative, Property, Additional, Prefix, Items, Never, Missing, Keyword, NoAlternative}
+use Rattle.cs_validity_reasons.specs.declared.cause.KeyedCause.TheVariants.{Reference, Part, Alternative, Property, Additional, Prefix, Items, Never, Missing, Keyword, NoAlternative}
 use Rattle.cs_validity_reasons.proofs.Contained.{place_of, got_map, got_map_back}
 use Rattle.cs_validity_reasons.proofs.Parts.{property_declared, missing_required, additional_there}
 use Rattle.cs_validity_reasons.proofs.Tells.{AreNamed, AreFollowed, all_followed, closest_followed}

@@ -24,8 +24,8 @@ use Rattle.cs_validate.specs.Rooted.{IsRooted}
 use Rattle.cs_validate.specs.Steps.{properties_place}
 use Rattle.cs_validate.specs.declared.rules.Rule.{Rule as Coded}
 use Rattle.cs_validate.specs.declared.rules.Rule.TheVariants as rule
-use Rattle.cs_validity_reasons.specs.declared.placed_cause.PlacedCause.{PlacedCause}
-use Rattle.cs_validity_reasons.specs.declared.placed_cause.PlacedCause.TheVariants.{Reference, Part, Alternative, Property, Additional, Prefix, Items, Never, Missing, Keyword, NoAlternative}
+use Rattle.cs_validity_reasons.specs.Led.{PlacedCause}
+use Rattle.cs_validity_reasons.specs.declared.cause.KeyedCause.TheVariants.{Reference, Part, Alternative, Property, Additional, Prefix, Items, Never, Missing, Keyword, NoAlternative}
 use Rattle.cs_validity_reasons.proofs.Contained.{got_map_back}
 use Rattle.cs_validity_reasons.proofs.KeyedOnce.{same_place}
 use Rattle.cs_validity_reasons.proofs.PlacedNamed.{named, named_is}

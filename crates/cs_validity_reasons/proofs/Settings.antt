@@ -20,8 +20,7 @@ use Rattle.cs_validate.specs.Numbering.{schema_at}
 use Rattle.cs_validate.specs.Judging.{IsJudge}
 use Rattle.cs_validity_reasons.specs.NumberedCauses.{NumberedCause}
 use Rattle.cs_validity_reasons.specs.Renamed.{AreRenamed}
-use Rattle.cs_validity_reasons.specs.WhyTold.{IsToldWhy}
-use Rattle.cs_validity_reasons.specs.declared.cause.ValidCause.{ValidCause}
+use Rattle.cs_validity_reasons.specs.WhyTold.{ValidCause, IsToldWhy}
 use Rattle.cs_validate.specs.declared.rules.Rule.{Rule as Coded}
 use Rattle.cs_validate.specs.Steps.{asked_of, numbered, step}
 use Rattle.cs_validate.specs.Rooted.{IsRooted}

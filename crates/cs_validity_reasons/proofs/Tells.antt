@@ -28,8 +28,7 @@ use Rattle.cs_validity_reasons.specs.Causes.{Cause}
 use Rattle.cs_validity_reasons.specs.NumberedCauses.{NumberedCause, IsNumberedCause}
 use Rattle.cs_validity_reasons.specs.Renamed.{IsUpRenamed, IsLinkRenamed, IsReasonRenamed, AreRenamed}
 use Rattle.cs_validity_reasons.specs.Why.{Way, by_alternative, is_by_alternative, way_of, led, steps_of, IsWhyNot, IsWhy, IsTold, itself, none}
-use Rattle.cs_validity_reasons.specs.WhyTold.{cause_of, ways_of, ways_to, numbered_entry, value_of, schema_of, meant, LeadTo, IsToldWhy}
-use Rattle.cs_validity_reasons.specs.declared.cause.ValidCause.{ValidCause}
+use Rattle.cs_validity_reasons.specs.WhyTold.{ValidCause, cause_of, ways_of, ways_to, numbered_entry, value_of, schema_of, meant, LeadTo, IsToldWhy}
 use Rattle.cs_validity_reasons.proofs.Contained.{place_of, at_place, got_map, got_map_back}
 use Rattle.cs_validity_reasons.proofs.Pointed.{refused_at}
 use Rattle.cs_validity_reasons.proofs.Chains.{IsChain, start, more, IsUnderBy, AreLinkedBy, chain_to_link}

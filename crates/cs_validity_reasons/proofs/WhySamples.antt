@@ -11,7 +11,7 @@ use Rattle.cs_profile.specs.Constraint.{Assertion, nothing, valid_by, has_kind, 
 use Rattle.cs_profile.specs.Validity.{IsValidity}
 use Rattle.cs_profile.specs.declared.keyword.Keyword.TheVariants as keyword
 use Rattle.cs_validity_reasons.specs.Causes.{Cause, reference, part, alternative, property, additional, prefix, items, never_valid, no_alternative, missing, by_keyword, IsDenied, of_keyword, of_reference, of_part, of_alternative, of_missing, of_additional, of_items, IsCause, of_never, of_claim}
-use Rattle.cs_validity_reasons.specs.declared.cause.ValidCause.TheVariants as coded
+use Rattle.cs_validity_reasons.specs.declared.cause.KeyedCause.TheVariants as coded
 use Rattle.cs_validity_reasons.specs.WhyTold.{cause_of}
 use Rattle.cs_validity_reasons.specs.Why.{Way, way_of, led, map_cause, step_of, is_by_alternative, IsTold, none, by_reference, by_part, by_alternative, by_property, by_additional, by_prefix, by_items, steps_of, IsWhyNot, IsRefused, whole, next, IsWhy}
 use Rattle.cs_validity_reasons.proofs.Contained.{at_place}

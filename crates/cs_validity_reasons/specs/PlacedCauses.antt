@@ -1,5 +1,5 @@
--- Causes without texts: the pairs that they lead to, and what they are of a value and a rule.
-use Rattle.std.specs.Prelude.{◌≡◌, ℕ, Bool, true, false, List, [], Option, Some, None, map, slice_get, slice_index}
+-- Causes without texts: what they are of a value and a rule.
+use Rattle.std.specs.Prelude.{◌≡◌, ℕ, List, [], Some, map, slice_get, slice_index}
 use Rattle.cs_document.specs.Document.{Entry}
 use Rattle.cs_document.specs.Inside.{map_entry}
 use Rattle.cs_document.specs.Opened.{Opened, an_object}
@@ -13,22 +13,8 @@ use Rattle.cs_validity_reasons.specs.NumberedCauses.{NumberedCause}
 use Rattle.cs_validate.specs.Steps.{numbered, properties_place}
 use Rattle.cs_validate.specs.declared.rules.Rule.{Rule as Coded}
 use Rattle.cs_validate.specs.declared.rules.Rule.TheVariants as rule
-use Rattle.cs_validity_reasons.specs.declared.placed_cause.PlacedCause.{PlacedCause}
-use Rattle.cs_validity_reasons.specs.declared.placed_cause.PlacedCause.TheVariants.{Reference, Part, Alternative, Property, Additional, Prefix, Items, Never, Missing, Keyword, NoAlternative}
-
-abbrev pub leads_to : PlacedCause → Option (ℕ × ℕ)
-leads_to (Reference item rule) = Some (item, rule)
-leads_to (Part item rule place) = Some (item, rule)
-leads_to (Alternative item rule place) = Some (item, rule)
-leads_to (Property place item rule) = Some (item, rule)
-leads_to (Additional place item rule) = Some (item, rule)
-leads_to (Prefix place item rule) = Some (item, rule)
-leads_to (Items place item rule) = Some (item, rule)
-leads_to _ = None
-
-abbrev pub is_alternative : PlacedCause → Bool
-is_alternative (Alternative item rule place) = true
-is_alternative _ = false
+use Rattle.cs_validity_reasons.specs.Led.{PlacedCause}
+use Rattle.cs_validity_reasons.specs.declared.cause.KeyedCause.TheVariants.{Reference, Part, Alternative, Property, Additional, Prefix, Items, Never, Missing, Keyword, NoAlternative}
 
 -- the members of a map; the names that a rule requires, and those that it declares, with the rules of their values
 abbrev pub members_in : Opened ℕ → List (Entry ℕ)

@@ -8,13 +8,12 @@ use Rattle.cs_reasons.specs.declared.reasons.Reasons.{Reasons}
 use Rattle.cs_table.specs.Judged.{AllVerdicts}
 use Rattle.cs_validity_reasons.specs.Causes as cause
 use Rattle.cs_validity_reasons.specs.NumberedCauses.{NumberedCause}
-use Rattle.cs_validity_reasons.specs.PlacedCauses.{leads_to, is_alternative, members_in, required_in, named_in, IsPlacedCause}
-use Rattle.cs_validity_reasons.specs.WhyTold.{cause_of}
+use Rattle.cs_validity_reasons.specs.Led.{PlacedCause, leads_to, is_alternative}
+use Rattle.cs_validity_reasons.specs.PlacedCauses.{members_in, required_in, named_in, IsPlacedCause}
+use Rattle.cs_validity_reasons.specs.WhyTold.{ValidCause, cause_of}
 use Rattle.cs_validate.specs.declared.rules.Rule.{Rule as Coded}
 use Rattle.cs_validate.specs.declared.rules.Rule.TheVariants as rule
-use Rattle.cs_validity_reasons.specs.declared.cause.ValidCause.{ValidCause}
-use Rattle.cs_validity_reasons.specs.declared.placed_cause.PlacedCause.{PlacedCause}
-use Rattle.cs_validity_reasons.specs.declared.placed_cause.PlacedCause.TheVariants.{Reference, Part, Alternative, Property, Additional, Prefix, Items, Never, Missing, Keyword, NoAlternative}
+use Rattle.cs_validity_reasons.specs.declared.cause.KeyedCause.TheVariants.{Reference, Part, Alternative, Property, Additional, Prefix, Items, Never, Missing, Keyword, NoAlternative}
 
 abbrev pub key_in : List (Entry ℕ) → ℕ → List ℕ
 key_in es place = (get_or es place ([], 0)).0

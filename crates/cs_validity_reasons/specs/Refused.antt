@@ -12,13 +12,13 @@ use Rattle.cs_rules.specs.Steps.{AreLower, ArePlaced}
 use Rattle.cs_validate.specs.Numbering.{PartsBelow}
 use Rattle.cs_validate.specs.Steps.{asked_of}
 use Rattle.cs_validity_reasons.specs.NumberedCauses.{NumberedCause, led_from}
-use Rattle.cs_validity_reasons.specs.PlacedCauses.{leads_to, is_alternative, members_in, required_in, named_in, IsKeyed, StaysAt, IsPlacedCause}
+use Rattle.cs_validity_reasons.specs.Led.{PlacedCause, leads_to, is_alternative}
+use Rattle.cs_validity_reasons.specs.PlacedCauses.{members_in, required_in, named_in, IsKeyed, StaysAt, IsPlacedCause}
 use Rattle.cs_validate.specs.Props.{parts_prop}
 use Rattle.cs_validity_reasons.specs.EarlierPairs.{cause_lower, parts_lower}
 use Rattle.cs_validity_reasons.specs.Untold.{rule_of_some, cause_some}
 use Rattle.cs_validate.specs.declared.rules.Rule.{Rule as Coded}
-use Rattle.cs_validity_reasons.specs.declared.placed_cause.PlacedCause.{PlacedCause}
-use Rattle.cs_validity_reasons.specs.declared.placed_cause.PlacedCause.TheVariants.{Reference, Part, Alternative, Property, Additional, Prefix, Items, Never, Missing, Keyword, NoAlternative}
+use Rattle.cs_validity_reasons.specs.declared.cause.KeyedCause.TheVariants.{Reference, Part, Alternative, Property, Additional, Prefix, Items, Never, Missing, Keyword, NoAlternative}
 
 earlier_within : (i j q r n : ℕ) → i < n → IsEarlier j q i r → j < n
 earlier_within i j q r n l e = ⊎_elim (λ (h : j < i). omega (arith, h, l)) (λ (h : (j ≡ i) × (q < r)). omega (arith, h.0, l)) e

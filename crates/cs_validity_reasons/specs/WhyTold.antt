@@ -1,5 +1,6 @@
 -- What is told of why a document isn't valid against a schema document.
 use Rattle.std.specs.Prelude.{◌≡◌, ◌<◌, ℕ, Bool, true, false, not, ◌||◌, List, [], ◌++◌, Some, Contains, length, take, map, slice_get}
+use Rattle.std.specs.Borrow.{Bor}
 use Rattle.std.specs.List.{flat_map, list_any}
 use Rattle.cs_document.specs.Document.{Document}
 use Rattle.cs_document.specs.Opened.{Opened}
@@ -20,10 +21,14 @@ use Rattle.cs_validity_reasons.specs.Causes as cause
 use Rattle.cs_validity_reasons.specs.Causes.{Cause}
 use Rattle.cs_validity_reasons.specs.NumberedCauses.{NumberedCause, IsNumberedCause}
 use Rattle.cs_validity_reasons.specs.Why.{Way, way_of, led, steps_of, is_by_alternative, map_cause, IsWhy, IsTold}
-use Rattle.cs_validity_reasons.specs.declared.cause.ValidCause.{ValidCause}
-use Rattle.cs_validity_reasons.specs.declared.cause.ValidCause.TheVariants.{Reference, Part, Alternative, Property, Additional, Prefix, Items, Never, Missing, Keyword, NoAlternative}
+use Rattle.cs_validity_reasons.specs.declared.cause.KeyedCause.{KeyedCause}
+use Rattle.cs_validity_reasons.specs.declared.cause.KeyedCause.TheVariants.{Reference, Part, Alternative, Property, Additional, Prefix, Items, Never, Missing, Keyword, NoAlternative}
 use Rattle.cs_validity_reasons.specs.declared.explaining.Explanation.{Explanation}
 use Rattle.cs_validity_reasons.specs.declared.explaining.Explanation.TheVariants.{Valid, Invalid, Untold}
+
+-- a cause with its keys
+abbrev pub ValidCause : Type 0
+ValidCause = KeyedCause (Bor (List ℕ))
 
 -- the cause by the numbers of schemas and of values inside
 abbrev pub cause_of : ValidCause → NumberedCause

@@ -3,9 +3,9 @@ use cs_profile::Keyword;
 use cs_reasons::Cause;
 
 /// Why a value isn't valid by a schema: of what the schema's keywords ask, what isn't so. Schemas and values that it leads to
-/// are named by their numbers.
+/// are named by their numbers, and keys by a `K`.
 #[derive(Clone, Copy, Drop)]
-pub enum ValidCause<'a> {
+pub enum KeyedCause<K> {
     /// `$ref`: the definition that it names (JSON Schema Core 2020-12, section 8.2.3.1).
     Reference {
         item: usize,
@@ -25,13 +25,13 @@ pub enum ValidCause<'a> {
     },
     /// `properties`: the value under a declared name (Core, section 10.3.2.1).
     Property {
-        key: &'a str,
+        key: K,
         item: usize,
         rule: usize,
     },
     /// `additionalProperties`: the value under another key (Core, section 10.3.2.3).
     Additional {
-        key: &'a str,
+        key: K,
         item: usize,
         rule: usize,
     },
@@ -51,7 +51,7 @@ pub enum ValidCause<'a> {
     Never,
     /// `required`: the key is missing (Validation 2020-12, section 6.5.3).
     Missing {
-        key: &'a str,
+        key: K,
     },
     /// What a keyword without parts asks of the value, or `not`.
     Keyword(Keyword),
@@ -59,7 +59,14 @@ pub enum ValidCause<'a> {
     NoAlternative,
 }
 
-impl Cause for ValidCause<'_> {
+/// A cause with its keys.
+pub type ValidCause<'a> = KeyedCause<&'a str>;
+
+/// A cause with keys by their places: those of members among the members of the map, and those of required names among these
+/// names.
+pub(crate) type PlacedCause = KeyedCause<usize>;
+
+impl<K: Copy + Drop> Cause for KeyedCause<K> {
     ghost use Rattle.cs_validity_reasons.specs.Led.{leads_to, is_alternative};
 
     ghost leads_to = { leads_to };
@@ -68,21 +75,21 @@ impl Cause for ValidCause<'_> {
 
     fn leads_to(&self) -> Option<(usize, usize)> {
         match self {
-            ValidCause::Reference { item, rule }
-            | ValidCause::Part { item, rule, .. }
-            | ValidCause::Alternative { item, rule, .. }
-            | ValidCause::Property { item, rule, .. }
-            | ValidCause::Additional { item, rule, .. }
-            | ValidCause::Prefix { item, rule, .. }
-            | ValidCause::Items { item, rule, .. } => Some((*item, *rule)),
-            ValidCause::Never
-            | ValidCause::Missing { .. }
-            | ValidCause::Keyword(_)
-            | ValidCause::NoAlternative => None,
+            KeyedCause::Reference { item, rule }
+            | KeyedCause::Part { item, rule, .. }
+            | KeyedCause::Alternative { item, rule, .. }
+            | KeyedCause::Property { item, rule, .. }
+            | KeyedCause::Additional { item, rule, .. }
+            | KeyedCause::Prefix { item, rule, .. }
+            | KeyedCause::Items { item, rule, .. } => Some((*item, *rule)),
+            KeyedCause::Never
+            | KeyedCause::Missing { .. }
+            | KeyedCause::Keyword(_)
+            | KeyedCause::NoAlternative => None,
         }
     }
 
     fn is_alternative(&self) -> bool {
-        matches!(self, ValidCause::Alternative { .. })
+        matches!(self, KeyedCause::Alternative { .. })
     }
 }

@@ -14,11 +14,11 @@ mod lists;
 mod maps;
 pub(crate) mod values;
 
+use crate::cause::PlacedCause;
 use crate::causes::here::here_causes;
 use crate::causes::lists::list_causes;
 use crate::causes::maps::map_causes;
 use crate::causes::values::{any_causes, integer_causes};
-use crate::placed_cause::PlacedCause;
 use cs_flat::{Flat, Item};
 use cs_rules::Known;
 use cs_validate::Conjunction;

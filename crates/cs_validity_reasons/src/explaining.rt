@@ -10,9 +10,9 @@ ghost use Rattle.cs_validate.specs.Refusal.{IsRefusal};
 ghost use Rattle.cs_validity_reasons.specs.WhyTold.{IsExplained, says_valid};
 
 use crate::ValidCause;
+use crate::cause::PlacedCause;
 use crate::graph::ValidGraph;
 use crate::naming::Named;
-use crate::placed_cause::PlacedCause;
 use crate::required::has_many_names;
 use crate::wanting::wanted_of;
 use cs_document::Doc;

@@ -7,16 +7,18 @@ ghost use Rattle.cs_rules.specs.Steps.{AreLower};
 ghost use Rattle.cs_table.specs.Judged.{IsJudged, verdicts};
 ghost use Rattle.cs_validate.specs.Steps.{step};
 
+use crate::cause::PlacedCause;
 use crate::causes::object_causes;
 use crate::causes::values::tell_unless;
 use crate::nearness::keep_near;
-use crate::placed_cause::PlacedCause;
 use cs_flat::Flat;
 use cs_reasons::{Chooses, Explains};
 use cs_rules::{Known, Rulebook};
 use cs_table::Verdicts;
 use cs_validate::Rule;
 use std::alloc::AllocError;
+
+type Told = Result<(), AllocError>;
 
 /// The values of a document and the rules of a schema document, over the table of their verdicts.
 #[derive(Drop)]
@@ -61,12 +63,7 @@ impl Explains for ValidGraph<'_, '_> {
         self.book.numbering.rules.len()
     }
 
-    fn causes(
-        &self,
-        item: usize,
-        rule: usize,
-        found: &mut Vec<PlacedCause>,
-    ) -> Result<(), AllocError> {
+    fn causes(&self, item: usize, rule: usize, found: &mut Vec<PlacedCause>) -> Told {
         let value = self.flat.item(item);
         match &self.book.numbering.rules[rule] {
             Rule::Truth(_) => tell_unless(false, PlacedCause::Never, found),
@@ -84,7 +81,7 @@ impl Explains for ValidGraph<'_, '_> {
 
 impl Chooses for ValidGraph<'_, '_> {
     ghost use Rattle.std.specs.Prelude.{refl};
-    ghost use Rattle.cs_validity_reasons.specs.declared.placed_cause.PlacedCause.TheVariants.{NoAlternative};
+    ghost use Rattle.cs_validity_reasons.specs.declared.cause.KeyedCause.TheVariants.{NoAlternative};
     ghost use Rattle.cs_validity_reasons.specs.Refused.{no_other};
 
     ghost none = { λ _. NoAlternative };
@@ -97,12 +94,7 @@ impl Chooses for ValidGraph<'_, '_> {
         PlacedCause::NoAlternative
     }
 
-    fn keep_near(
-        &self,
-        item: usize,
-        rule: usize,
-        alternatives: &mut Vec<PlacedCause>,
-    ) -> Result<(), AllocError> {
+    fn keep_near(&self, item: usize, rule: usize, alternatives: &mut Vec<PlacedCause>) -> Told {
         keep_near(self, item, alternatives)
     }
 

@@ -9,10 +9,9 @@ mod graph;
 mod laws;
 mod naming;
 mod nearness;
-mod placed_cause;
 mod required;
 mod wanting;
 
-pub use cause::ValidCause;
+pub use cause::{KeyedCause, ValidCause};
 pub use explaining::{Explanation, Want, Wanted, explain_validity, wanted_by};
 pub use laws::reasons_hold;

@@ -10,7 +10,7 @@ ghost use Rattle.cs_validity_reasons.specs.PlacedTold.{key_in, item_at, rule_at,
 ghost use Rattle.cs_validity_reasons.specs.Renamed.{IsUpRenamed, IsLinkRenamed, IsReasonRenamed, AreRenamed};
 
 use crate::ValidCause;
-use crate::placed_cause::PlacedCause;
+use crate::cause::PlacedCause;
 use cs_flat::{Flat, Item};
 use cs_reasons::{Link, Reason, Reasons, Up};
 use cs_rules::Rulebook;
@@ -129,16 +129,16 @@ impl<'a> Named<'a, '_> {
                 item,
                 rule,
             },
-            PlacedCause::Additional { place, item, rule } => ValidCause::Additional {
-                key: self.key(pair.0, place),
+            PlacedCause::Additional { key, item, rule } => ValidCause::Additional {
+                key: self.key(pair.0, key),
                 item,
                 rule,
             },
             PlacedCause::Prefix { place, item, rule } => ValidCause::Prefix { place, item, rule },
             PlacedCause::Items { place, item, rule } => ValidCause::Items { place, item, rule },
             PlacedCause::Never => ValidCause::Never,
-            PlacedCause::Missing { place } => ValidCause::Missing {
-                key: self.required(pair.1, place),
+            PlacedCause::Missing { key } => ValidCause::Missing {
+                key: self.required(pair.1, key),
             },
             PlacedCause::Keyword(keyword) => ValidCause::Keyword(keyword),
             PlacedCause::NoAlternative => ValidCause::NoAlternative,

@@ -1,18 +1,18 @@
 // Which alternatives are close to what a value was meant to be: those that take its kind, and of these, for a map, those whose
 // tag it has. What is chosen is no claim.
-ghost use Rattle.std.specs.Prelude.{Contains, OnOk};
-ghost use Rattle.cs_validity_reasons.specs.declared.placed_cause.PlacedCause.{PlacedCause};
+ghost use Rattle.std.specs.Prelude.{ℕ, Contains, OnOk};
+ghost use Rattle.cs_validity_reasons.specs.declared.cause.KeyedCause.{KeyedCause};
 
 pub(crate) mod constants;
 pub(crate) mod leaves;
 pub(crate) mod tags;
 
 use crate::book::Book;
+use crate::cause::PlacedCause;
 use crate::graph::ValidGraph;
 use crate::nearness::constants::constants_of;
 use crate::nearness::leaves::{Leaf, all_leaves};
 use crate::nearness::tags::{Tag, find_tag};
-use crate::placed_cause::PlacedCause;
 use cs_flat::Flat;
 use cs_reasons::Cause;
 use cs_rules::RulebookJudge;
@@ -127,7 +127,7 @@ pub(crate) fn keep_near(
     item: usize,
     alternatives: &mut Vec<PlacedCause>,
 ) -> Result<(), AllocError>
-    ensures { OnOk result ((c : PlacedCause) → Contains alternatives.new.items c
+    ensures { OnOk result ((c : KeyedCause ℕ) → Contains alternatives.new.items c
         → Contains alternatives.old.items c) }
 {
     let alloc = *alternatives.allocator();

@@ -1,7 +1,7 @@
 -- Which documents are sampled.
 use Rattle.std.specs.Prelude.{Bool, true, false}
-use Rattle.cs_variants.specs.declared.sampled.Sampled.{Sampled}
-use Rattle.cs_variants.specs.declared.sampled.Sampled.TheVariants.{Valid, Invalid}
+use Rattle.cs_variants.specs.declared.places.Sampled.{Sampled}
+use Rattle.cs_variants.specs.declared.places.Sampled.TheVariants.{Valid, Invalid}
 
 -- whether a sample is an instance
 abbrev pub is_valid : Sampled → Bool

@@ -1,6 +1,5 @@
 // Copies of expressions, in which something may be put at a place.
-use crate::places::Change;
-use crate::sampled::Sampled;
+use crate::places::{Change, Sampled};
 use cs_package::{FieldMark, Inside, Literal, Part, Shape, ShapeEnd, Simple};
 use std::alloc::{AllocError, Global};
 
@@ -136,7 +135,8 @@ impl Copying {
     fn copy_struct(&self, parts: &[Part], opened: bool, way: Way<'_>) -> Result<Shape, AllocError> {
         let mut copied = Vec::with_capacity(self.alloc, parts.len())?;
         let mut every = None;
-        if self.is_least && !opened && is_same(way) && !has_required(parts) {
+        let is_same = matches!(way, None | Some(([], Change::Same)));
+        if self.is_least && !opened && is_same && !has_required(parts) {
             return self.struct_of(copied, opened, every);
         }
         for (i, part) in parts.iter().enumerate() {
@@ -227,11 +227,6 @@ fn shape_of(alloc: Global, simple: Simple<'_>) -> Result<Shape, AllocError> {
     }
 }
 
-/// Whether nothing is put at the end of a way, or behind it.
-fn is_same(way: Way<'_>) -> bool {
-    matches!(way, None | Some(([], Change::Same)))
-}
-
 /// Whether this is `[string]: T`.
 pub(crate) fn is_every(part: &Part) -> bool {
     matches!(part.mark, FieldMark::Every { .. })
@@ -246,17 +241,16 @@ fn has_required(parts: &[Part]) -> bool {
 fn further_part(alloc: Global, parts: &[Part], value: Shape) -> Result<Part, AllocError> {
     let mut label = String::from_str(alloc, "key")?;
     for _ in 0..parts.len() {
-        if !has_label(parts, label.as_str()) {
+        if !parts
+            .iter()
+            .any(|part| part.label.as_str() == label.as_str())
+        {
             break;
         }
         label.push_str("_")?;
     }
     let mark = FieldMark::Regular;
     Ok(Part { label, mark, value })
-}
-
-fn has_label(parts: &[Part], label: &str) -> bool {
-    parts.iter().any(|part| part.label.as_str() == label)
 }
 
 /// The declaration with another mark and value.

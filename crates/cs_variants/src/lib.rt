@@ -2,16 +2,10 @@
 #![tactic(auto)]
 
 mod copies;
-mod ends;
-mod names;
 mod places;
-mod sampled;
-mod turns;
 mod variants;
 mod walks;
-mod whole;
 
-pub use places::{Change, Place, Reached};
-pub use sampled::Sampled;
+pub use places::{Change, Place, Reached, Sampled};
 pub use variants::Where;
 pub use walks::{Walk, walk_of};

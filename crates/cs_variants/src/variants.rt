@@ -1,12 +1,17 @@
-// Packages in which something is put at a place.
+// Packages in which something is put at a place, and the names of copies.
+ghost use Rattle.std.specs.Prelude.{◌≡◌, IfOk, OnOk, string_bytes, ◌≤◌, IsTrue, length};
+ghost use Rattle.std.specs.List.{AllByRecursion};
+ghost use Rattle.cs_package.specs.Environment.{IsDefinitionName, written};
+ghost use Rattle.cs_package.specs.View.{IsTable};
+ghost use Rattle.cs_variants.specs.Sound.{IsSound, IsSoundPart, IsSoundEnd};
+
 use crate::copies::{Copying, Way};
-use crate::names::names_of;
 use crate::places::{Change, Place};
 use crate::walks::Walk;
-use crate::whole::whole;
 use cs_guard::{GuardFault, Guarded, guard};
-use cs_package::Shape;
-use std::alloc::AllocError;
+use cs_package::{Inside, NameTable, Package, Part, Shape, ShapeEnd, package_of};
+use indexmap::IndexMap;
+use std::alloc::{AllocError, Global};
 
 /// Where a change is made: at one reference to the definition of its place, or at all of them.
 #[derive(Clone, Copy)]
@@ -142,5 +147,139 @@ impl<'w, 'a> Draft<'w, 'a> {
             return Ok(Vec::new(self.walk.alloc));
         }
         self.copying.copy_shapes(package.bodies(definition), way)
+    }
+}
+
+/// The names of these definitions of a package: a further copy of a definition has a name of its own.
+fn names_of(
+    alloc: Global,
+    package: &Package,
+    definitions: &[usize],
+) -> Result<NameTable, AllocError>
+    ensures { IfOk result (λ t. IsTable t.entries) }
+{
+    let mut names = IndexMap::new(alloc);
+    for definition in definitions {
+        if *definition < package.count() {
+            let name = fresh_name(alloc, &names, package.bare_name(*definition))?;
+            put_name(alloc, &mut names, name)?;
+        }
+    }
+    Ok(names)
+}
+
+/// Puts a name among these.
+fn put_name(alloc: Global, names: &mut NameTable, name: String) -> Result<(), AllocError>
+    requires table { IsTable names.old.entries }
+    requires spelled { IsDefinitionName (string_bytes name) }
+    ensures { OnOk result (IsTable names.new.entries) }
+{
+    let written = written_name(alloc, &name)?;
+    drop(names.insert(name, written)?);
+    Ok(())
+}
+
+/// A name as it is written, with `#`.
+fn written_name(alloc: Global, name: &String) -> Result<String, AllocError>
+    ensures { IfOk result (λ w. string_bytes w ≡ written (string_bytes name.now)) }
+{
+    let mut written = String::from_str(alloc, "#")?;
+    written.push_str(name.as_str())?;
+    Ok(written)
+}
+
+/// A name with as many `_` behind it as make it a new one.
+fn fresh_name(alloc: Global, names: &NameTable, name: &str) -> Result<String, AllocError>
+    requires { IsDefinitionName name.now }
+    ensures { IfOk result (λ s. IsDefinitionName (string_bytes s)) }
+{
+    let mut fresh = String::from_str(alloc, name)?;
+    for _ in 0..names.len() {
+        if !names.contains_key(fresh.as_str()) {
+            break;
+        }
+        fresh.push_str("_")?;
+    }
+    Ok(fresh)
+}
+
+/// The package of these names and bodies, where they are as many, each reference is to one of them, and each `&` and `|` has two
+/// operands or more. This is looked at here, instead of being said of each change.
+fn whole(names: NameTable, bodies: Vec<Vec<Shape>>) -> Option<Package>
+    requires { IsTable names.entries }
+{
+    let count = names.len();
+    if count == bodies.len() && are_all_sound(count, &bodies) {
+        Some(package_of(names, bodies))
+    } else {
+        None
+    }
+}
+
+fn are_all_sound(count: usize, bodies: &[Vec<Shape>]) -> bool
+    ensures { IsTrue result → AllByRecursion (λ v. AllByRecursion (IsSound count) v.items) bodies.now }
+{
+    for shapes in bodies {
+        if !are_sound(count, shapes) {
+            return false;
+        }
+    }
+    true
+}
+
+#[cycle(sound)]
+fn are_sound(count: usize, shapes: &[Shape]) -> bool
+    ensures { IsTrue result → AllByRecursion (IsSound count) shapes.now }
+{
+    for shape in shapes {
+        if !is_sound(count, shape) {
+            return false;
+        }
+    }
+    true
+}
+
+#[cycle(sound)]
+fn is_sound(count: usize, shape: &Shape) -> bool
+    ensures { IsTrue result → IsSound count shape.now }
+{
+    match shape.inside() {
+        Inside::Simple(_) => true,
+        Inside::Definition(number) => number < count,
+        Inside::And(operands) => are_operands(count, operands),
+        Inside::Or(operands) => are_operands(count, operands),
+        Inside::Struct { parts, .. } => are_sound_parts(count, parts),
+        Inside::List { front, end } => are_sound(count, front) && is_sound_end(count, end),
+    }
+}
+
+#[cycle(sound)]
+fn are_sound_parts(count: usize, parts: &[Part]) -> bool
+    ensures { IsTrue result → AllByRecursion (IsSoundPart count) parts.now }
+{
+    for part in parts {
+        if !is_sound(count, &part.value) {
+            return false;
+        }
+    }
+    true
+}
+
+/// Whether there are two or more, and each is sound.
+#[cycle(sound)]
+fn are_operands(count: usize, operands: &[Shape]) -> bool
+    ensures two { IsTrue result → 2 ≤ length operands.now }
+    ensures sound { IsTrue result → AllByRecursion (IsSound count) operands.now }
+{
+    operands.len() >= 2 && are_sound(count, operands)
+}
+
+#[cycle(sound)]
+fn is_sound_end(count: usize, end: &ShapeEnd) -> bool
+    ensures { IsTrue result → IsSoundEnd count end.now }
+{
+    match end {
+        ShapeEnd::Closed | ShapeEnd::Any => true,
+        ShapeEnd::Each(shape) => is_sound(count, shape),
     }
 }

@@ -1,13 +1,12 @@
 // What a struct literal declares of a map's members, and the keys that it allows.
-ghost use Rattle.std.specs.Prelude.{◌≡◌, ◌++◌, ◌<◌, false, map, slice_index, OnOk};
+ghost use Rattle.std.specs.Prelude.{◌≡◌, ◌++◌, ◌<◌, map, slice_index, OnOk};
 ghost use Rattle.cs_document.specs.Inside.{KeysAscend};
 ghost use Rattle.cs_document.specs.Opened.{an_object};
 ghost use Rattle.cs_flat.specs.View.{entry_of};
-ghost use Rattle.cs_package.specs.Expression.{is_every};
-ghost use Rattle.cs_package.specs.View.{mark_of};
 ghost use Rattle.cs_table.specs.Judged.{verdicts};
 ghost use Rattle.cs_rules.specs.Knowns.{verdict_here, value_count, place_count};
-ghost use Rattle.cs_instance_reasons.specs.CauseLists.{value_causes, key_causes, declaration_cause, declaration_causes, map_causes};
+ghost use Rattle.cs_instance_reasons.specs.CauseLists.{unless, value_causes, key_causes, declaration_cause, declaration_causes, map_causes};
+ghost use Rattle.cs_instance_reasons.specs.declared.cause.InstanceCause.TheVariants.{Member};
 ghost use Rattle.cs_instance.specs.Steps.{field_of, numbered_field, numbered_fields, ValuesBelow, PlacesBelow};
 
 use crate::InstanceCause;
@@ -60,7 +59,8 @@ fn tell_declarations(
     Ok(())
 }
 
-/// Only `[string]` looks at every member.
+/// Tells of each member that a declaration is for and whose value it refuses, and of its label if that is missing. Only
+/// `[string]` looks at every member.
 fn tell_declaration(
     declaration: usize,
     field: &Field<'_>,
@@ -78,9 +78,21 @@ fn tell_declaration(
         (numbered_field known.now.children.now field.now)) }
 {
     if is_for_every_key(field.mark) {
-        tell_every(declaration, field.value, members, known, number, found)
-    } else {
-        tell_labelled(declaration, field, members, known, number, found)
+        return tell_every(declaration, field.value, members, known, number, found);
+    }
+    match members.binary_search_by_key(&field.label, |entry| entry.0) {
+        Ok(member) => {
+            let item = members[member].1;
+            tell_member(declaration, member, item, field.value, known, found)
+        }
+        Err(_) if may_be_absent(field.mark) => Ok(()),
+        Err(_) => {
+            found.push(InstanceCause::Missing {
+                declaration,
+                rule: number,
+            })?;
+            Ok(())
+        }
     }
 }
 
@@ -99,62 +111,37 @@ fn tell_every(
         (verdicts known.now.done.now) known.now.item number
         declaration (slice_index known.now.children.now part) (map entry_of members.now)) }
 {
-    let rule = known.children[part];
     for (member, (_key, value)) in members.iter().enumerate() {
-        let item = *value;
-        if !known.inside(item, part) {
-            found.push(InstanceCause::Member {
-                declaration,
-                member,
-                item,
-                rule,
-            })?;
-        }
+        tell_member(declaration, member, *value, part, known, found)?;
     }
     Ok(())
 }
 
-/// Tells of the member under a declaration's label if the declaration refuses its value, or that it is missing.
-fn tell_labelled(
+/// Tells of a member if the rule at a place refuses its value, which is the item.
+fn tell_member(
     declaration: usize,
-    field: &Field<'_>,
-    members: &[(&str, usize)],
+    member: usize,
+    item: usize,
+    part: usize,
     known: &Known<'_>,
-    number: usize,
     found: &mut Vec<InstanceCause>,
 ) -> Result<(), AllocError>
-    requires ascends { KeysAscend (map entry_of members.now) }
-    requires members { ValuesBelow (value_count known.now) (map entry_of members.now) }
-    requires field { (field_of field.now).value < place_count known.now }
-    requires label { is_every (mark_of field.now.mark) ≡ false }
-    ensures { OnOk result (found.new.items ≡ found.old.items ++ declaration_cause (verdict_here known.now)
-        (verdicts known.now.done.now) known.now.item number
-        (map entry_of members.now) declaration
-        (numbered_field known.now.children.now field.now)) }
+    requires item { item < value_count known.now }
+    requires part { part < place_count known.now }
+    ensures { OnOk result (found.new.items ≡ found.old.items
+        ++ unless (verdicts known.now.done.now item (slice_index known.now.children.now part))
+        (Member declaration member item (slice_index known.now.children.now part))) }
 {
-    match members.binary_search_by_key(&field.label, |entry| entry.0) {
-        Ok(member) => {
-            let item = members[member].1;
-            if !known.inside(item, field.value) {
-                found.push(InstanceCause::Member {
-                    declaration,
-                    member,
-                    item,
-                    rule: known.children[field.value],
-                })?;
-            }
-            Ok(())
-        }
-        Err(_) => {
-            if !may_be_absent(field.mark) {
-                found.push(InstanceCause::Missing {
-                    declaration,
-                    rule: number,
-                })?;
-            }
-            Ok(())
-        }
+    if known.inside(item, part) {
+        return Ok(());
     }
+    found.push(InstanceCause::Member {
+        declaration,
+        member,
+        item,
+        rule: known.children[part],
+    })?;
+    Ok(())
 }
 
 /// Tells of each key that no declaration allows.

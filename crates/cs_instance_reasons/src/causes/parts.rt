@@ -3,7 +3,7 @@ ghost use Rattle.std.specs.Prelude.{◌≡◌, ◌++◌, ◌<◌, OnOk};
 ghost use Rattle.std.specs.List.{AllByRecursion};
 ghost use Rattle.cs_table.specs.Judged.{verdicts};
 ghost use Rattle.cs_rules.specs.Knowns.{verdict_here, rule_count};
-ghost use Rattle.cs_instance_reasons.specs.CauseLists.{part_causes, refused_alternatives, alternative_causes};
+ghost use Rattle.cs_instance_reasons.specs.CauseLists.{part_causes, alternative_causes};
 
 use crate::InstanceCause;
 use cs_rules::Known;
@@ -48,22 +48,6 @@ pub(super) fn tell_alternatives(
         found.push(InstanceCause::NoAlternative)?;
         return Ok(());
     }
-    tell_refused(alternatives, known, number, found)
-}
-
-/// Tells of each alternative that refuses the value.
-fn tell_refused(
-    alternatives: &[usize],
-    known: &Known<'_>,
-    number: usize,
-    found: &mut Vec<InstanceCause>,
-) -> Result<(), AllocError>
-    requires { AllByRecursion (λ q. q < rule_count known.now) alternatives.now }
-    ensures { OnOk result (found.new.items ≡ found.old.items
-        ++ refused_alternatives (verdict_here known.now)
-        (verdicts known.now.done.now) known.now.item number
-        alternatives.now) }
-{
     for (place, alternative) in alternatives.iter().enumerate() {
         let (item, rule) = (known.item, *alternative);
         let admits = known.here(rule);

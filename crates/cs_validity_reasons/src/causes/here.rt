@@ -5,8 +5,8 @@ ghost use Rattle.cs_validity_reasons.specs.CauseLists.{each_from, reference_told
 ghost use Rattle.cs_rules.specs.Knowns.{rule_count};
 ghost use Rattle.cs_validate.specs.Asked.{AreBelow, AreBelowHere, ReferenceBelow};
 
+use crate::cause::PlacedCause;
 use crate::causes::values::tell_unless;
-use crate::placed_cause::PlacedCause;
 use cs_profile::Keyword;
 use cs_rules::Known;
 use cs_validate::Conjunction;

@@ -6,8 +6,8 @@ ghost use Rattle.cs_rules.specs.Knowns.{value_count, place_count};
 ghost use Rattle.cs_validate.specs.Asked.{AreBelow, AreBelowInside};
 ghost use Rattle.cs_validate.specs.Steps.{places_from};
 
+use crate::cause::PlacedCause;
 use crate::causes::values::tell_unless;
-use crate::placed_cause::PlacedCause;
 use cs_profile::{Keyword, Schema};
 use cs_rules::Known;
 use cs_validate::{Conjunction, behind, length_holds};

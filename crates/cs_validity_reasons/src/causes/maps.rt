@@ -9,8 +9,8 @@ ghost use Rattle.cs_flat.specs.View.{entry_of};
 ghost use Rattle.cs_rules.specs.Knowns.{value_count, place_count};
 ghost use Rattle.cs_validate.specs.Asked.{EntriesBelow, AreBelowInside, places_named};
 
+use crate::cause::PlacedCause;
 use crate::causes::values::tell_unless;
-use crate::placed_cause::PlacedCause;
 use cs_flat::next_under;
 use cs_profile::Schema;
 use cs_rules::Known;
@@ -30,7 +30,7 @@ fn missing_causes(
     let mut next = 0;
     for (place, name) in required.iter().enumerate() {
         let value = next_under(members, name, &mut next);
-        tell_unless(value.is_some(), PlacedCause::Missing { place }, found)?;
+        tell_unless(value.is_some(), PlacedCause::Missing { key: place }, found)?;
     }
     Ok(())
 }
@@ -50,7 +50,11 @@ fn property_cause(
     match value {
         Some(item) => {
             let rule = known.children[part];
-            let cause = PlacedCause::Property { place, item, rule };
+            let cause = PlacedCause::Property {
+                key: place,
+                item,
+                rule,
+            };
             tell_unless(known.inside(item, part), cause, found)
         }
         None => Ok(()),
@@ -98,7 +102,11 @@ fn additional_causes(
     let rule = known.children[part];
     for (place, member) in members.iter().enumerate() {
         let item = member.1;
-        let cause = PlacedCause::Additional { place, item, rule };
+        let cause = PlacedCause::Additional {
+            key: place,
+            item,
+            rule,
+        };
         tell_unless(other_holds(properties, member, part, known), cause, found)?;
     }
     Ok(())

@@ -6,7 +6,7 @@ ghost use Rattle.cs_flat.specs.View.{item_view};
 ghost use Rattle.cs_profile.specs.Validity.{if_there};
 ghost use Rattle.cs_validity_reasons.specs.CauseLists.{unless, any_told, upper_told, lower_told, integer_told};
 
-use crate::placed_cause::PlacedCause;
+use crate::cause::PlacedCause;
 use cs_flat::{Flat, Item};
 use cs_profile::{Keyword, Keywords};
 use cs_validate::{Conjunction, has_kind, is_equal, is_listed};

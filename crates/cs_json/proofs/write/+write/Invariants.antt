@@ -9,15 +9,15 @@ use Rattle.cs_json.proofs.write.+write.Given as goal
 
 -- what is written, with what is left, is the whole
 abbrev pub invariant-write_items-loop-item : goal.invariant-write_items-loop-item
-invariant-write_items-loop-item l = record {
-  before : l.out.before ≡ l.initial.out.before;
-  whole : l.out.tokens ++ items_tokens (items_outline (items_of (list_view (drop l.item-index l.item-items)))) ≡ l.initial.out.tokens ++ items_tokens (items_outline (items_of (list_view l.item-items)));
+invariant-write_items-loop-item g l = record {
+  before : g.W.TakesTokens.before l.out ≡ g.W.TakesTokens.before l.initial.out;
+  whole : g.W.TakesTokens.taken l.out ++ items_tokens (items_outline (items_of (list_view (drop l.item-index l.item-items)))) ≡ g.W.TakesTokens.taken l.initial.out ++ items_tokens (items_outline (items_of (list_view l.item-items)));
   profile : AreDocuments (list_view (drop l.item-index l.item-items)) → AreDocuments (list_view l.item-items);
 }
 
 abbrev pub invariant-write_members-loop-key : goal.invariant-write_members-loop-key
-invariant-write_members-loop-key l = record {
-  before : l.out.before ≡ l.initial.out.before;
-  whole : l.out.tokens ++ members_tokens (members_outline (values_of (object_view l.key-iterator))) ≡ l.initial.out.tokens ++ members_tokens (members_outline (values_of (object_view l.members.entries)));
+invariant-write_members-loop-key g l = record {
+  before : g.W.TakesTokens.before l.out ≡ g.W.TakesTokens.before l.initial.out;
+  whole : g.W.TakesTokens.taken l.out ++ members_tokens (members_outline (values_of (object_view l.key-iterator))) ≡ g.W.TakesTokens.taken l.initial.out ++ members_tokens (members_outline (values_of (object_view l.members.entries)));
   fit : ValuesFit l.key-iterator → ValuesFit l.members.entries;
 }

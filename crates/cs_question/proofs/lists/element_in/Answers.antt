@@ -8,4 +8,4 @@ pub returns-in-Some : goal.returns-in-Some
 returns-in-Some c = sym (element_got c.args.front.now (end_of c.args.end) c.args.place c.in-Some.rule.now (item_some c.args.front.now c.args.place c.in-Some.rule c.in-Some.ensures.lookup))
 
 pub returns-in-None : goal.returns-in-None
-returns-in-None c = c.behind.ensures ∙ sym (element_past c.args.front.now (end_of c.args.end) c.args.place (item_none c.args.front.now c.args.place c.in-None.ensures.lookup))
+returns-in-None c = sym (element_past c.args.front.now (end_of c.args.end) c.args.place (item_none c.args.front.now c.args.place c.in-None.ensures.lookup))

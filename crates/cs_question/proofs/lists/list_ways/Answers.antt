@@ -17,7 +17,7 @@ loop-place-preserved c = λ J ys i y l got f.
       | inr k ↦
           let same : i ≡ p = omega (arith, l, k) in
           e.all J ys i y (omega (arith, k)) (λ _. same) got
-          (subst (λ x. fits (λ z q. J c.args.literal.side q z) x y ≡ false) (sym c.element_in.ensures) (subst (λ j. fits (λ z q. J c.args.literal.side q z) (element_at c.args.front.now (end_of c.args.end) j) y ≡ false) same f))
+          (subst (λ x. fits (λ z q. J c.args.literal.side q z) x y ≡ false) (sym c.element_in-element.ensures) (subst (λ j. fits (λ z q. J c.args.literal.side q z) (element_at c.args.front.now (end_of c.args.end) j) y ≡ false) same f))
     ]
 
 pub returns : goal.returns
@@ -28,5 +28,5 @@ returns c = λ J ys l h.
     let e = c.in_ok-add_way-2.ensures in
     elim (cases_lt r.0 c.args.count) [
       | inl k ↦ e.kept J (spread_list c.args.count ys) (c.loop-place.invariant J ys r.0 r.1 (let t = c.loop-place-test.false in omega (arith, k, t)) r.2 r.3)
-      | inr k ↦ e.all J ys r.0 r.1 k (λ l. absurd (omega (arith, l))) r.2 (subst (λ x. fits inside x r.1 ≡ false) (behind_is c.args.front.now (end_of c.args.end) r.0 (omega (arith, front, k)) ∙ sym c.behind.ensures) r.3)
+      | inr k ↦ e.all J ys r.0 r.1 k (λ l. absurd (omega (arith, l))) r.2 (subst (λ x. fits inside x r.1 ≡ false) (behind_is c.args.front.now (end_of c.args.end) r.0 (omega (arith, front, k))) r.3)
     ]

@@ -21,5 +21,5 @@ returns-in_default-clause-none c = λ e I n x i named d sep.
     no_instance E r.all root.numbering.rules.items root.numbering.children.items r.numbering I i ns asked none first name root.number r.root c.new.ensures.items c.in_ok-asked.ensures x d
     (ap (λ k. I (definition k) x) (same_name E c.args.root.now name n c.in_ok-numbering.ensures.named named) ∙ sep.0.0)
 
-pub returns-then-branch-clause-one : goal.returns-then-branch-clause-one
-returns-then-branch-clause-one c = λ I n i named. ((c.in_ok-is_judged.ensures.judged c.if-branch.true I n i named, tt), tt)
+pub returns-clause-one : goal.returns-clause-one
+returns-clause-one c = λ I n i named. ((c.in_ok-judged.ensures.judged I n i named, tt), tt)

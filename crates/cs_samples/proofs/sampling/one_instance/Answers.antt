@@ -9,7 +9,7 @@ use Rattle.cs_json.specs.Shown.{IsShown}
 use Rattle.cs_question.specs.ReadAgain.{IsReadAgain}
 use Rattle.cs_question.specs.Separates.{Separates}
 use Rattle.cs_samples.specs.Sample.{AreSamples, same_text}
-use Rattle.cs_variants.specs.declared.sampled.Sampled.TheVariants.{Valid}
+use Rattle.cs_variants.specs.declared.places.Sampled.TheVariants.{Valid}
 use Rattle.cs_samples.proofs.Kept.{distinct-none, distinct-one}
 use Rattle.cs_samples.proofs.sampling.one_instance.Goals as goal
 

@@ -14,5 +14,4 @@ invariant-loop-member l =
     let tell = λ (m : ℕ) (e : Entry ℕ). unless (verdicts l.known.done.now e.1 q) (Member l.declaration m e.1 q) in record {
       same : l.found.items ++ told_from tell l.member (map entry_of (drop l.member l.members)) ≡ l.fn.found.items ++ told_from tell 0 (map entry_of l.members);
       below : ValuesBelow (value_count l.known) (map entry_of (drop l.member l.members));
-      rule : l.rule ≡ q;
     }

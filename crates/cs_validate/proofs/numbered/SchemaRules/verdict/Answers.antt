@@ -9,7 +9,6 @@ use Rattle.cs_profile.specs.SchemaDocument.{document_of}
 use Rattle.cs_profile.specs.Validity.{IsValidity}
 use Rattle.cs_rules.specs.declared.book.Numbering.{Numbering}
 use Rattle.cs_validate.specs.Rules.{HasManyPairs}
-use Rattle.cs_validate.specs.Faults.{fault_of}
 use Rattle.cs_validate.specs.Refusal.{IsRefusal}
 use Rattle.cs_validate.proofs.Verdicts.{judge_over, is_table, few_pairs, refused}
 use Rattle.cs_validate.proofs.numbered.SchemaRules.verdict.Goals as goal
@@ -55,4 +54,4 @@ returns-in_err-refill-clause-refused c =
     let judge = judge_over R c.args.flat.now _ s.root _ _ _ _ c.over.ensures.flat (ap (λ (u : Numbering _ _). u.rules.items) c.over.ensures.book) (ap (λ (u : Numbering _ _). u.children.items) c.over.ensures.book) c.self.invariant in
     let r = refused R c.args.flat.now s.root _ _ _ judge c.len-last.ensures.items c.len-last.ensures.whole in
     let p = err_from_is_err_and c.from_residual.result c.from_residual.ensures.1 in
-    rw (p.1, p.2) (subst (λ (D : Document). IsRefusal (fault_of c.in_err-refill.field-0.0) D (document_in c.args.flat.now)) c.self.view_is (r c.in_err-refill.field-0.0 c.in_err-refill.ensures.refused))
+    rw (p.1, p.2) (subst (λ (D : Document). IsRefusal c.in_err-refill.field-0.0 D (document_in c.args.flat.now)) c.self.view_is (r c.in_err-refill.field-0.0 c.in_err-refill.ensures.refused))

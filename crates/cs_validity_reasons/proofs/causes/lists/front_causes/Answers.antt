@@ -4,7 +4,7 @@ use Rattle.cs_rules.specs.Knowns.{value_count, place_count}
 use Rattle.cs_table.specs.Judged.{verdicts}
 use Rattle.cs_validity_reasons.specs.CauseLists.{each_from, unless, front_told}
 use Rattle.cs_validate.specs.Steps.{places_from}
-use Rattle.cs_validity_reasons.specs.declared.placed_cause.PlacedCause.TheVariants.{Prefix}
+use Rattle.cs_validity_reasons.specs.declared.cause.KeyedCause.TheVariants.{Prefix}
 use Rattle.cs_validate.proofs.Asked.{places_next}
 use Rattle.cs_validity_reasons.proofs.CauseLists.{regrouped, places_split}
 use Rattle.cs_validity_reasons.proofs.causes.lists.front_causes.Goals as goal

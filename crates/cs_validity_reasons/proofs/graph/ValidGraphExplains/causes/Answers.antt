@@ -16,7 +16,7 @@ use Rattle.cs_validate.specs.Numbering.{PartsBelow}
 use Rattle.cs_validity_reasons.specs.PlacedCauses.{IsPlacedCause}
 use Rattle.cs_validate.specs.Props.{parts_prop, parts_weaker}
 use Rattle.cs_validate.specs.Steps.{asked_of}
-use Rattle.cs_validity_reasons.specs.declared.placed_cause.PlacedCause.TheVariants.{Never}
+use Rattle.cs_validity_reasons.specs.declared.cause.KeyedCause.TheVariants.{Never}
 use Rattle.cs_validate.proofs.Asked.{below_here, below_inside}
 use Rattle.cs_validity_reasons.proofs.ToldCauses.{told_causes}
 use Rattle.cs_validity_reasons.proofs.graph.ValidGraphExplains.causes.Goals as goal

@@ -4,7 +4,7 @@ use Rattle.std.proofs.lemmas.List.{take_all}
 use Rattle.cs_reasons.specs.declared.reasons.Link.{Link}
 use Rattle.cs_validity_reasons.specs.PlacedTold.{IsNamed}
 use Rattle.cs_validity_reasons.specs.Renamed.{IsLinkRenamed}
-use Rattle.cs_validity_reasons.specs.declared.placed_cause.PlacedCause.{PlacedCause}
+use Rattle.cs_validity_reasons.specs.Led.{PlacedCause}
 use Rattle.cs_validity_reasons.proofs.Tells.{zip_more}
 use Rattle.cs_validity_reasons.proofs.naming.Named.links.Goals as goal
 

@@ -4,8 +4,8 @@ use Rattle.std.proofs.lemmas.List.{take_all}
 use Rattle.cs_reasons.specs.declared.reasons.Reason.{Reason}
 use Rattle.cs_validity_reasons.specs.PlacedTold.{IsNamed}
 use Rattle.cs_validity_reasons.specs.Renamed.{IsReasonRenamed}
-use Rattle.cs_validity_reasons.specs.declared.placed_cause.PlacedCause.{PlacedCause}
-use Rattle.cs_validity_reasons.specs.declared.placed_cause.PlacedCause.TheVariants.{Reference}
+use Rattle.cs_validity_reasons.specs.Led.{PlacedCause}
+use Rattle.cs_validity_reasons.specs.declared.cause.KeyedCause.TheVariants.{Reference}
 use Rattle.cs_validity_reasons.proofs.Tells.{zip_more}
 use Rattle.cs_validity_reasons.proofs.naming.Named.told.Goals as goal
 
