@@ -1,22 +1,27 @@
 // What is said of a form at its place, with the names that the source has there.
-use crate::bases::put_not_opened;
-use crate::labels::{field_without, labels_inside, text_between};
-use crate::names::{put_field_reference, put_unknown};
-use crate::text::{put_around, put_filled, put_tokens};
-use cs_forms::{Form, Found, said_of_form, said_of_shown};
+use crate::told::{put_around, put_filled, put_tokens};
+use cs_forms::{Form, Found, kind_meant, said_of_form, said_of_shown};
 use cs_grammar::{Sort, Token};
-use cs_sources::{Near, Source, end_of, follows_label, separates};
-use cs_text::{Written, put_all};
-use std::alloc::AllocError;
+use cs_place::position_of;
+use cs_sources::Separator::{Amp, Comma};
+use cs_sources::{Declared, MOST_AROUND, Made, Near, end_of, ends_value, follows_label, separates};
+use cs_text::{Written, few_edits, put_all};
+use itoa::Buffer;
+use std::alloc::Global;
+use std::iter::successors;
 
-/// How many bytes of the other fields are shown.
+/// How many bytes of the other fields are shown, and of a value.
 const MOST_SHOWN: usize = 60;
-/// How many labels are named.
+
+const MOST_OF_VALUE: usize = 80;
+/// How many definitions, labels or keys are named.
 const MOST_NAMED: usize = 3;
+/// How many operands are looked at on each side.
+const MOST_OPERANDS: usize = 16;
 
 /// Puts what is said of a form that was found in a source, which is one of these: what it is, and what to write instead, with the
 /// names that the sources have there. Only memory can run out.
-pub fn put_advice(text: &mut String, sources: &[Source<'_>], found: Found<'_, '_>) -> Written {
+pub fn put_advice(text: &mut String, declared: &Declared<'_, '_>, found: Found<'_, '_>) -> Written {
     let Found { near, shown, .. } = found;
     let said = said_of_form(found.form);
     match found.form {
@@ -36,9 +41,8 @@ pub fn put_advice(text: &mut String, sources: &[Source<'_>], found: Found<'_, '_
             put_labels(text, remedy, near)
         }
         Form::FieldReference => put_field_reference(text, said, near),
-        Form::NotOpened => put_not_opened(text, said, sources, near, false),
-        Form::Joined => put_not_opened(text, said, sources, near, true),
-        Form::UnknownName | Form::UnknownDefinition => put_unknown(text, shown, said, sources),
+        Form::NotOpened | Form::Joined => put_not_opened(text, declared, found),
+        Form::UnknownName | Form::UnknownDefinition => put_unknown(text, declared, found),
         Form::ExcludedDefault => put_filled(text, said, &[shown; 3]),
         Form::StrayCharacter => text.push_str(said_of_shown(found.form, shown)),
         form => put_around(text, said, shown, said_of_shown(form, shown)),
@@ -53,6 +57,28 @@ fn put_default(text: &mut String, said: &str, mark: Near<'_, '_>) -> Written {
         Some((label, before, behind)) => put_filled(text, more, &[label, before, behind]),
         None => text.push_str("; take it out"),
     }
+}
+
+/// The label of the field that a mark is in the value of, and what of the value is before the mark and behind it: nothing and `..` where they
+/// are long or have several lines. None where no field can be left out there.
+fn field_without<'a>(mark: Near<'_, 'a>) -> Option<(&'a str, &'a str, &'a str)> {
+    let (source, here, colon) = (mark.source, mark.here(), mark.colon()?);
+    let name = source.token(source.label_before(colon.place)?);
+    let is_field = ends_value(name) && !matches!(name.sort, Sort::Mark | Sort::Definition);
+    // Behind a `!` a default is never filled in: documents have to have the field.
+    if !is_field || colon.before(1).text == "!" {
+        return None;
+    }
+    let before = source.text(end_of(colon.here()), here.start);
+    let behind = source.text(end_of(here), mark.part().end());
+    let is_long = before.len().saturating_add(behind.len()) > MOST_OF_VALUE;
+    if is_long || before.contains('\n') || behind.contains('\n') {
+        return Some((name.text, "", ".."));
+    }
+    Some(match before.trim_ascii_start() {
+        "" => (name.text, "", behind.trim_ascii_start()),
+        before => (name.text, before, behind),
+    })
 }
 
 /// Puts what is said of a form, and behind it more, where a token is a name, which that names.
@@ -97,7 +123,7 @@ fn other_fields<'a>(near: Near<'_, 'a>) -> Option<&'a str> {
         return None;
     }
     let closing = bracket.closing()?.here();
-    let fields = text_between(near.source, end_of(next), closing.start).trim_ascii();
+    let fields = near.source.text(end_of(next), closing.start).trim_ascii();
     let fields = fields.strip_suffix(",").unwrap_or(fields);
     let is_few = !fields.is_empty() && fields.len() <= MOST_SHOWN;
     let is_shown = is_few && !fields.contains('\n') && !fields.ends_with("...");
@@ -111,11 +137,8 @@ fn is_taken(near: Near<'_, '_>) -> bool {
         return false;
     };
     let mut has_definition = false;
-    let mut next = Some(near);
-    for _ in embedded.from..embedded.to {
-        let Some(token) = next.filter(|token| token.place < embedded.to) else {
-            break;
-        };
+    let tokens = successors(Some(near), |token| token.next()).take(embedded.to);
+    for token in tokens.take_while(|token| token.place < embedded.to) {
         let here = token.here();
         match here.text.as_bytes() {
             [b'{' | b'(' | b'&'] => {}
@@ -123,17 +146,12 @@ fn is_taken(near: Near<'_, '_>) -> bool {
             _ if here.sort == Sort::Definition && !has_definition => has_definition = true,
             _ => return false,
         }
-        next = token.next();
     }
     true
 }
 
 /// Puts what something is that a struct embeds, or that the wide profile takes it, and gives what is said of it behind that.
-fn put_embedded<'w>(
-    text: &mut String,
-    said: &'w str,
-    near: Near<'_, '_>,
-) -> Result<&'w str, AllocError> {
+fn put_embedded<'w>(text: &mut String, said: &'w str, near: Near<'_, '_>) -> Made<&'w str> {
     let (front, remedy) = said.split_once(": ").unwrap_or(("", said));
     if is_taken(near) {
         text.push_str("`--profile wide` takes embeddings; without it ")?;
@@ -154,4 +172,264 @@ fn put_labels(text: &mut String, remedy: &str, near: Near<'_, '_>) -> Written {
         put_tokens(&mut named, "", &labels, " and ")?;
     }
     put_filled(text, remedy, &[named.as_str()])
+}
+
+/// The labels of the struct that a bracket opens, in their order; one that it has twice is there twice. None without a bracket.
+fn labels_inside<'s, 'a>(alloc: Global, bracket: Option<Near<'s, 'a>>) -> Made<Vec<Near<'s, 'a>>> {
+    let Some(held) = bracket.and_then(|bracket| bracket.held()) else {
+        return Ok(Vec::new(alloc));
+    };
+    // A label is one token here.
+    (0..=held.count(Comma))
+        .filter_map(|place| held.part(Comma, place)?.first())
+        .filter(|label| follows_label(label.behind(1)))
+        .collect(alloc)
+}
+
+/// Puts that a name names a field, which is said first, and where that is.
+fn put_field_reference(text: &mut String, said: &str, near: Near<'_, '_>) -> Written {
+    let name = near.here().text;
+    if near.here().sort == Sort::Definition {
+        // It stands for what it is put together from, which is at fault.
+        return put_filled(text, "a name in `{}` is a field there", &[name]);
+    }
+    put_filled(text, said, &[name])?;
+    if let Some(label) = field_named(*text.allocator(), near)? {
+        let source = near.source;
+        let line = position_of(source.named.text, label.here().start).line;
+        put_filled(text, " (line {})", &[Buffer::new().format(line)])?;
+    }
+    text.push_str(if is_kind(name) {
+        ", which hides this kind: put its label in double quotes"
+    } else {
+        ": give its value a definition and name it in both"
+    })
+}
+
+/// The label of the same text as a name that it names, in a struct around it.
+fn field_named<'s, 'a>(alloc: Global, near: Near<'s, 'a>) -> Made<Option<Near<'s, 'a>>> {
+    let name = near.here().text;
+    let around = successors(near.bracket(), |inner| inner.bracket()).take(MOST_AROUND);
+    for bracket in around.filter(|bracket| bracket.here().text == "{") {
+        let labels = labels_inside(alloc, Some(bracket))?;
+        if let Some(label) = labels.iter().find(|label| label.here().text == name) {
+            return Ok(Some(*label));
+        }
+    }
+    Ok(None)
+}
+
+/// Whether a name is that of a kind of the profile.
+fn is_kind(name: &str) -> bool {
+    [
+        "int", "number", "string", "bool", "uint", "uint8", "int8", "uint16", "int16", "uint32",
+        "int32", "int64",
+    ]
+    .contains(&name)
+}
+
+/// Puts that a name isn't declared, and what may have been meant by it; what is said of it where nothing is near.
+fn put_unknown(text: &mut String, declared: &Declared<'_, '_>, found: Found<'_, '_>) -> Written {
+    let name = found.shown;
+    // It stands for what it is put together from, which is at fault.
+    if declared.of(name).is_some() {
+        return put_filled(text, "a name in `{}` isn't declared", &[name]);
+    }
+    match nearest(declared, name)?.or(kind_meant(name)) {
+        Some(meant) => {
+            let said = "`{}` isn't declared; did you mean `{}`?";
+            put_filled(text, said, &[name, meant])
+        }
+        None => put_filled(text, said_of_form(found.form), &[name]),
+    }
+}
+
+/// The declared name that is the fewest edits away from another one, `#` aside, if any is near: few are those which are few for names
+/// of that length.
+pub(crate) fn nearest<'a>(declared: &Declared<'_, 'a>, name: &str) -> Made<Option<&'a str>> {
+    let mut best = None;
+    let mut fewest = (bare(name).len() / 3).saturating_add(1);
+    for declaration in &declared.firsts {
+        let other = declaration.here().text;
+        let edits = few_edits(declared.alloc(), bare(name), bare(other))?;
+        if let Some(edits) = edits.filter(|edits| *edits < fewest) {
+            fewest = edits;
+            best = Some(other);
+        }
+    }
+    Ok(best)
+}
+
+/// A name without its `#`.
+fn bare(name: &str) -> &str {
+    name.strip_prefix('#').unwrap_or(name)
+}
+
+/// Puts what to do where a struct literal has to end with `...`, or that the wide profile puts it together with others.
+fn put_not_opened(text: &mut String, declared: &Declared<'_, '_>, found: Found<'_, '_>) -> Written {
+    let is_joined = matches!(found.form, Form::Joined);
+    let repeated = repeated_at(declared, found.near)?;
+    if repeated.times > 1 {
+        return put_repeated(text, &repeated, is_joined);
+    }
+    let bases = bases_of(declared.alloc(), found.near)?;
+    let (false, [base, others @ ..]) = (is_joined, bases.as_slice()) else {
+        return text.push_str(said_of_form(found.form));
+    };
+    text.push_str("this struct adds keys: end it")?;
+    if bases.iter().all(|base| is_opened(declared, *base)) {
+        text.push_str(" with `...` too, or write ")?;
+    } else {
+        let front = if others.is_empty() { " and " } else { ", " };
+        put_tokens(text, front, &bases, " and ")?;
+        text.push_str(" with `...`; or write ")?;
+    }
+    if others.is_empty() {
+        put_filled(text, "`{}`'s fields here", &[base.here().text])
+    } else {
+        text.push_str("their fields here")
+    }
+}
+
+/// Whether a definition is one struct literal that ends with `...`, where it is declared first.
+fn is_opened(declared: &Declared<'_, '_>, base: Near<'_, '_>) -> bool {
+    let first = declared.of(base.here().text);
+    let literal = first.and_then(|label| literal_of(label));
+    // A comma may be behind the `...`.
+    literal.is_some_and(|(_, closing)| closing.before(1).text == "..."
+        || closing.before(2).text == "...")
+}
+
+/// The definitions that the struct at a token is joined with, in the innermost conjunction that has any: those before it, of which the nearest
+/// comes first, and those behind it.
+fn bases_of<'s, 'a>(alloc: Global, near: Near<'s, 'a>) -> Made<Vec<Near<'s, 'a>>> {
+    let mut bases: Vec<Near<'s, 'a>> = Vec::new(alloc);
+    let around = successors(Some(near), |inner| inner.bracket()).take(MOST_AROUND);
+    for inner in around {
+        let Some(operands) = inner.conjunction() else {
+            continue;
+        };
+        let own = operands.between(operands.from, inner.place).count(Amp);
+        let before = (0..own).rev().take(MOST_OPERANDS);
+        let behind = (own..=operands.count(Amp)).skip(1).take(MOST_OPERANDS);
+        for place in before.chain(behind) {
+            let operand = operands.part(Amp, place);
+            let Some(base) = operand.and_then(|operand| operand.first()) else {
+                continue;
+            };
+            let token = base.here();
+            let is_old = bases.iter().any(|old| old.here().text == token.text);
+            if token.sort == Sort::Definition && !is_old && bases.len() < MOST_NAMED {
+                bases.push(base)?;
+            }
+        }
+        if !bases.is_empty() {
+            break;
+        }
+    }
+    Ok(bases)
+}
+
+/// A label of a struct or a definition, which may be declared several times.
+#[derive(Drop)]
+struct Repeated<'s, 'a> {
+    name: &'a str,
+    times: usize,
+    /// Its labels in the struct; none of a definition.
+    labels: Vec<Near<'s, 'a>>,
+}
+
+/// The label that a token is the whole value of, or the front of that; without one it is declared nowhere.
+fn repeated_at<'s, 'a>(declared: &Declared<'_, '_>, near: Near<'s, 'a>) -> Made<Repeated<'s, 'a>> {
+    let source = near.source;
+    let colon = near.place.checked_sub(1);
+    let colon = colon.filter(|colon| source.token(*colon).text == ":");
+    let label = colon.and_then(|colon| source.label_before(colon));
+    let name = label.map_or("", |label| source.token(label).text);
+    let mut labels = labels_inside(declared.alloc(), near.bracket())?;
+    labels.retain(|label| label.here().text == name);
+    // Outside of all brackets it is a definition.
+    let times = match near.bracket() {
+        Some(_) => labels.len(),
+        None => declared.named(name).len(),
+    };
+    Ok(Repeated {
+        name,
+        times,
+        labels,
+    })
+}
+
+/// Puts that a label or a definition is declared several times, or that the wide profile puts it together, and what to write instead: one, or the
+/// struct of the keys behind the labels, where each has one and they are few.
+fn put_repeated(text: &mut String, repeated: &Repeated<'_, '_>, is_joined: bool) -> Written {
+    let Repeated { name, labels, .. } = repeated;
+    let is_definition = labels.is_empty();
+    let (often, all) = match repeated.times {
+        2 => ("twice", "both"),
+        _ => ("several times", "all"),
+    };
+    if is_joined {
+        let parts = if is_definition { "bodies" } else { "values" };
+        let said = "`--profile wide` puts {} {} of `{}` together; without it ";
+        put_filled(text, said, &[all, parts, *name])?;
+    } else {
+        put_filled(text, "`{}` is declared {}: ", &[*name, often])?;
+    }
+    if is_definition {
+        let bodies = if is_joined { "them" } else { "its bodies" };
+        let said = "join {} to one, or end each of their structs with `...`";
+        return put_filled(text, said, &[bodies]);
+    }
+    put_filled(text, "join to `{}{}: {", &[*name, mark_of(labels)])?;
+    if labels.len() > MOST_NAMED || !labels.iter().all(|label| is_short(*label)) {
+        return text.push_str("..}`");
+    }
+    let mut front = "";
+    for label in labels {
+        let mark = label.behind(3).text.trim_matches(':');
+        put_filled(text, "{}{}{}: ..", &[front, label.behind(2).text, mark])?;
+        front = ", ";
+    }
+    text.push_str("}`")
+}
+
+/// The mark of labels that become one: `?` where all have it, or else that of the first one which has another or none.
+fn mark_of<'a>(labels: &[Near<'_, 'a>]) -> &'a str {
+    let mut marks = labels.iter().map(|label| label.behind(1).text);
+    let other = marks.find(|mark| *mark != "?");
+    other.map_or("?", |mark| mark.trim_matches(':'))
+}
+
+/// Whether another label follows a label and its colon.
+fn is_short(label: Near<'_, '_>) -> bool {
+    label.behind(1).text == ":" && follows_label(label.behind(3))
+}
+
+/// The label of the field whose value is a reference, where a definition is one struct literal that has it; an optional field is
+/// none.
+pub(crate) fn field_with<'a>(
+    alloc: Global,
+    definition: Near<'_, 'a>,
+    reference: &str,
+) -> Made<Option<&'a str>> {
+    let literal = literal_of(definition).filter(|(_, closing)| separates(closing.behind(1)));
+    let labels = labels_inside(alloc, literal.map(|(opening, _)| opening))?;
+    let label = labels.iter().find(|label| label.behind(2).text == reference
+        && is_whole_value(**label));
+    Ok(label.map(|label| label.here().text))
+}
+
+/// The brackets that open and close the struct literal at the front of a definition.
+fn literal_of<'s, 'a>(definition: Near<'s, 'a>) -> Option<(Near<'s, 'a>, Near<'s, 'a>)> {
+    let opening = definition.moved(2)?;
+    let closing = opening.closing()?;
+    (opening.here().text == "{").then_some((opening, closing))
+}
+
+/// Whether the value of a label is one token, and the field has to be there.
+fn is_whole_value(label: Near<'_, '_>) -> bool {
+    let is_field = matches!(label.here().sort, Sort::Name | Sort::Text);
+    let next = label.behind(3);
+    is_field && label.behind(1).text == ":" && (separates(next) || next.text == "}")
 }

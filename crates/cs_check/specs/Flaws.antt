@@ -6,7 +6,6 @@ use Rattle.cs_document.specs.Document.{Document}
 use Rattle.cs_document.specs.declared.fault.DocFault.TheVariants as doc
 use Rattle.cs_json.specs.Refusal as unread
 use Rattle.cs_json.specs.Texts.{Reads}
-use Rattle.cs_profile.specs.Profile.{IsSchema}
 use Rattle.cs_profile.specs.Refusal.{IsRefusal}
 use Rattle.cs_profile.specs.declared.fault.SchemaFault.TheVariants as fault
 use Rattle.cs_check.specs.declared.schema.Flaw.{Flaw}
@@ -23,10 +22,6 @@ is_same (flaw.Loop ns) (flaw.Loop ms) = pointwise string_eq ns.items ms.items
 is_same _ _ = false
 
 -- ---- for private contracts alone
-
--- the text is read as a schema of the profile
-abbrev pub IsSchemaText : List ℕ → Type 0
-IsSchemaText text = (d : Document) × Reads text d × IsSchema d
 
 -- the flaw is the first one of a document
 abbrev pub IsFlawOf : Document → Flaw → Type 0

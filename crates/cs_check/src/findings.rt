@@ -6,14 +6,13 @@ ghost use Rattle.cs_tool.specs.CallRefusals.{IsSchemaText};
 ghost use Rattle.cs_tool.specs.Given.{bytes_in};
 ghost use Rattle.cs_widen.specs.Schemas.{SchemaMeans};
 
-use crate::joined::{is_put_together, wide_faults};
+use crate::MOST_FAULTS;
 use crate::schema::check_schema;
 use crate::sources::{check, check_wide};
-use crate::warnings::{put_warning, warned};
+use crate::warnings::warning_lines;
 use cs_fault_words::{About, Profile, put_finding};
-use cs_guard::Guarded;
 use cs_place::Named;
-use cs_sources::{declared_in, sources_of};
+use cs_sources::sources_of;
 use cs_tool::{Fault, accepted_package};
 use cs_widen::{schema_stands_for_in, stands_for};
 use std::alloc::Global;
@@ -102,7 +101,12 @@ fn package_findings<'a>(
         let about = known(Profile::Default, named, root);
         return faulty(alloc, &[Fault::UnknownRoot], about);
     }
-    unfaulty(alloc, &package, named)
+    let lines = warning_lines(alloc, &package, named)?;
+    let mut checked = Checked::Well;
+    if !lines.is_empty() {
+        checked = Checked::Warned;
+    }
+    Ok(Findings { checked, lines })
 }
 
 /// What is found in a schema: a line for each fault, 50 at most.
@@ -148,22 +152,9 @@ fn findings_of(alloc: Global, shown: Named<'_>, text: &[u8]) -> Result<Findings,
         let (checked, lines) = (Checked::Well, String::new(alloc));
         return Ok(Findings { checked, lines });
     }
-    faulty(alloc, &faults, known_of_schema(shown))
-}
-
-/// What is known of a check of a schema.
-fn known_of_schema<'a>(schema: Named<'a>) -> About<'a> {
-    About {
-        sources: &[],
-        root: "",
-        profile: Profile::Default,
-        is_joined: false,
-        schema: Some(schema),
-        document: None,
-        path: None,
-        cause: "",
-        sizes: &[],
-    }
+    let schema = Some(shown);
+    let about = known(Profile::Default, &[], None);
+    faulty(alloc, &faults, About { schema, ..about })
 }
 
 /// What is known of a check of sources in a profile, and the root that was asked for.
@@ -189,26 +180,39 @@ fn faulty(alloc: Global, faults: &[Fault], about: About<'_>) -> Result<Findings,
     let sources = sources_of(alloc, about.profile, about.sources)?;
     let wide = wide_faults(alloc, about, faults)?;
     for fault in faults {
-        let is_joined = is_put_together(&wide, fault);
+        let is_joined = wide.as_ref().is_some_and(|wide| !are_at(wide, fault));
         put_finding(&mut lines, fault, About { is_joined, ..about }, &sources)?;
     }
     let checked = Checked::Faulty;
     Ok(Findings { checked, lines })
 }
 
-/// What is found where there are no faults.
-fn unfaulty(alloc: Global, package: &Guarded, named: &[Named<'_>]) -> Result<Findings, Fault>
-    ensures { IfOk result (λ f. ¬ (f.checked ≡ Checked.Faulty)) }
-{
-    let warnings = warned(alloc, package)?;
-    let (mut checked, mut lines) = (Checked::Well, String::new(alloc));
-    if !warnings.is_empty() {
-        let sources = sources_of(alloc, Profile::Wide, named)?;
-        let declared = declared_in(alloc, &sources)?;
-        for warning in &warnings {
-            put_warning(package, warning, &declared, &mut lines)?;
-        }
-        checked = Checked::Warned;
+/// The faults in the wide profile of sources with these faults in a profile, where something has to be opened in the default one: the wide one puts
+/// that together unless it has a fault there. None where they tell nothing of that: what is put together is at fault itself, or there may be more.
+fn wide_faults(
+    alloc: Global,
+    about: About<'_>,
+    faults: &[Fault],
+) -> Result<Option<Vec<Fault>>, Fault> {
+    let must_open = |fault: &Fault| matches!(fault, Fault::NotOpened { .. });
+    if about.profile == Profile::Wide || !faults.iter().any(must_open) {
+        return Ok(None);
     }
-    Ok(Findings { checked, lines })
+    let texts = about.sources.iter().map(|source| source.text);
+    let texts: Vec<&[u8]> = texts.collect(alloc)?;
+    let wide = check_wide(alloc, &texts)?;
+    // One that is none of what is put together: not one of its names, and not that it is too large or too high.
+    let is_apart = |fault: &Fault| match fault {
+        Fault::FieldReference { .. } => are_at(faults, fault),
+        Fault::TooLarge { .. } | Fault::TooHigh { .. } => false,
+        _ => true,
+    };
+    let are_known = wide.len() < MOST_FAULTS && wide.iter().all(is_apart);
+    Ok(are_known.then_some(wide))
+}
+
+/// Whether one of these faults is at the place of the sources that another one is at.
+fn are_at(faults: &[Fault], fault: &Fault) -> bool {
+    let is_there = |other: &Fault| other.file() == fault.file() && other.offset() == fault.offset();
+    faults.iter().any(is_there)
 }

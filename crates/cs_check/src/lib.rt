@@ -3,7 +3,8 @@
 #![tactic(auto)]
 
 mod findings;
-mod joined;
+mod mends;
+mod operands;
 mod schema;
 mod sources;
 mod warnings;

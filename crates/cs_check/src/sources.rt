@@ -1,17 +1,20 @@
-// The faults of sources: the first one as they are, and then those that mending one after another meets.
+// The faults of sources: the first one as they are, and then those that mending one after another meets, by reading the sources again.
 ghost use Rattle.std.specs.Prelude.{◌≡◌, ◌≤◌, ◌↔◌, [], length, IfOk, IsOkUnless};
 ghost use Rattle.cs_tool.specs.Given.{bytes_in};
 ghost use Rattle.cs_check.specs.Told.{AreAccepted, AreWideAccepted, BeginsWithFirst, BeginsWithWideFirst, BeginsWith};
 
-mod draft;
-mod mends;
-mod reading;
-
 use crate::MOST_FAULTS;
-use crate::sources::reading::further_faults;
-use cs_tool::{Fault, accepted_package};
+use crate::mends::{Draft, mend_at, mended_embedding, mended_value};
+use cs_place::Named;
+use cs_sources::Source;
+use cs_tool::{Fault, accepted_package, slices_of};
 use cs_widen::{Profile, stands_for};
 use std::alloc::{AllocError, Global};
+use std::collections::BTreeSet;
+use std::slice;
+
+/// How often sources are read at most.
+const MOST_READS: usize = 2 * MOST_FAULTS;
 
 /// The faults of sources, 50 at most. The first one is what the sources fail first, and each further one is what they fail first once
 /// those before it are mended, by their offsets in the sources as they are; these are in the order of the sources and of their places.
@@ -28,12 +31,7 @@ pub fn check(alloc: Global, sources: &[&[u8]]) -> Result<Vec<Fault>, Fault>
 {
     match accepted_package(alloc, sources) {
         Ok(_) => Ok(Vec::new(alloc)),
-        Err(first) => {
-            if first.number() == Fault::OutOfMemory.number() {
-                return Err(Fault::OutOfMemory);
-            }
-            Ok(faults_from(alloc, Profile::Default, sources, first)?)
-        }
+        Err(first) => Ok(faults_from(alloc, Profile::Default, sources, first)?),
     }
 }
 
@@ -47,27 +45,240 @@ pub fn check_wide(alloc: Global, sources: &[&[u8]]) -> Result<Vec<Fault>, Fault>
 {
     match stands_for(alloc, sources) {
         Ok(_) => Ok(Vec::new(alloc)),
-        Err(first) => {
-            if first.number() == Fault::OutOfMemory.number() {
-                return Err(Fault::OutOfMemory);
-            }
-            Ok(faults_from(alloc, Profile::Wide, sources, first)?)
-        }
+        Err(first) => Ok(faults_from(alloc, Profile::Wide, sources, first)?),
     }
 }
 
-/// The first fault in a profile and those behind it.
+/// The first fault in a profile and those behind it; an error where it is that memory ran out.
 fn faults_from(
     alloc: Global,
     profile: Profile,
     sources: &[&[u8]],
     first: Fault,
-) -> Result<Vec<Fault>, AllocError>
-    ensures begins { IfOk result (λ faults. BeginsWith first faults.items) }
+) -> Result<Vec<Fault>, Fault>
+    ensures begins { IfOk result (λ faults. BeginsWith first faults.items × ¬ (first ≡ Fault.OutOfMemory)) }
     ensures most { IfOk result (λ faults. length faults.items ≤ 50) }
+    ensures memory { IsOkUnless result Fault.OutOfMemory }
 {
-    let mut faults = further_faults(alloc, profile, sources, &first)?;
+    if first.number() == Fault::OutOfMemory.number() {
+        return Err(Fault::OutOfMemory);
+    }
+    let told = Told {
+        alloc,
+        profile,
+        first: &first,
+        rest: Vec::new(alloc),
+        taken: BTreeSet::new(alloc),
+        is_loose: false,
+    };
+    let mut faults = told.further_faults(sources)?;
     faults.truncate(MOST_FAULTS - 1);
     faults.insert(0, first)?;
     Ok(faults)
+}
+
+/// The first fault in a profile, and those behind it as far as they are told.
+#[derive(Drop)]
+struct Told<'f, 'a> {
+    alloc: Global,
+    profile: Profile,
+    first: &'f Fault,
+    rest: Vec<Fault>,
+    /// The words that mends took out until the sources were files.
+    taken: BTreeSet<&'a str>,
+    /// Whether an embedding was taken out, so that it isn't known which structs are joined.
+    is_loose: bool,
+}
+
+/// Whether a fault is one of a text that spells no file. These are 3 to 7.
+fn is_of_text(fault: &Fault) -> bool {
+    matches!(fault.number(), 3..=7)
+}
+
+/// The fault at another place; one that has none stays as it is.
+fn at_place(fault: Fault, file: usize, offset: usize) -> Fault {
+    match fault {
+        Fault::NoToken { .. } => Fault::NoToken { file, offset },
+        Fault::Syntax { .. } => Fault::Syntax { file, offset },
+        Fault::LeftOut { .. } => Fault::LeftOut { file, offset },
+        Fault::IntegerRange { .. } => Fault::IntegerRange { file, offset },
+        Fault::TooHigh { .. } => Fault::TooHigh { file },
+        Fault::UnknownName { .. } => Fault::UnknownName { file, offset },
+        Fault::FieldReference { .. } => Fault::FieldReference { file, offset },
+        Fault::NotOpened { .. } => Fault::NotOpened { file, offset },
+        other => other,
+    }
+}
+
+/// The source of a fault, and its offset there. One that has none comes behind those that have one.
+fn place_of(fault: &Fault) -> (usize, usize) {
+    let file = fault.file().unwrap_or(usize::MAX);
+    (file, fault.offset().unwrap_or(usize::MAX))
+}
+
+impl<'f, 'a> Told<'f, 'a> {
+    /// A draft of each source, without mends.
+    fn drafts(&self, sources: &[&'a [u8]]) -> Result<Vec<Draft<'a>>, AllocError> {
+        let (name, line) = ("", 1);
+        let mut drafts = Vec::with_capacity(self.alloc, sources.len())?;
+        for (file, text) in sources.iter().enumerate() {
+            let named = Named { name, text, line };
+            let source = Source::new(self.alloc, self.profile, named, file)?;
+            let mends = Vec::new(self.alloc);
+            drafts.push(Draft { source, mends })?;
+        }
+        Ok(drafts)
+    }
+
+    /// The faults behind the first one, in the order of their places: those of texts, one text after another, and then those of the package, where
+    /// each text spells a file with its faults mended. Where words were taken out of the sources, names alone are told of it, but for these words.
+    /// There are none where what the first one is about isn't a place that can be mended.
+    fn further_faults(mut self, sources: &[&'a [u8]]) -> Result<Vec<Fault>, AllocError> {
+        let first = self.first;
+        if !matches!(first.number(), 3..=7 | 9..=12) {
+            return Ok(self.rest);
+        }
+        let mut drafts = self.drafts(sources)?;
+        let mut goes_on = true;
+        if is_of_text(first) {
+            for draft in drafts.iter_mut() {
+                goes_on = self.tell_text(draft)? && goes_on;
+                draft.put_taken(&mut self.taken)?;
+            }
+        } else {
+            goes_on = self.mend(&mut drafts, first)?;
+        }
+        for _ in 0..MOST_READS {
+            goes_on = goes_on && self.tell_next(&mut drafts)?;
+        }
+        let mut rest = self.rest;
+        rest.sort_by_key(place_of)?;
+        Ok(rest)
+    }
+
+    /// The first fault of drafts as they are mended; none where they spell a package, or where no more faults are told.
+    fn next_fault(&self, drafts: &[Draft<'_>]) -> Result<Option<Fault>, AllocError> {
+        if self.rest.len() >= MOST_FAULTS - 1 {
+            return Ok(None);
+        }
+        let texts = drafts.iter().map(|draft| draft.mended(self.alloc));
+        let texts: Vec<Vec<u8>> = texts.try_collect(self.alloc)?;
+        let sources = slices_of(self.alloc, &texts)?;
+        let refused = match self.profile {
+            Profile::Default => accepted_package(self.alloc, &sources).err(),
+            Profile::Wide => stands_for(self.alloc, &sources).err(),
+        };
+        match refused {
+            Some(Fault::OutOfMemory) => Err(AllocError),
+            fault => Ok(fault),
+        }
+    }
+
+    /// Tells a fault, and says whether it is new.
+    fn tell(&mut self, fault: Fault) -> Result<bool, AllocError> {
+        // Cycles are told by their names, and none comes twice.
+        let is_cycle = matches!(fault, Fault::Cycle { .. });
+        let (number, place) = (fault.number(), place_of(&fault));
+        let is_same = |told: &Fault| told.number() == number && place_of(told) == place;
+        if !is_cycle && (is_same(self.first) || self.rest.iter().any(is_same)) {
+            return Ok(false);
+        }
+        self.rest.push(fault)?;
+        Ok(true)
+    }
+
+    /// Tells the faults of a text, and says whether it spells a file with all of them mended. Where no further place is at fault, more is
+    /// taken out at the last one.
+    fn tell_text(&mut self, draft: &mut Draft<'_>) -> Result<bool, AllocError> {
+        // The last place that was told: whether the text was cut into tokens there, which it is first, and the offset.
+        let mut reached = None;
+        let mut made = 0usize;
+        for _ in 0..MOST_READS {
+            let found = self.next_fault(slice::from_ref(&*draft))?;
+            let Some(fault) = found.filter(is_of_text) else {
+                return Ok(true);
+            };
+            let Some(at) = fault.offset() else {
+                self.tell(at_place(fault, draft.source.file, 0))?;
+                return Ok(false);
+            };
+            let (offset, is_mended) = draft.origin(at);
+            let is_cut = matches!(fault, Fault::Syntax { .. } | Fault::LeftOut { .. });
+            let here = Some((is_cut, offset));
+            made = made.saturating_add(1);
+            if !is_mended && reached < here {
+                reached = here;
+                made = 0;
+                self.tell(at_place(fault, draft.source.file, offset))?;
+            }
+            let Some(mend) = mend_at(&draft.source, offset, made) else {
+                return Ok(false);
+            };
+            draft.add(mend)?;
+        }
+        Ok(false)
+    }
+
+    /// A fault of drafts by its place in its source, and whether the sources have it as they are: a name whose word was taken out of them
+    /// may be declared there. None where mends have made it. Nor is it known, where words were taken out, which structs are joined, and
+    /// which definitions reach themselves.
+    fn original(&self, drafts: &[Draft<'_>], fault: Fault) -> Option<(Fault, bool)> {
+        let are_whole = !is_of_text(self.first);
+        let is_literal = matches!(fault, Fault::NotOpened { .. });
+        let is_known = match fault {
+            Fault::UnknownName { .. } | Fault::FieldReference { .. } => true,
+            Fault::NotOpened { .. } | Fault::Cycle { .. } | Fault::ChainTooLong { .. } => are_whole,
+            _ => false,
+        };
+        let (file, at) = place_of(&fault);
+        let Some(draft) = drafts.get(file) else {
+            return is_known.then_some((fault, true));
+        };
+        let (offset, is_mended) = draft.origin(at);
+        let place = draft.source.place_at(offset);
+        let is_joined = is_literal && mended_embedding(&draft.source, place, false).is_none();
+        let is_taken = self.taken.contains(draft.source.token(place).text);
+        let is_uncertain = is_taken || is_joined && self.is_loose;
+        (is_known && !is_mended).then_some((at_place(fault, file, offset), !is_uncertain))
+    }
+
+    /// Mends a fault of a package by its place in its source, and says whether that was done. A cycle is cut between its first name and the
+    /// next one.
+    fn mend(&mut self, drafts: &mut [Draft<'_>], fault: &Fault) -> Result<bool, AllocError> {
+        if let Fault::Cycle { names } = fault
+            && let Some(first) = names.first()
+        {
+            let next = names.get(1).unwrap_or(first);
+            let mut is_cut = false;
+            for draft in drafts.iter_mut() {
+                is_cut |= draft.cut_names(first.as_str(), next.as_str())?;
+            }
+            return Ok(is_cut);
+        }
+        let (file, offset) = place_of(fault);
+        let Some(draft) = drafts.get_mut(file) else {
+            return Ok(false);
+        };
+        let place = draft.source.place_at(offset);
+        let is_name = !matches!(fault, Fault::NotOpened { .. });
+        let embedding = mended_embedding(&draft.source, place, is_name);
+        self.is_loose |= embedding.is_some();
+        match embedding.or(mended_value(&draft.source, place, is_name)) {
+            Some(mend) => draft.add(mend)?,
+            None => draft.open_literal(place)?,
+        }
+        Ok(true)
+    }
+
+    /// Tells and mends the next fault of a package, and says whether to look for others.
+    fn tell_next(&mut self, drafts: &mut [Draft<'_>]) -> Result<bool, AllocError> {
+        let Some(fault) = self.next_fault(drafts)? else {
+            return Ok(false);
+        };
+        let Some((fault, is_certain)) = self.original(drafts, fault) else {
+            return Ok(false);
+        };
+        let is_mended = self.mend(drafts, &fault)?;
+        Ok((!is_certain || self.tell(fault)?) && is_mended)
+    }
 }

@@ -9,8 +9,8 @@ use Rattle.std.specs.Prelude.{slice_get}
 use Rattle.std.specs.Option.{option_copied}
 use Rattle.std.specs.Slice.{IsItemAt}
 use Rattle.std.specs.List.{join_by}
-use Rattle.cs_comments.specs.declared.lines.Line.{Line}
-use Rattle.cs_comments.specs.declared.lines.Line.TheVariants.{Behind, Plain}
+use Rattle.cs_comments.specs.declared.texts.Line.{Line}
+use Rattle.cs_comments.specs.declared.texts.Line.TheVariants.{Behind, Plain}
 use Rattle.cs_comments.specs.Comments.{above, or_else}
 use Rattle.cs_comments.specs.Views.{texts_of}
 

@@ -1,8 +1,8 @@
 -- Which comments are texts, by the definitions.
 use Rattle.std.proofs.Common.{◌≡◌, ℕ, List, [], ◌∷◌, ◌++◌, Some, None, codes, refl}
 use Rattle.std.specs.Borrow.{Bor}
-use Rattle.cs_comments.specs.declared.lines.Line.{Line}
-use Rattle.cs_comments.specs.declared.lines.Line.TheVariants.{Alone, Behind, Plain}
+use Rattle.cs_comments.specs.declared.texts.Line.{Line}
+use Rattle.cs_comments.specs.declared.texts.Line.TheVariants.{Alone, Behind, Plain}
 use Rattle.cs_comments.specs.Comments.{text_at}
 
 abbrev text : List ℕ → Bor (List ℕ)

@@ -1,8 +1,8 @@
 -- Which comments are the text of what is declared first on a line (own rule; CUE leaves open what comments belong to).
 use Rattle.std.specs.Prelude.{ℕ, List, [], ◌∷◌, ◌++◌, Bool, ◌==◌, if◌then◌else◌, Option, Some, None, reverse, take, slice_get}
 use Rattle.std.specs.List.{join_by, list_all}
-use Rattle.cs_comments.specs.declared.lines.Line.{Line}
-use Rattle.cs_comments.specs.declared.lines.Line.TheVariants.{Alone, Behind, Plain}
+use Rattle.cs_comments.specs.declared.texts.Line.{Line}
+use Rattle.cs_comments.specs.declared.texts.Line.TheVariants.{Alone, Behind, Plain}
 
 -- the comments of the run of lines that are alone right above a place; the lines above it are given from the nearest on
 abbrev pub above : List Line → List (List ℕ)

@@ -1,18 +1,74 @@
-// The texts of definitions and fields.
+// The texts of definitions and fields: comments, by the lines of a source.
 ghost use Rattle.std.specs.Prelude.{◌≡◌, IfOk, reverse, string_bytes};
 ghost use Rattle.std.specs.List.{list_all};
 ghost use Rattle.std.specs.Option.{option_copied, option_map};
 ghost use Rattle.cs_comments.specs.Comments.{above, comment_on, comments_at, is_newline, some_text, text_at};
 ghost use Rattle.cs_comments.specs.Views.{each_text, texts_of};
 
-use crate::declared::Declarations;
-use crate::lines::{Line, lines_of};
+use cs_describe::Notes;
 use cs_grammar::{Profile, Token};
 use cs_place::{Named, Positions};
-use cs_sources::{Source, is_mark};
+use cs_sources::{Source, end_of, is_mark};
 use std::alloc::{AllocError, Global};
 use std::collections::BTreeMap;
 use std::str;
+
+/// A line of a source, by its comment: what is behind `//` there, without one blank at its front and without the carriage
+/// return of its end (CUE, comments).
+#[derive(Clone, Copy, Debug)]
+pub enum Line<'a> {
+    /// A comment and no token.
+    Alone(&'a str),
+    /// A comment behind a token.
+    Behind(&'a str),
+    /// No comment.
+    Plain,
+}
+
+/// The lines of a source, which end at newlines, by its tokens. It reads the source once.
+///
+/// # Errors
+/// Memory ran out.
+pub fn lines_of<'a>(
+    alloc: Global,
+    source: &'a str,
+    tokens: &[Token<'_>],
+) -> Result<Vec<Line<'a>>, AllocError> {
+    let mut lines = Vec::new(alloc);
+    let mut start = 0usize;
+    let mut next = 0;
+    for text in source.split('\n') {
+        let end = start.saturating_add(text.len());
+        let behind = tokens.partition_point(|token| token.start < end);
+        let here = tokens.get(next..behind).unwrap_or(&[]);
+        lines.push(line_of(text, start, here))?;
+        start = end.saturating_add(1);
+        next = behind;
+    }
+    Ok(lines)
+}
+
+/// A line by its text, where it starts, and the tokens on it. No token has a newline in it, so what is behind the last one is
+/// blanks or a comment.
+fn line_of<'a>(text: &'a str, start: usize, tokens: &[Token<'_>]) -> Line<'a> {
+    let last = tokens.iter().rev().find(|token| !token.text.is_empty());
+    let end = last.map_or(start, |token| end_of(*token));
+    match text.get(end.saturating_sub(start)..).and_then(comment_of) {
+        Some(comment) if last.is_none() => Line::Alone(comment),
+        Some(comment) => Line::Behind(comment),
+        None => Line::Plain,
+    }
+}
+
+/// The text of the comment in what a line has behind its tokens, without the one blank at its front.
+fn comment_of(rest: &str) -> Option<&str> {
+    let comment = rest
+        .trim_start_matches(|c| matches!(c, ' ' | '\t' | '\r'))
+        .strip_prefix("//")?;
+    let comment = comment.strip_suffix('\r').unwrap_or(comment);
+    let behind_blank = comment.strip_prefix(|c| matches!(c, ' ' | '\t'));
+    Some(behind_blank.unwrap_or(comment))
+}
 
 /// The comments of the lines that are alone right above a place, which are the last ones.
 fn above<'a>(alloc: Global, lines: &[Line<'a>]) -> Result<Vec<&'a str>, AllocError>
@@ -40,18 +96,14 @@ fn comment_on<'a>(line: Option<&Line<'a>>) -> Option<&'a str>
 }
 
 /// The comments that are the text of what is declared first on a line.
-fn comments_at<'a>(
-    alloc: Global,
-    lines: &[Line<'a>],
-    line: usize,
-) -> Result<Vec<&'a str>, AllocError>
-    ensures { IfOk result (λ v. texts_of v.items ≡ comments_at lines.now line) }
+fn comments_at<'a>(alloc: Global, lines: &[Line<'a>], at: usize) -> Result<Vec<&'a str>, AllocError>
+    ensures { IfOk result (λ v. texts_of v.items ≡ comments_at lines.now at) }
 {
-    let mut comments = above(alloc, &lines[..line.min(lines.len())])?;
+    let mut comments = above(alloc, &lines[..at.min(lines.len())])?;
     if !comments.is_empty() {
         return Ok(comments);
     }
-    match comment_on(lines.get(line)) {
+    match comment_on(lines.get(at)) {
         Some(comment) => {
             comments.push(comment)?;
             Ok(comments)
@@ -91,6 +143,103 @@ pub fn text_at(alloc: Global, lines: &[Line<'_>], line: usize) -> Result<Option<
     Ok(some_text(comments.join(alloc, "\n")?))
 }
 
+/// What is declared under one name: the texts, and the notes of the values, both in order.
+#[derive(Drop)]
+struct Declared {
+    texts: Vec<String>,
+    values: Vec<Notes>,
+}
+
+impl Declared {
+    /// The notes of it: those of its one value, or `allOf` of several. Their text is all texts.
+    fn into_notes(self, alloc: Global) -> Result<Notes, AllocError> {
+        let Declared { texts, mut values } = self;
+        let mut notes = Notes::new(alloc);
+        if values.len() > 1 {
+            notes.all_of = values;
+        } else if let Some(only) = values.pop() {
+            notes = only;
+        }
+        if !texts.is_empty() {
+            notes.text = Some(texts.join(alloc, "\n")?);
+        }
+        Ok(notes)
+    }
+}
+
+/// The notes of values, each with the name of what is declared with it, in their order.
+pub(crate) type Values = Vec<(String, Notes)>;
+
+/// The declarations of some names: of the definitions of a package, or of the fields of a struct.
+#[derive(Drop)]
+pub(crate) struct Declarations {
+    pub(crate) alloc: Global,
+    names: BTreeMap<String, Declared>,
+    /// The notes of each `[string]: T` of a struct.
+    unnamed: Vec<Notes>,
+}
+
+impl Declarations {
+    pub(crate) fn new(alloc: Global) -> Declarations {
+        let (names, unnamed) = (BTreeMap::new(alloc), Vec::new(alloc));
+        Declarations {
+            alloc,
+            names,
+            unnamed,
+        }
+    }
+
+    /// What is declared under a name so far.
+    fn under(&mut self, name: &str) -> Result<&mut Declared, AllocError> {
+        let name = String::from_str(self.alloc, name)?;
+        let (texts, values) = (Vec::new(self.alloc), Vec::new(self.alloc));
+        Ok(
+            self.names
+                .entry(name)?
+                .or_insert(Declared { texts, values }),
+        )
+    }
+
+    /// Adds the text of a declaration, where it has one.
+    pub(crate) fn add_text(&mut self, name: &str, text: Option<String>) -> Result<(), AllocError> {
+        match text {
+            Some(text) => Ok(self.under(name)?.texts.push(text)?),
+            None => Ok(()),
+        }
+    }
+
+    /// Adds the notes of the value of a declaration.
+    pub(crate) fn add_value(&mut self, name: &str, value: Notes) -> Result<(), AllocError> {
+        Ok(self.under(name)?.values.push(value)?)
+    }
+
+    /// Adds the notes of the value of `[string]: T`.
+    pub(crate) fn add_unnamed(&mut self, value: Notes) -> Result<(), AllocError> {
+        let mut notes = Notes::new(self.alloc);
+        notes.additional = Some(Box::new(self.alloc, value)?);
+        Ok(self.unnamed.push(notes)?)
+    }
+
+    /// The notes of a struct: under `properties` those under each name, and for each `[string]: T` one under `allOf`.
+    pub(crate) fn into_notes(self) -> Result<Notes, AllocError> {
+        let mut notes = Notes::new(self.alloc);
+        notes.all_of = self.unnamed;
+        for (name, declared) in self.names {
+            let under = declared.into_notes(self.alloc)?;
+            drop(notes.properties.insert(name, under)?);
+        }
+        Ok(notes)
+    }
+
+    /// The notes under each name, with those of these values.
+    pub(crate) fn with(mut self, values: Values) -> Result<BTreeMap<String, Notes>, AllocError> {
+        for (name, value) in values {
+            self.add_value(name.as_str(), value)?;
+        }
+        Ok(self.into_notes()?.properties)
+    }
+}
+
 /// The texts of fields, by the number of the source and the offset of the label.
 pub(crate) type FieldTexts = BTreeMap<(usize, usize), String>;
 
@@ -110,32 +259,22 @@ impl Texts {
         let mut positions = Positions::new(text.as_bytes());
         let mut before = None;
         for (place, token) in source.tokens.iter().enumerate() {
-            if is_mark(*token, ":") {
-                let label = source.token(source.label_before(place).unwrap_or(0));
-                let line = positions.at(label.start).line - 1;
-                if before != Some(line) {
-                    let text = text_at(alloc, &lines, line)?;
-                    self.add_text(alloc, source.file, label, text)?;
-                }
-                before = Some(line);
+            if !is_mark(*token, ":") {
+                continue;
             }
-        }
-        Ok(())
-    }
-
-    /// Adds the text of what a label of a source declares, where it has one.
-    fn add_text(
-        &mut self,
-        alloc: Global,
-        file: usize,
-        label: Token<'_>,
-        text: Option<String>,
-    ) -> Result<(), AllocError> {
-        if let Some(name) = label.text.strip_prefix('#') {
-            return self.definitions.add_text(alloc, name, text);
-        }
-        if let Some(text) = text {
-            drop(self.fields.insert((file, label.start), text)?);
+            let label = source.token(source.label_before(place).unwrap_or(0));
+            let line = positions.at(label.start).line - 1;
+            if before == Some(line) {
+                continue;
+            }
+            before = Some(line);
+            let Some(text) = text_at(alloc, &lines, line)? else {
+                continue;
+            };
+            match label.text.strip_prefix('#') {
+                Some(name) => self.definitions.add_text(name, Some(text))?,
+                None => drop(self.fields.insert((source.file, label.start), text)?),
+            }
         }
         Ok(())
     }
@@ -150,12 +289,9 @@ pub(crate) fn texts_of(alloc: Global, sources: &[&[u8]]) -> Result<Texts, AllocE
         definitions: Declarations::new(alloc),
         fields: BTreeMap::new(alloc),
     };
+    let (name, line) = ("", 1);
     for (file, text) in sources.iter().enumerate() {
-        let named = Named {
-            name: "",
-            text,
-            line: 1,
-        };
+        let named = Named { name, text, line };
         texts.add(alloc, &Source::new(alloc, Profile::Wide, named, file)?)?;
     }
     Ok(texts)

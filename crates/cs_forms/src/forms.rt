@@ -1,4 +1,4 @@
-// Forms of CUE that are refused.
+// Forms of CUE that are refused, and the words for them: what programs call them, and what people are told.
 use cs_sources::Near;
 
 /// A form that is refused: one of CUE that the profile leaves out, or a mistake.
@@ -190,5 +190,196 @@ impl<'s, 'a> Found<'s, 'a> {
     /// The same form, of which something else is shown.
     pub(crate) fn showing(self, shown: &'a str) -> Found<'s, 'a> {
         Found { shown, ..self }
+    }
+}
+
+macro_rules! rows {
+    ($($name:expr => $said:literal,)*) => { [$(($name, $said)),*] };
+}
+
+/// What is said of names, each row of several.
+type Sayings = &'static [(&'static [&'static str], &'static str)];
+
+/// What programs call each form, and what is said of it, in their order: a `{}` stands for what its place tells. A form without a row is
+/// refused by the prover.
+const FORMS: [(&str, &str); 69] = rows! {
+    "byte-order-mark" => "a byte order mark: save the file as UTF-8 without it",
+    "float" => "floats are left out: scale it (percent, milliseconds)",
+    "number-spelling" => "`{}`: {}",
+    "attribute" => "attributes are left out: take it out",
+    "broken-attribute" => "an attribute is `@`, a name and what is in parentheses, as `@go(A)`, with balanced brackets and texts in double quotes on one line",
+    "interpolation" => "interpolation is left out: write each text out",
+    "bytes" => "texts in single quotes are bytes, which JSON doesn't have: write a text in double quotes",
+    "multi-line-text" => "texts over several lines are left out: write it on one line, with \\n for a new line",
+    "raw-text" => "raw texts are left out: write it in double quotes, with \\ before each \" and \\",
+    "escape" => "a text may have the escapes \\a \\b \\f \\n \\r \\t \\v \\/ \\\\ \\\" \\uHHHH \\UHHHHHHHH alone, and no surrogates",
+    "unclosed-text" => "this text doesn't end on its line",
+    "stray-character" => "no token begins with this character",
+    "default-mark" => "default marks are left out",
+    "misplaced-default" => "a default is an alternative of a whole value, as in `x: *1 | int`: take the mark out, or move it there",
+    "second-default" => "a value has one default, and an alternative before this one is marked: take one of the marks out",
+    "default-value" => "a default is null, a truth value, an integer, a text, an empty struct or a list of these: take the mark out",
+    "excluded-default" => "another declaration of `{}` that may be absent, as `{}?`, `[string]` or a default, could exclude this one: write `{}?` here",
+    "excluded-default" => "a default in `{}` is out of place, or another declaration could exclude it",
+    "import" => "imports are left out; remove it and write what it gives by hand (`net.FQDN`, `time.Time`: `string`)",
+    "package-value" => "`{}`: packages are left out{}",
+    "package-call" => "`{}`: calls of packages are left out{}",
+    "selector" => "`{}`: what `.` selects is left out; give the field's value a definition and name it in both places",
+    "index" => "what brackets select is left out; give the element's value a definition and name it",
+    "close" => "drop `close`: structs of definitions are closed already",
+    "call" => "`{}`: calls are left out",
+    "regular-expression" => "regular expressions are left out; `string` is what remains",
+    "pattern" => "of patterns only `[string]: T` is taken",
+    "alias-label" => "of patterns only `[string]: T` is taken, without an alias",
+    "alias" => "aliases are left out; give the value a definition and name it",
+    "dynamic-label" => "labels in parentheses are left out; write each field out, or `[string]: T`",
+    "limit" => "the limit of `{}` has to be a literal",
+    "limit-kind" => "the limit of `{}` has to be {}",
+    "if" => "`if`: comprehensions are left out; say the cases as alternatives: `{mode: \"prod\", tls: {..}} | {mode: \"dev\"}`",
+    "for" => "`for`: comprehensions are left out; write the fields out, or `[string]: T`",
+    "let" => "`let` is left out",
+    "embedded-definition" => "an embedded definition: write its fields out, or `{} & {{}, ...}` with `...` in `{}` too",
+    "embedded-struct" => "an embedded struct: put {} into each alternative",
+    "embedded-value" => "a field has to begin here: values that are embedded in a struct are left out",
+    "nested-definition" => "a definition stands at the top of a file: move it there",
+    "hidden-name" => "hidden fields are left out: give the value a definition and name it: `#{}`",
+    "arithmetic" => "arithmetic is left out; write the result, as 3600 for `60 * 60`",
+    "comparison" => "`{}`: {}",
+    "top-level-field" => "a field at the top of a file: a root is a definition",
+    "top-level-value" => "only definitions stand at the top of a file: `#NAME: ..`",
+    "typed-ellipsis" => "`...T` is for lists; in a struct write `[string]: T` for the value under every key, or `...` alone",
+    "early-ellipsis" => "`...` comes last: nothing may follow it",
+    "late-package" => "`package` stands at the head of a file",
+    "digit-label" => "a label that begins with a digit stands in double quotes",
+    "negation" => "negation is left out: `!=` excludes a literal",
+    "missing-colon" => "a label needs `:` and a value; values that are embedded in a struct are left out",
+    "missing-comma" => "a comma, a new line or an operator is missing here",
+    "new-line-in-list" => "a new line doesn't part elements of a list: put a comma behind each",
+    "missing-value" => "a value is missing here",
+    "broken-line" => "the line before ended the value: put the operator at its end",
+    "unclosed" => "this bracket isn't closed, or what is inside doesn't end before another one closes",
+    "stray-bracket" => "no bracket is open that this closes",
+    "misplaced" => "this is out of place",
+    "large-integer" => "`{}`: integers are from -9223372036854775808 to 9223372036854775807",
+    "unknown-kind" => "`{}`: {}",
+    "unknown-name" => "`{}` isn't declared",
+    "unknown-definition" => "`{}` isn't declared; give the file that declares it too",
+    "field-reference" => "`{}` is a field",
+    "not-opened" => "this struct is joined with others: end each of them with `...`, or write all fields into one",
+    "not-opened" => "`--profile wide` puts these structs together; without it end each of them with `...`, or write all fields into one",
+    "closed-operand" => "a struct can't be put together with what a definition closed: embed what `&` joins in one struct, as `{{}, ..}`, or end each of them with `...`",
+    "embedded-no-struct" => "`{}` can't be embedded: only struct literals can, alternatives of them, and definitions of these; give it a label, or write out its keys{}",
+    "embedded-itself" => "`{}` embeds itself, which never ends: give it a label in its place, or write out the keys that are meant{}",
+    "embedded-twice" => "embedding joins two values of `{}` that hold a struct or a reference, and one would open the other: write all of its keys in one place{}",
+    "embedded-twice" => "embedding joins the values of `[string]` and `{}`, which hold a struct or a reference each, and one would open the other: leave one of the two out{}",
+};
+
+/// What to write instead of what a package gives, by its name; it goes on with another sentence.
+const PACKAGES: Sayings = &rows! {
+    &["list"] => "; `[T, T, ...T]` has at least two elements, `[] | [T] | [T, T]` at most two; that they differ can't be said",
+    &["strings"] => "; `!=\"\"` is a text that isn't empty; other lengths can't be said, but each text can: `\"a\" | \"b\"`",
+    &["math"] => "; what can be said of a number is bounds, as `>=0 & <=100`, or each number: `0 | 2 | 4`",
+    &["struct"] => "; fields without `?` have to be there; how many there are can't be said",
+};
+
+/// What is said of conditions and comparisons.
+const COMPARISONS: Sayings = &rows! {
+    &["&&", "||"] => "conditions are left out: `&` joins types, and `|` gives alternatives",
+    &["=="] => "comparisons are left out: fields can't be compared; say the cases as alternatives",
+};
+
+/// What to write for kinds of CUE that the profile leaves out.
+const KINDS: Sayings = &rows! {
+    &["float", "float32", "float64"] => "floats are left out; write `int`, and scale it (percent, milliseconds)",
+    &["bytes"] => "JSON has no bytes; agree on a text, such as base64, and write `string`",
+    &["uint64", "uint128"] => "integers have 64 signed bits; write `uint`",
+    &["int128"] => "integers have 64 signed bits; write `int`",
+    &["rune"] => "this kind is left out; write `int` with its bounds",
+};
+
+/// What CUE calls kinds that other languages call by these names.
+const MEANT: Sayings = &rows! {
+    &["integer", "Int", "long"] => "int",
+    &["boolean", "Bool"] => "bool",
+    &["str", "String", "text"] => "string",
+    &["any"] => "_",
+    &["object", "struct"] => "{...}",
+    &["array", "list"] => "[...]",
+    &["nil", "None", "undefined"] => "null",
+};
+
+/// What a table has for a name.
+fn said_in(rows: Sayings, name: &str) -> Option<&'static str> {
+    let (_, said) = rows.iter().find(|(names, _)| names.contains(&name))?;
+    Some(*said)
+}
+
+/// The name of a form for programs. It stays as it is, whatever the words for people become.
+pub fn form_name(form: Form) -> &'static str {
+    FORMS[form as usize].0
+}
+
+/// What is said of a form: a `{}` stands for what its place tells.
+pub fn said_of_form(form: Form) -> &'static str {
+    FORMS[form as usize].1
+}
+
+/// The kind of CUE that may have been meant by a name of another language.
+pub fn kind_meant(name: &str) -> Option<&'static str> {
+    said_in(MEANT, name)
+}
+
+/// What is said of how a source spells a form, for those of which that tells more; nothing for the others.
+pub fn said_of_shown(form: Form, shown: &str) -> &'static str {
+    match form {
+        Form::NumberSpelling => said_of_number(shown),
+        Form::StrayCharacter => said_of_character(shown),
+        Form::PackageValue | Form::PackageCall => {
+            let package = shown.split('.').next().unwrap_or("");
+            said_in(PACKAGES, package).unwrap_or("; `string` is what remains of their formats")
+        }
+        Form::Comparison => said_in(COMPARISONS, shown).unwrap_or(
+            "comparisons are left out: a limit is joined by `&`, and fields can't be compared",
+        ),
+        Form::UnknownKind => said_in(KINDS, shown).unwrap_or(""),
+        Form::LimitKind if shown == "!=" => "an integer, a text or `null`",
+        Form::LimitKind => "an integer",
+        Form::EmbeddedNoStruct
+        | Form::EmbeddedItself
+        | Form::EmbeddedTwice
+        | Form::EmbeddedBesideEvery
+            if shown.contains('&') => "; what `&` joins is embedded one by one",
+        _ => "",
+    }
+}
+
+/// What is said of a number that isn't spelled as an integer of the profile: of a decimal one by the first byte that is no digit of it.
+fn said_of_number(number: &str) -> &'static str {
+    let digits = number.as_bytes();
+    let first = digits
+        .iter()
+        .find(|byte| !byte.is_ascii_digit() && **byte != b'_');
+    match (digits, first) {
+        ([b'0', b'x' | b'X', ..], _) =>
+            "behind `0x` stand hexadecimal digits alone, and the `x` is a small one",
+        ([b'0', b'b' | b'o', ..], _) =>
+            "binary and octal numbers are left out: write it in decimal or hexadecimal",
+        ([b'0', b'0'..=b'9' | b'_', ..], _) =>
+            "an integer doesn't begin with 0: leave the leading zeros out",
+        (_, None) => "in an integer `_` stands only between digits",
+        (_, Some(b'K' | b'M' | b'G' | b'T' | b'P')) =>
+            "multipliers such as `K`, `M` and `Gi` are left out: write the number out",
+        (_, Some(_)) => "neither a name nor a label begins with a digit: quote the label",
+    }
+}
+
+/// What is said of a character that no token begins with.
+fn said_of_character(character: &str) -> &'static str {
+    match character.as_bytes() {
+        [b'#', ..] => "the name of a definition has to begin with a letter or `_` behind its `#`",
+        [b';', ..] => "a comma or a new line parts fields and definitions",
+        [128..=255, ..] =>
+            "names have letters, digits, `_` and `$` of ASCII: write another name, or quote the label",
+        _ => said_of_form(Form::StrayCharacter),
     }
 }

@@ -1,8 +1,178 @@
-// Forms at a token that is out of place, and that the profile has elsewhere (4).
-use crate::forms::{Form, Found};
-use crate::names::form_of_clause;
-use cs_grammar::{Sort, Token};
+// Forms by the tokens at a place: where no token of the profile begins (3), at a token that is out of place (4) or that only CUE outside of the
+// profile has (5), and of names that aren't declared (9).
+use crate::forms::{Form, Found, said_of_shown};
+use cs_grammar::{Profile, Sort, Token};
 use cs_sources::{Inside, Near, begins_value, ends_value, follows_label, separates};
+use std::str;
+
+/// The form at an offset of a source where no token of a profile begins; another one stands there in its place.
+pub fn form_stuck<'s, 'a>(profile: Profile, near: Near<'s, 'a>, offset: usize) -> Found<'s, 'a> {
+    let named = near.source.named;
+    let rest = named.text.get(offset..).unwrap_or(&[]);
+    let (form, len) = form_at(profile, rest);
+    Found {
+        form,
+        near,
+        start: offset,
+        end: offset.saturating_add(len),
+        shown: str::from_utf8(rest.get(..len).unwrap_or(&[])).unwrap_or(""),
+    }
+}
+
+/// The form at the front of the bytes, and how many of them show it.
+fn form_at(profile: Profile, bytes: &[u8]) -> (Form, usize) {
+    match bytes {
+        [0xef, 0xbb, 0xbf, ..] => (Form::ByteOrderMark, 3),
+        [b'@', ..] if profile == Profile::Wide => (Form::BrokenAttribute, 1),
+        [b'@', ..] => (Form::Attribute, attribute_len(bytes)),
+        [b'\'', ..] => (Form::Bytes, text_at(bytes).1),
+        [b'"', b'"', b'"', ..] => (Form::MultiLineText, 3),
+        [b'"', ..] => match text_at(bytes) {
+            (Form::UnclosedText, _) => (Form::UnclosedText, line_len(bytes)),
+            found => found,
+        },
+        [b'#', ..] if is_raw(bytes) => (Form::RawText, 2),
+        [b'0'..=b'9', ..] => form_of_number(bytes),
+        _ => (Form::StrayCharacter, character_len(bytes)),
+    }
+}
+
+/// Whether a quote is behind the `#`s at the front.
+fn is_raw(bytes: &[u8]) -> bool {
+    let behind = bytes.iter().find(|byte| **byte != b'#');
+    matches!(behind, Some(b'"' | b'\''))
+}
+
+/// The form of a number that isn't an integer of the profile.
+fn form_of_number(bytes: &[u8]) -> (Form, usize) {
+    let is_inside = |byte: &&u8| byte.is_ascii_alphanumeric() || matches!(**byte, b'_' | b'.');
+    let len = bytes.iter().take_while(is_inside).count();
+    let number = bytes.get(..len).unwrap_or(&[]);
+    let form = match number {
+        [b'0', b'x' | b'X' | b'b' | b'B' | b'o' | b'O', ..] => Form::NumberSpelling,
+        [.., b'.', b'.'] => Form::MissingComma,
+        _ if is_float(number) => Form::Float,
+        _ => Form::NumberSpelling,
+    };
+    (form, len)
+}
+
+/// Whether a number has a fraction or an exponent, and only digits and `_` beside.
+fn is_float(number: &[u8]) -> bool {
+    let is_digit = |byte: &u8| matches!(*byte, b'0'..=b'9' | b'_');
+    let is_part = |byte: &u8| matches!(*byte, b'0'..=b'9' | b'_' | b'.' | b'e' | b'E');
+    number.iter().all(is_part) && !number.iter().all(is_digit)
+}
+
+/// The length of the first character.
+fn character_len(bytes: &[u8]) -> usize {
+    let behind = bytes.iter().skip(1);
+    let behind = behind.take_while(|byte| matches!(**byte, 128..=191));
+    behind.count().saturating_add(1).min(bytes.len())
+}
+
+/// The length of what is left of the line, without blanks at its end.
+fn line_len(bytes: &[u8]) -> usize {
+    let len = bytes.iter().take_while(|byte| **byte != b'\n').count();
+    let line = bytes.get(..len).unwrap_or(&[]);
+    line.trim_ascii_end().len()
+}
+
+/// The length of an attribute up to its first closing parenthesis, or of what is left of its line.
+fn attribute_len(bytes: &[u8]) -> usize {
+    let len = line_len(bytes);
+    let before = bytes.iter().take_while(|byte| **byte != b')').count();
+    before.saturating_add(1).min(len)
+}
+
+/// The form of a text, as one in double quotes, and its length with its quotes, or that of what is left of its line.
+fn text_at(bytes: &[u8]) -> (Form, usize) {
+    let (mut opened, mut closed) = (Form::UnclosedText, Form::Escape);
+    let mut is_escaped = false;
+    for (at, byte) in bytes.iter().enumerate().skip(1) {
+        match *byte {
+            b'\n' => return (opened, at),
+            b'(' if is_escaped => (opened, closed) = (Form::Interpolation, Form::Interpolation),
+            _ if !is_escaped && bytes.first() == Some(byte) => {
+                return (closed, at.saturating_add(1));
+            }
+            _ => {}
+        }
+        is_escaped = *byte == b'\\' && !is_escaped;
+    }
+    (opened, bytes.len())
+}
+
+/// The form of a name that isn't declared.
+pub fn form_unknown<'s, 'a>(near: Near<'s, 'a>) -> Found<'s, 'a> {
+    let name = near.here();
+    let form = match name.sort {
+        Sort::Definition => Form::UnknownDefinition,
+        _ if said_of_shown(Form::UnknownKind, name.text).is_empty() => Form::UnknownName,
+        _ => Form::UnknownKind,
+    };
+    Found::at(near, form)
+}
+
+/// The form at a token that the default profile leaves out, wherever it stands.
+pub(crate) fn form_left_out<'s, 'a>(near: Near<'s, 'a>) -> Found<'s, 'a> {
+    let here = near.here();
+    let form = match here.sort {
+        Sort::Hidden => Form::HiddenName,
+        Sort::Name if here.text == "import" => Form::Import,
+        Sort::Name => form_of_clause(here.text).unwrap_or(Form::Misplaced),
+        _ if here.text == "." => return form_of_dot(near),
+        _ => form_of_mark(near),
+    };
+    Found::at(near, form)
+}
+
+/// The form of a clause that a word begins.
+fn form_of_clause(word: &str) -> Option<Form> {
+    match word {
+        "let" => Some(Form::Let),
+        "for" => Some(Form::For),
+        "if" => Some(Form::If),
+        _ => None,
+    }
+}
+
+fn form_of_mark(near: Near<'_, '_>) -> Form {
+    let is_in_label = near.inside() == Inside::Label;
+    match near.here().text {
+        "*" if !ends_value(near.before(1)) => Form::DefaultMark,
+        "=" if is_in_label => Form::AliasLabel,
+        "=" => Form::Alias,
+        "=~" | "!~" if is_in_label => Form::Pattern,
+        "=~" | "!~" => Form::RegularExpression,
+        "==" | "&&" | "||" => Form::Comparison,
+        _ => Form::Arithmetic,
+    }
+}
+
+fn form_of_dot<'s, 'a>(near: Near<'s, 'a>) -> Found<'s, 'a> {
+    let (before, behind) = (near.before(1), near.behind(1));
+    let form = match before.sort {
+        _ if !ends_value(before) => return Found::at(near, Form::Float),
+        _ if behind.sort != Sort::Name => return Found::at(near, Form::Selector),
+        Sort::Name if near.behind(2).text == "(" => Form::PackageCall,
+        Sort::Name if is_package(before.text) => Form::PackageValue,
+        // What packages give begins with a capital letter.
+        Sort::Name if matches!(behind.text.as_bytes(), [b'A'..=b'Z', ..]) => Form::PackageValue,
+        _ => Form::Selector,
+    };
+    let place = near.place.saturating_sub(1);
+    Found::between(form, Near { place, ..near }, near.place.saturating_add(2))
+}
+
+/// Whether a name is that of a package which comes with CUE.
+fn is_package(name: &str) -> bool {
+    [
+        "base64", "bool", "csv", "hex", "json", "list", "math", "bits", "net", "path", "regexp",
+        "strconv", "strings", "struct", "template", "time", "uuid", "yaml",
+    ]
+    .contains(&name)
+}
 
 /// The form at a token that is out of place, though the profile has it elsewhere.
 pub fn form_out_of_place<'s, 'a>(near: Near<'s, 'a>) -> Found<'s, 'a> {
@@ -20,18 +190,16 @@ pub fn form_out_of_place<'s, 'a>(near: Near<'s, 'a>) -> Found<'s, 'a> {
 
 /// The form after a word that begins a clause, or of a value after the mark of a limit, or after its sign.
 fn after_word<'s, 'a>(near: Near<'s, 'a>) -> Option<Found<'s, 'a>> {
-    let (first, before, here) = (near.before(2), near.before(1), near.here());
-    match form_of_clause(before.text) {
-        Some(form) => Some(Found::before(near, form)),
-        None if !begins_value(here) => None,
-        None if before.text == "-" && is_relation(first) => {
-            Some(Found::at(near, Form::Limit).showing(first.text))
-        }
-        None if is_relation(before) => {
-            Some(Found::at(near, form_of_limit(here)).showing(before.text))
-        }
-        None => None,
+    let (before, here) = (near.before(1), near.here());
+    if let Some(form) = form_of_clause(before.text) {
+        return Some(Found::before(near, form));
     }
+    let (relation, form) = match before.text {
+        "-" => (near.before(2), Form::Limit),
+        _ => (before, form_of_limit(here)),
+    };
+    let found = Found::at(near, form).showing(relation.text);
+    (begins_value(here) && is_relation(relation)).then_some(found)
 }
 
 fn is_relation(token: Token<'_>) -> bool {
@@ -100,12 +268,9 @@ fn behind_value<'s, 'a>(near: Near<'s, 'a>) -> Found<'s, 'a> {
 
 /// The form at the colon behind what is no label.
 fn behind_label<'s, 'a>(near: Near<'s, 'a>) -> Found<'s, 'a> {
-    let Some(first) = near.part().first() else {
-        return plain(near);
-    };
-    let token = first.here();
-    match token.text.as_bytes() {
-        _ if token.sort == Sort::Integer => Found::at(first, Form::DigitLabel),
+    let first = near.part().first().unwrap_or(near);
+    match first.here().text.as_bytes() {
+        _ if first.here().sort == Sort::Integer => Found::at(first, Form::DigitLabel),
         [b'*'] => Found::at(first, Form::MisplacedDefault),
         [b'['] => Found::at(first, Form::Pattern),
         [b'('] => Found::at(first, Form::DynamicLabel),

@@ -2,11 +2,8 @@
 #![tactic(auto)]
 
 mod definitions;
-mod reports;
-mod spelled;
 mod walk;
-mod wants;
 mod written;
 
-pub use reports::report_instance;
+pub use definitions::report_instance;
 pub use written::Written;

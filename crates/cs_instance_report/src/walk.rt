@@ -1,6 +1,5 @@
 // Steps from a rule to what it is made of: in the package and in the sources, with the path.
-use crate::spelled::Spelled;
-use crate::written::Written;
+use crate::written::{Spelled, Written};
 use cs_grammar::Field;
 use cs_package::{FieldMark, Package, Part, Shape, ShapeEnd};
 use cs_place::put_quoted;

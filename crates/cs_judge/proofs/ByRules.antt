@@ -1,45 +1,58 @@
 -- What is read, numbered and judged of rules is what the calls say of their bytes.
-use Rattle.std.proofs.Common.{◌≡◌, ℕ, Bool, List, Bor, Result, map, string_bytes, sym, subst}
+use Rattle.std.proofs.Common.{◌≡◌, ℕ, Bool, List, Bor, Result, Err, map, string_bytes, refl, sym, subst}
 use Rattle.cs_document.specs.Document.{Document}
+use Rattle.cs_document.specs.declared.fault.DocFault.{DocFault}
+use Rattle.cs_json.specs.Refusal as unread
 use Rattle.cs_package.specs.Environment.{Environment}
 use Rattle.cs_profile.specs.SchemaDocument.{document_of}
 use Rattle.cs_profile.specs.declared.schema_doc.SchemaDoc.{SchemaDoc}
 use Rattle.cs_tool.specs.Accepted.{DeclaresRoot}
+use Rattle.cs_tool.specs.Conversions.{of_document}
 use Rattle.cs_judge.specs.Judged.{call_on, IsOf}
 use Rattle.cs_judge.specs.Prepared.{IsReadOf, AreNumbersOf}
-use Rattle.cs_tool.specs.Runs.{vet, validate, agree}
-use Rattle.cs_tool.specs.Sides.{IsSchemaOf, AreSidesOf}
+use Rattle.cs_judge.specs.Verdicts.{IsVerdict, IsReadAs, IsCallVerdict}
+use Rattle.cs_tool.specs.Runs.{agree}
+use Rattle.cs_tool.specs.Sides.{AreSidesOf}
 use Rattle.cs_tool.specs.declared.fault.Fault.{Fault}
+use Rattle.cs_tool.specs.declared.fault.Fault.TheVariants.{OutOfMemory}
 use Rattle.cs_tool.specs.declared.rules.Rules.{Rules}
 use Rattle.cs_tool.specs.declared.rules.Rules.TheVariants as rules
 use Rattle.cs_judge.specs.declared.text_judge.ReadRules.TheVariants as read
-use Rattle.cs_judge.specs.declared.text_judge.NumberedRules.TheVariants as numbered
+use Rattle.cs_judge.specs.declared.verdict.Case.{Case}
+use Rattle.cs_judge.specs.declared.verdict.NumberedRules.{NumberedRules}
+use Rattle.cs_judge.specs.declared.verdict.NumberedRules.TheVariants as numbered
+use Rattle.cs_judge.specs.declared.verdict.Side.TheVariants as side
+use Rattle.cs_judge.proofs.BySides.{vetted, validates, vet_unread, validate_unread, agree_unread}
+use Rattle.cs_judge.proofs.RulesRefused.{memory_refuses}
 use Rattle.cs_tool.proofs.Numbered.{numbered_sides}
 
-module _ (text : List ℕ) (result : Result Bool Fault) where
-  pub by_root : (R : Rules) (r : Environment × List ℕ) → AreNumbersOf R (numbered.Root r)
-      → ((ss : List (List ℕ)) (root : List ℕ) → DeclaresRoot ss root r.0 r.1 → IsOf (vet ss root text) result) → IsOf (call_on R text) result
-  by_root (rules.Root sources root) r is of = of _ _ is
+module _ (text : List ℕ) (d : Document) (is_read : IsReadAs text d) (result : Result Bool Fault) where
+  pub by_root : (R : Rules) (r : Bor (Environment × List ℕ)) → AreNumbersOf R (numbered.Root r.now) → IsVerdict (side.Root r) d result (λ b. b) → IsOf (call_on R text) result
+  by_root (rules.Root sources root) r is of = vetted _ _ text r is d is_read result of
   by_root (rules.Schema schema) r is of = absurd is
   by_root (rules.Both sources root) r is of = absurd is
 
-  pub by_schema : (R : Rules) (s : Document) → AreNumbersOf R (numbered.Schema s)
-      → ((schema : List ℕ) → IsSchemaOf schema s → IsOf (validate schema text) result) → IsOf (call_on R text) result
-  by_schema (rules.Schema schema) s is of = of _ is
+  pub by_schema : (R : Rules) (s : Bor Document) → AreNumbersOf R (numbered.Schema s.now) → IsVerdict (side.Schema s) d result (λ b. b) → IsOf (call_on R text) result
+  by_schema (rules.Schema schema) s is of = validates _ text s is d is_read result of
   by_schema (rules.Root sources root) s is of = absurd is
   by_schema (rules.Both sources root) s is of = absurd is
 
-  pub by_both : (R : Rules) (r : Environment × List ℕ) (s : Document) → AreNumbersOf R (numbered.Both r s)
-      → ((ss : List (List ℕ)) (root : List ℕ) → AreSidesOf ss root r.0 r.1 s → IsOf (agree ss root text) result) → IsOf (call_on R text) result
-  by_both (rules.Both sources root) r s is of = of _ _ is
-  by_both (rules.Root sources root) r s is of = absurd is
-  by_both (rules.Schema schema) r s is of = absurd is
+  pub by_both : (case : Case) (old new : List ℕ) (R : Rules) (r : Environment × List ℕ) (s : Document) → AreNumbersOf R (numbered.Both r s)
+      → ((ss : List (List ℕ)) (root t : List ℕ) → AreSidesOf ss root r.0 r.1 s → IsReadAs t d → IsCallVerdict (agree ss root t) case old new result) → IsCallVerdict (call_on R text) case old new result
+  by_both case old new (rules.Both sources root) r s is of = of _ _ text is is_read
+  by_both case old new (rules.Root sources root) r s is of = absurd is
+  by_both case old new (rules.Schema schema) r s is of = absurd is
 
--- numbered sides are those of some sources
-pub sides_of : (R : Rules) (r : Environment × List ℕ) (s : Document) → AreNumbersOf R (numbered.Both r s) → (ss : List (List ℕ)) × (root : List ℕ) × AreSidesOf ss root r.0 r.1 s
-sides_of (rules.Both sources root) r s is = (_, _, is)
-sides_of (rules.Root sources root) r s is = absurd is
-sides_of (rules.Schema schema) r s is = absurd is
+-- a text that isn't read is refused
+pub not_read : (text : List ℕ) (R : Rules) (numbers : NumberedRules) → AreNumbersOf R numbers → (e : DocFault) → unread.IsRefusal e text → IsOf (call_on R text) (Err (of_document e))
+not_read text (rules.Root sources root) (numbered.Root r) is e h = vet_unread _ _ text _ _ is e h
+not_read text (rules.Schema schema) (numbered.Schema s) is e h = validate_unread _ text _ is e h
+not_read text (rules.Both sources root) (numbered.Both r s) is e h = agree_unread _ _ text _ _ is.declares e h
+not_read text _ _ is e h = absurd is
+
+-- memory may run out
+pub no_memory : (text : List ℕ) (R : Rules) → IsOf (call_on R text) (Err OutOfMemory)
+no_memory text R = record { found = tt; refused = memory_refuses R text; only = λ ready. refl }
 
 -- what was read of a root is declared by some sources, and so is that of both sides
 pub root_read : (R : Rules) (E : Environment) (r : Bor (List ℕ)) → IsReadOf R (read.Root E r) → (ss : List (List ℕ)) × (n : List ℕ) × DeclaresRoot ss r.now E n

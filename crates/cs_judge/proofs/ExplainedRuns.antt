@@ -1,21 +1,19 @@
 -- What is told of answers, written and left.
 use Rattle.std.proofs.Common.{◌≡◌, ℕ, ◌+◌, ◌-◌, ◌^◌, min, List, [], ◌∷◌, ◌++◌, length, Bool, true, false, Option, None, Some, Ok, Err, IfOk, IfErr, refl, sym, ap, subst, ◌∙◌, arith, append_assoc, length-append, codes, if◌then◌else◌}
-use Rattle.std.specs.Io.KnownBytes.{Appends}
-use Rattle.std.proofs.KnownBytes.{Appends-trans}
 use Rattle.cs_place.specs.Shown.{shown}
 use Rattle.cs_reason_words.specs.Formats.{asks_standard}
 use Rattle.cs_reason_words.specs.Valid.{Reports}
 use Rattle.cs_reason_words.specs.declared.form.Form.{Form}
 use Rattle.cs_reason_words.specs.declared.form.Form.TheVariants.{Lines, Object}
-use Rattle.cs_reason_words.specs.declared.format.Format.{Format}
+use Rattle.cs_reason_words.specs.declared.form.Format.{Format}
 use Rattle.cs_tool.specs.declared.rules.Rules.{Rules}
-use Rattle.cs_judge.specs.Answering.{AreAnswered}
+use Rattle.cs_judge.specs.Answering.{AreAnswered, StandsAt}
 use Rattle.cs_judge.specs.declared.lines.LineRun.{LineRun}
-use Rattle.cs_judge.specs.Explained.{IsTold, Tells, root_form, schema_form, IsReport, ReportsAsked, IsLabelled, members_text, input_member, IsDocumentFront, IsWrittenOf, behind, line_number, no_object, one_object, AreTold, IsWritten, AreToldTo}
+use Rattle.cs_judge.specs.Explained.{IsTold, Tells, root_form, schema_form, IsReport, ReportsAsked, IsLabelled, members_text, input_member, IsDocumentFront, IsBehindFront, IsWrittenOf, behind, told_line, line_number, no_object, one_object, AreTold, IsWritten, AreToldTo}
 use Rattle.cs_judge.specs.Judged.{call_on}
-use Rattle.cs_judge.specs.Lines.{Answer, IsTextAnswer, answer_line, labelled}
+use Rattle.cs_judge.specs.Lines.{Answer, IsTextAnswer, IsLineAnswer, answer_line, worse, outcome_of_answer, Hands}
 use Rattle.cs_tool.specs.Runs.{IsCallAnswer, IsCallRefusal, verdict_text}
-use Rattle.cs_judge.proofs.LineRuns.{line_told, weaker}
+use Rattle.cs_judge.proofs.LineRuns.{line_told, one_more, weaker}
 
 -- nothing was told before
 pub told_first : (form : Option Form) (truth : Bool) (told : List ℕ) → Tells form truth [] told → IsTold form truth told
@@ -43,24 +41,19 @@ pub labelled_told : (label : List ℕ) (truth : Bool) (told : List ℕ) → IsTo
 labelled_told label true told h = ap (behind label) h
 labelled_told label false told h = (h.0, ap (behind label) h.1 ∙ sym (append_assoc (shown label ++ codes ": ") (answer_line (Ok false)) h.0), h.2)
 
--- that is written of an answer with a verdict
-pub written_behind : (label told : List ℕ) (answer : Answer) (truth : Bool) → answer ≡ Ok truth → IfOk answer (λ b. IsTold (Some Lines) b told) → IsWrittenOf (Some Lines) label answer (behind label told)
-written_behind label told (Ok valid) truth is h = labelled_told label valid told h
-written_behind label told (Err e) truth is h = absurd (cc is)
+-- what follows the label is written of the answer, without reasons and with them
+pub line_alone : (label told : List ℕ) (answer : Answer) → IfOk answer (λ b. IsTold None b told) → IsWrittenOf None label answer (behind label (told_line answer told))
+line_alone label told (Ok truth) h = ap (behind label) h
+line_alone label told (Err e) h = refl
 
--- of a refusal there is the line alone
-pub written_refused : (label : List ℕ) (answer : Answer) (e : _) → answer ≡ Err e → IsWrittenOf (Some Lines) label answer (labelled label answer)
-written_refused label (Ok valid) e is = absurd (cc is)
-written_refused label (Err f) e is = refl
+pub line_told_with_reasons : (label told : List ℕ) (answer : Answer) → IfOk answer (λ b. IsTold (Some Lines) b told) → IsWrittenOf (Some Lines) label answer (behind label (told_line answer told))
+line_told_with_reasons label told (Ok truth) h = labelled_told label truth told h
+line_told_with_reasons label told (Err e) h = refl
 
 -- the object of a document
-pub written_object : (form : Form) (format : Format) (label told : List ℕ) (answer : Answer) (front : List ℕ) → form ≡ Object format → IfOk answer (λ b. IsTold (Some form) b told) → IsDocumentFront label front → IsWrittenOf (Some form) label answer (front ++ members_text answer told)
-written_object Lines format label told answer front is h f = absurd (cc is)
-written_object (Object written) format label told answer front is h f = (front, f, (told, h, refl))
-
--- three writes, one after the other
-pub three_parts : (a b c d : Option (List ℕ)) (first second third : List ℕ) → Appends a b first → Appends b c second → Appends c d third → Appends a d (first ++ second ++ third)
-three_parts a b c d first second third f s t = Appends-trans a c d (first ++ second) third (Appends-trans a b c first second f s) t
+pub written_object : (format : Format) (name label told : List ℕ) (answer : Answer) → name ≡ label → IfOk answer (λ b. IsTold (Some (Object format)) b told)
+    → (text : List ℕ) → IsBehindFront name (members_text answer told) text → IsWrittenOf (Some (Object format)) label answer text
+written_object format name label told answer same h text b = (b.0, subst (λ n. IsDocumentFront n b.0) same b.1, (told, h, b.2))
 
 -- ---- the objects of lines
 
@@ -88,6 +81,13 @@ module _ (form : Option Form) (number : ℕ) (answer : Answer) (more : List ℕ)
 
   pub written_to : AreToldTo form (min (number + 1) (2 ^ 64 - 1)) (answers ++ answer ∷ []) (text ++ more)
   written_to = (written, next_number answers answer number h.1)
+
+-- one more line is answered, and the next one is begun
+pub next_line : (form : Option Form) (number : ℕ) (answer : Answer) (more : List ℕ) → IsWritten form number answer more
+    → (rules : Rules) (start mid now : Option (List ℕ)) (lines : List (List ℕ)) (line : List ℕ) (run : LineRun) → AreAnswered (AreToldTo form number) rules start mid lines run → IsLineAnswer rules line answer
+    → (after : LineRun) → after.line.line ≡ min (number + 1) (2 ^ 64 - 1) → Hands mid now (run.held ++ more) after.held → after.outcome ≡ worse run.outcome (outcome_of_answer answer) → StandsAt form rules start now (lines ++ line ∷ []) after
+next_line form number answer more w rules start mid now lines line run a is after next handed outcome =
+    subst (λ n. AreAnswered (AreToldTo form n) rules start now (lines ++ line ∷ []) after) (sym next) (one_more rules start mid now lines line answer more run (written_to form number answer more w) a is after handed outcome)
 
 -- whatever the number of the next line is
 pub at_any_line : (form : Option Form) (number : ℕ) (rules : Rules) (start now : Option (List ℕ)) (lines : List (List ℕ)) (run : LineRun) → AreAnswered (AreToldTo form number) rules start now lines run → AreAnswered (AreTold form) rules start now lines run

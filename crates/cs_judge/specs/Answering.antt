@@ -4,8 +4,10 @@ use Rattle.std.specs.List.{All, flat_map}
 use Rattle.cs_judge.specs.declared.lines.LineRun.{LineRun}
 use Rattle.cs_tool.specs.declared.rules.Rules.{Rules}
 use Rattle.cs_judge.specs.Begun.{HoldsFront}
+use Rattle.cs_judge.specs.Explained.{AreToldTo}
 use Rattle.cs_judge.specs.Lines.{Answer, IsLine, Splits, AreAnswers, outcome_of, Hands}
 use Rattle.cs_tool.specs.Runs.{line_of}
+use Rattle.cs_reason_words.specs.declared.form.Form.{Form}
 use Rattle.cs_tool.specs.Streams.{AppendsFront}
 
 -- the lines are answered, and what is written of the answers was taken by the writer or is held
@@ -24,6 +26,13 @@ pub record IsAnswered (IsTextOf : List Answer → List ℕ → Type 0) (rules : 
   pub split : Splits bytes lines rest
   pub begun : HoldsFront run.begun rest
   pub answered : AreAnswered IsTextOf rules start now lines run
+
+-- the same of a run, with what is told up to the line that is begun
+abbrev pub StandsAt : Option Form → Rules → Option (List ℕ) → Option (List ℕ) → List (List ℕ) → LineRun → Type 0
+StandsAt form rules start now lines run = AreAnswered (AreToldTo form run.line.line) rules start now lines run
+
+abbrev pub Stands : Option Form → Rules → Option (List ℕ) → Option (List ℕ) → List ℕ → LineRun → Type 0
+Stands form rules start now bytes run = IsAnswered (AreToldTo form run.line.line) rules start now bytes run
 
 -- the writer took a front of what is written of the lines
 pub record AreCutOff (IsTextOf : List Answer → List ℕ → Type 0) (rules : Rules) (lines : List (List ℕ)) (start now : Option (List ℕ)) : Type 0 where

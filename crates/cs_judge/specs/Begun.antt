@@ -1,8 +1,8 @@
 -- What is kept of the front of a line.
 use Rattle.std.specs.Prelude.{◌≡◌, ℕ, ◌<◌, ◌≤◌, List, length}
-use Rattle.cs_judge.specs.declared.begun_line.BegunLine.{BegunLine}
-use Rattle.cs_judge.specs.declared.begun_line.Kept.{Kept}
-use Rattle.cs_judge.specs.declared.begun_line.Kept.TheVariants.{All, TooLong, OutOfMemory}
+use Rattle.cs_judge.specs.declared.lines.BegunLine.{BegunLine}
+use Rattle.cs_judge.specs.declared.lines.Kept.{Kept}
+use Rattle.cs_judge.specs.declared.lines.Kept.TheVariants.{All, TooLong, OutOfMemory}
 use Rattle.cs_tool.specs.Runs.{most_input_bytes}
 
 abbrev pub IsKept : Kept → List ℕ → List ℕ → Type 0

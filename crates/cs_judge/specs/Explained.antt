@@ -7,9 +7,9 @@ use Rattle.cs_reason_words.specs.Formats.{asks_standard}
 use Rattle.cs_reason_words.specs.Valid.{EndsInLine, Says, Reports}
 use Rattle.cs_reason_words.specs.declared.form.Form.{Form}
 use Rattle.cs_reason_words.specs.declared.form.Form.TheVariants.{Lines, Object}
-use Rattle.cs_judge.specs.declared.why.Why.{Why}
+use Rattle.cs_judge.specs.declared.text_judge.Why.{Why}
 use Rattle.cs_judge.specs.Judged.{call_on}
-use Rattle.cs_judge.specs.Lines.{Answer, AreAnswerLines, answer_line, labelled, Hands}
+use Rattle.cs_judge.specs.Lines.{Answer, AreAnswerLines, answer_line, labelled}
 use Rattle.cs_tool.specs.Objects.{error_member}
 use Rattle.cs_tool.specs.Runs.{IsCallAnswer, IsCallRefusal, verdict_text, line_of}
 use Rattle.cs_tool.specs.Streams.{AppendsFront}
@@ -82,6 +82,10 @@ document_member name = codes "{\"document\":" ++ quoted name ++ codes ","
 abbrev pub IsDocumentFront : List ℕ → List ℕ → Type 0
 IsDocumentFront name front = (front ≡ document_member name) ⊎ (front ≡ codes "{")
 
+-- these members behind it
+abbrev pub IsBehindFront : List ℕ → List ℕ → List ℕ → Type 0
+IsBehindFront name members text = (front : List ℕ) × IsDocumentFront name front × (text ≡ front ++ members)
+
 -- the object of a document of that label
 abbrev pub IsDocumentObject : Form → List ℕ → Answer → List ℕ → Type 0
 IsDocumentObject form label answer text = (front : List ℕ) × IsDocumentFront label front × IsObject form front answer text
@@ -123,6 +127,11 @@ AreTold (Some (Object format)) answers text = AreObjects (Object format) answers
 abbrev pub behind : List ℕ → List ℕ → List ℕ
 behind label text = shown label ++ codes ": " ++ text
 
+-- what is told of a verdict, or the line of a refusal
+abbrev pub told_line : Answer → List ℕ → List ℕ
+told_line (Ok truth) told = told
+told_line (Err fault) told = answer_line (Err fault)
+
 -- the report says the verdict, where reasons are asked for
 abbrev pub IsReport : Option Form → Bool → List ℕ → Type 0
 IsReport None truth report = Unit {0}
@@ -138,14 +147,6 @@ abbrev pub IsWritten : Option Form → ℕ → Answer → List ℕ → Type 0
 IsWritten None number answer text = text ≡ answer_line answer
 IsWritten (Some Lines) number answer text = text ≡ answer_line answer
 IsWritten (Some (Object format)) number answer text = IsObject (Object format) (input_member number) answer text
-
--- it is held behind what was held
-abbrev pub HoldsWritten : Option Form → ℕ → Answer → Option (List ℕ) → Option (List ℕ) → List ℕ → List ℕ → Type 0
-HoldsWritten form number answer start now before after = (text : List ℕ) × IsWritten form number answer text × Hands start now (before ++ text) after
-
--- the writer took a front of both
-abbrev pub LeavesWritten : Option Form → ℕ → Answer → Option (List ℕ) → Option (List ℕ) → List ℕ → Type 0
-LeavesWritten form number answer start now before = (text : List ℕ) × IsWritten form number answer text × AppendsFront start now (before ++ text)
 
 -- what is written of the answers, up to the line of that number
 abbrev pub AreToldTo : Option Form → ℕ → List Answer → List ℕ → Type 0

@@ -1,8 +1,9 @@
 -- What is answered, written and told of documents that are judged one after another.
 pub mod Judged
 pub mod Prepared
-pub mod Verdicts
 pub mod Lines
 pub mod Explained
+pub mod Verdicts
+pub mod Writing
 pub mod Begun
 pub mod Answering

@@ -7,8 +7,8 @@ use Rattle.cs_tool.specs.declared.rules.Rules.{Rules}
 use Rattle.cs_tool.specs.declared.rules.Rules.TheVariants as rules
 use Rattle.cs_judge.specs.declared.text_judge.ReadRules.{ReadRules}
 use Rattle.cs_judge.specs.declared.text_judge.ReadRules.TheVariants as read
-use Rattle.cs_judge.specs.declared.text_judge.NumberedRules.{NumberedRules}
-use Rattle.cs_judge.specs.declared.text_judge.NumberedRules.TheVariants as numbered
+use Rattle.cs_judge.specs.declared.verdict.NumberedRules.{NumberedRules}
+use Rattle.cs_judge.specs.declared.verdict.NumberedRules.TheVariants as numbered
 
 abbrev pub IsReadOf : Rules → ReadRules → Type 0
 IsReadOf (rules.Root sources root) (read.Root g r) = (r.now ≡ string_bytes root) × ((n : List ℕ) × DeclaresRoot (map (λ s. s.items) sources.items) (string_bytes root) g n)

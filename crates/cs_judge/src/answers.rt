@@ -1,16 +1,24 @@
-// Answers to texts, and the lines that tell them.
-ghost use Rattle.std.specs.Prelude.{◌≡◌, ◌+◌, ◌≤◌, ◌++◌, length, take, Err, OnOk, OnErr};
+// Answers to texts, and how they are written: of a document at once, and of lines held back until the input is read again.
+ghost use Rattle.std.specs.Prelude.{◌≡◌, ◌⊎◌, ◌+◌, ◌≤◌, ◌++◌, ℕ, List, [], Some, length, take, drop, Err, OnOk, IfOk, IfErr};
 ghost use Rattle.std.specs.Io.KnownBytes.{Appends};
-ghost use Rattle.cs_tool.specs.Streams.{AppendsFront};
-ghost use Rattle.cs_judge.specs.Lines.{answer_line, worse, outcome_of_answer, labelled};
+ghost use Rattle.cs_judge.specs.Explained.{asked_form, IsToldAnswer, LeavesTold, IsTold, IsDocumentFront, IsBehindFront, IsWrittenOf, document_member, members_text, behind, told_line, WritesLabelled, LeavesLabelled};
+ghost use Rattle.cs_judge.specs.Judged.{call_on};
+ghost use Rattle.cs_judge.specs.Lines.{Answer, IsTextAnswer, answer_line, worse, outcome_of_answer, most_held};
+ghost use Rattle.cs_judge.specs.Writing.{Writes, WritesSome, Holds};
+ghost use Rattle.cs_tool.specs.Runs.{IsReadyCall};
 
-use cs_place::Label;
-use cs_tool::{Fault, put, write_part, write_text};
+use crate::text_judge::{TextJudge, Why, form_of, verdict_line};
+use cs_place::{Label, Named};
+use cs_reason_words::Form;
+use cs_tool::{Fault, MEMBER_ROOM, put, put_error, write_part, write_text};
 use itoa::Buffer;
+use json::Writer;
+use std::alloc::{AllocError, Global};
 use std::io::Write;
+use std::marker::Model;
 
 /// The line of an answer has at most these bytes: a number of 10 digits, and 7 bytes round it.
-pub(crate) const ANSWER_ROOM: usize = 32;
+const ANSWER_ROOM: usize = 32;
 
 /// What came of texts that were judged one after another.
 #[derive(Clone, Copy)]
@@ -50,39 +58,291 @@ pub(crate) fn outcome_of(answer: &Result<bool, Fault>) -> LinesOutcome
     }
 }
 
-/// Puts the answer's line at a place, and returns where it ends.
-pub(crate) fn put_answer(line: &mut [u8], at: usize, answer: &Result<bool, Fault>) -> usize
-    requires { at + ANSWER_ROOM ≤ length line.old }
-    ensures within { result ≤ length line.old }
-    ensures text { take result line.new ≡ take at line.old ++ answer_line answer.now }
+/// The line of an answer. That of a refusal is put in the room.
+fn line_of<'a>(answer: &Result<bool, Fault>, room: &'a mut [u8]) -> &'a [u8]
+    requires { ANSWER_ROOM ≤ length room.old }
+    ensures { result.now ≡ answer_line answer.now }
 {
     match answer {
-        Ok(true) => put(line, at, b"valid\n"),
-        Ok(false) => put(line, at, b"invalid\n"),
+        Ok(valid) => verdict_line(*valid),
         Err(fault) => {
-            let mut end = put(line, at, b"error ");
-            end = put(line, end, Buffer::new().format(fault.number()).as_bytes());
-            put(line, end, b"\n")
+            let end = put(room, 0, b"error ");
+            let end = put(room, end, Buffer::new().format(fault.number()).as_bytes());
+            let end = put(room, end, b"\n");
+            &room[..end]
         }
     }
 }
 
-/// Writes the label, the answer and a newline, and flushes.
-pub(crate) fn write_labelled<W: Write>(
+/// Judges the document, writes what [`TextJudge::explain`] tells of it, and flushes.
+///
+/// A refusal of the call is handed on, with nothing written. `WriteFailed`: what the writer took is a front of what is told.
+pub fn run_document<W: Write>(
+    alloc: Global,
+    judge: &mut TextJudge<'_>,
+    document: Named<'_>,
+    why: Option<Why<'_>>,
+    output: &mut W,
+) -> Result<bool, Fault>
+    ensures done { IfOk result (λ truth. (told : List ℕ)
+        × IsToldAnswer judge.old document.entry.text.now (asked_form why.entry) truth told
+        × Appends (W.contents output.old) (W.contents output.new) told) }
+    ensures refused { IfErr result (λ e.
+        LeavesTold judge.old document.entry.text.now (asked_form why.entry) e
+        (W.contents output.old) (W.contents output.new)) }
+    ensures only { IsReadyCall (call_on judge.old document.entry.text.now)
+        → IfErr result (λ e. (e ≡ Fault.OutOfMemory) ⊎ (e ≡ Fault.WriteFailed)) }
+    ensures same { judge.new ≡ judge.old }
+{
+    let mut told = Vec::new(alloc);
+    let truth = judge.explain(document, why, &mut told)?;
+    write_text(output, &told)?;
+    Ok(truth)
+}
+
+/// Judges the text, and writes what is told of it under its label; then flushes. In lines, and where no reasons are asked for, that is
+/// `LABEL: valid`, `LABEL: invalid` or `LABEL: error N`, where the label is shown and N is the number of the refusal, and in lines one at
+/// least behind `invalid`; else one object, whose first member is `document`, the name itself, with `error` for a refusal.
+///
+/// `WriteFailed` alone: the writer took a front of that.
+pub fn write_document<W: Write>(
+    alloc: Global,
+    judge: &mut TextJudge<'_>,
+    text: &[u8],
+    label: &Label<'_>,
+    why: Option<Why<'_>>,
+    output: &mut W,
+) -> Result<LinesOutcome, Fault>
+    ensures done { IfOk result (λ outcome. (answer : Answer)
+        × IsTextAnswer judge.old text.now answer × (outcome ≡ outcome_of_answer answer)
+        × WritesLabelled (asked_form why.entry) label.now answer
+        (W.contents output.old) (W.contents output.new)) }
+    ensures refused { IfErr result (λ e. (e ≡ Fault.WriteFailed) × (answer : Answer)
+        × IsTextAnswer judge.old text.now answer
+        × LeavesLabelled (asked_form why.entry) label.now answer
+        (W.contents output.old) (W.contents output.new)) }
+    ensures same { judge.new ≡ judge.old }
+{
+    let document = Named {
+        name: label.name(),
+        text,
+        line: 1,
+    };
+    let mut told = Vec::new(alloc);
+    let answer = judge.explain(document, why, &mut told);
+    write_told(alloc, form_of(why), &answer, label, &told, output)?;
+    Ok(outcome_of(&answer))
+}
+
+/// Writes the refusal of a document that couldn't be read, as [`write_document`] does.
+///
+/// `WriteFailed` alone: the writer took a front of that.
+pub fn write_unread<W: Write>(
+    alloc: Global,
+    fault: Fault,
+    label: &Label<'_>,
+    why: Option<Why<'_>>,
+    output: &mut W,
+) -> Result<LinesOutcome, Fault>
+    ensures done { IfOk result (λ outcome. (outcome ≡ LinesOutcome.SomeRefused)
+        × WritesLabelled (asked_form why.entry) label.now (Err fault)
+        (W.contents output.old) (W.contents output.new)) }
+    ensures refused { IfErr result (λ e. (e ≡ Fault.WriteFailed)
+        × LeavesLabelled (asked_form why.entry) label.now (Err fault)
+        (W.contents output.old) (W.contents output.new)) }
+{
+    write_told(alloc, form_of(why), &Err(fault), label, b"", output)?;
+    Ok(LinesOutcome::SomeRefused)
+}
+
+/// Writes an answer under a name, with what is told of it; then flushes.
+fn write_told<W: Write>(
+    alloc: Global,
+    form: Option<Form>,
     answer: &Result<bool, Fault>,
     label: &Label<'_>,
+    told: &[u8],
     output: &mut W,
 ) -> Result<(), Fault>
-    ensures all { OnOk result (Appends (W.contents output.old) (W.contents output.new)
-        (labelled label.now answer.now)) }
-    ensures front { OnErr result (AppendsFront (W.contents output.old) (W.contents output.new)
-        (labelled label.now answer.now)) }
-    ensures kind { OnErr result (result ≡ Err Fault.WriteFailed) }
+    ensures { IfOk answer.now (λ b. IsTold form b told.now)
+        → WritesSome result (W.contents output.old) (W.contents output.new)
+        (IsWrittenOf form label.now answer.now) }
 {
-    let mut line = [0u8; 2 * ANSWER_ROOM];
-    let line = &mut line[..];
-    let start = put(line, 0, b": ");
-    let end = put_answer(line, start, answer);
+    match form {
+        None => write_line(answer, label, told, output),
+        Some(Form::Lines) => write_line(answer, label, told, output),
+        Some(Form::Object(_)) => write_object(alloc, answer, label.name(), told, output),
+    }
+}
+
+/// Writes what is told of an answer behind a label, or of a refusal the line; then flushes.
+fn write_line<W: Write>(
+    answer: &Result<bool, Fault>,
+    label: &Label<'_>,
+    told: &[u8],
+    output: &mut W,
+) -> Result<(), Fault>
+    ensures { Writes result (W.contents output.old) (W.contents output.new)
+        (behind label.now (told_line answer.now told.now)) }
+{
+    match answer {
+        Ok(_) => write_behind(label, told, output),
+        Err(_) => {
+            let mut room = [0u8; ANSWER_ROOM];
+            write_behind(label, line_of(answer, &mut room), output)
+        }
+    }
+}
+
+/// Writes a text behind a label; then flushes.
+fn write_behind<W: Write>(label: &Label<'_>, told: &[u8], output: &mut W) -> Result<(), Fault>
+    ensures { Writes result (W.contents output.old) (W.contents output.new)
+        (behind label.now told.now) }
+{
     write_part(output, label.shown().as_bytes())?;
-    write_text(output, &line[..end])
+    write_part(output, b": ")?;
+    write_text(output, told)
+}
+
+/// Writes the object of an answer, whose name is its first member; then flushes.
+fn write_object<W: Write>(
+    alloc: Global,
+    answer: &Result<bool, Fault>,
+    name: &str,
+    told: &[u8],
+    output: &mut W,
+) -> Result<(), Fault>
+    ensures { WritesSome result (W.contents output.old) (W.contents output.new)
+        (IsBehindFront name.now (members_text answer.now told.now)) }
+{
+    let mut room = [0u8; MEMBER_ROOM];
+    write_front(alloc, name, output)?;
+    write_text(output, members_of(answer, told, &mut room))
+}
+
+/// Writes what the object of a document of that name begins with. The name is left out where memory runs out.
+fn write_front<W: Write>(alloc: Global, name: &str, output: &mut W) -> Result<(), Fault>
+    ensures { WritesSome result (W.contents output.old) (W.contents output.new)
+        (IsDocumentFront name.now) }
+{
+    match document_front(alloc, name) {
+        Ok(front) => write_part(output, &front),
+        Err(AllocError) => write_part(output, b"{"),
+    }
+}
+
+/// The beginning of the object of a document of that name, with its first member.
+fn document_front(alloc: Global, name: &str) -> Result<Vec<u8>, AllocError>
+    ensures { IfOk result (λ front. front.items ≡ document_member name.now) }
+{
+    let mut out = Writer::new(Vec::new(alloc));
+    out.begin_object()?;
+    out.key("document")?;
+    out.string(name)?;
+    let mut front = out.into_inner();
+    front.push(b',')?;
+    Ok(front)
+}
+
+/// What follows the front of an object that tells an answer: what is told behind its first byte, or a refusal, which is put in the room.
+pub(crate) fn members_of<'a>(
+    answer: &Result<bool, Fault>,
+    told: &'a [u8],
+    room: &'a mut [u8],
+) -> &'a [u8]
+    requires { MEMBER_ROOM ≤ length room.old }
+    ensures { result.now ≡ members_text answer.now told.now }
+{
+    match answer {
+        Ok(_) => match told {
+            [] => told,
+            [_, members @ ..] => members,
+        },
+        Err(fault) => {
+            let end = put_error(room, 0, fault);
+            let end = put(room, end, b"}\n");
+            &room[..end]
+        }
+    }
+}
+
+/// The bytes that are held at most.
+const HELD: usize = 65_536;
+
+/// The lines of the last answers, which aren't written yet.
+#[derive(Drop)]
+pub(crate) struct HeldAnswers {
+    bytes: Vec<u8>,
+    end: usize,
+}
+
+impl Model for HeldAnswers {
+    ghost Value = { List ℕ };
+
+    ghost view = { λ h. take h.end h.bytes.items };
+
+    ghost invariant = { λ h. (h.end ≤ most_held) × (length h.bytes.items ≡ most_held) };
+}
+
+impl HeldAnswers {
+    /// No answer.
+    pub(crate) fn new(alloc: Global) -> Result<HeldAnswers, AllocError>
+        ensures { IfOk result (λ h. h ≡ []) }
+    {
+        let bytes = vec![in alloc; 0u8; HELD]?;
+        Ok(HeldAnswers { bytes, end: 0 })
+    }
+
+    /// Holds the line of one more answer.
+    pub(crate) fn hold<W: Write>(
+        &mut self,
+        answer: &Result<bool, Fault>,
+        output: &mut W,
+    ) -> Result<(), Fault>
+        ensures { Holds result (W.contents output.old) (W.contents output.new)
+            (self.old ++ answer_line answer.now) self.new }
+    {
+        let mut room = [0u8; ANSWER_ROOM];
+        self.hold_text(line_of(answer, &mut room), output)
+    }
+
+    /// Holds one more text, of two parts.
+    pub(crate) fn hold_both<W: Write>(
+        &mut self,
+        first: &[u8],
+        second: &[u8],
+        output: &mut W,
+    ) -> Result<(), Fault>
+        ensures { Holds result (W.contents output.old) (W.contents output.new)
+            (self.old ++ first.now ++ second.now) self.new }
+    {
+        self.hold_text(first, output)?;
+        self.hold_text(second, output)
+    }
+
+    /// Holds one more text. Writes what is held where there is no room, and the text too where it is longer than what may be held.
+    pub(crate) fn hold_text<W: Write>(&mut self, text: &[u8], output: &mut W) -> Result<(), Fault>
+        ensures { Holds result (W.contents output.old) (W.contents output.new)
+            (self.old ++ text.now) self.new }
+    {
+        if text.len() > HELD - self.end {
+            write_part(output, &self.bytes[..self.end])?;
+            self.end = 0;
+        }
+        if text.len() > HELD {
+            return write_part(output, text);
+        }
+        self.end = put(&mut self.bytes, self.end, text);
+        Ok(())
+    }
+
+    /// Writes what is held, and flushes.
+    pub(crate) fn write_out<W: Write>(&mut self, output: &mut W) -> Result<(), Fault>
+        ensures written { Writes result (W.contents output.old) (W.contents output.new) self.old }
+        ensures empty { OnOk result (self.new ≡ []) }
+    {
+        write_text(output, &self.bytes[..self.end])?;
+        self.end = 0;
+        Ok(())
+    }
 }

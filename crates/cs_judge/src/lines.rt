@@ -1,21 +1,16 @@
-// A run over the lines of an input.
-ghost use Rattle.std.specs.Prelude.{◌≡◌, ◌⊎◌, ℕ, ◌+◌, ◌-◌, ◌^◌, min, List, ◌∷◌, [], ◌++◌, ◌<◌, ◌≤◌, length, take, Option, Some, OnOk, OnErr, IfOk, IfErr, Err};
+// A run over the lines of an input, which is read in pieces.
+ghost use Rattle.std.specs.Prelude.{◌≡◌, ◌↔◌, ◌⊎◌, ◌+◌, ◌-◌, ◌^◌, ◌<◌, ◌≤◌, ◌++◌, ◌∷◌, [], ℕ, List, Option, Some, min, length, take, Err, OnOk, OnErr, IfOk, IfErr, IsTrue};
+ghost use Rattle.cs_judge.specs.Answering.{Stands, StandsAt, AreCutOff, IsCutOffIn};
 ghost use Rattle.cs_judge.specs.Begun.{HoldsFront};
-ghost use Rattle.cs_judge.specs.Explained.{asked_form, IsTold, input_member, members_text, AreTold, AreToldTo, HoldsWritten, LeavesWritten};
-ghost use Rattle.cs_judge.specs.Lines.{IsDone, IsCutOff, LeavesLines, IsOfRules, Hands};
-ghost use Rattle.cs_judge.specs.Answering.{AreAnswered, IsAnswered, AreCutOff, IsCutOffIn};
-ghost use Rattle.cs_tool.specs.Streams.{AppendsFront};
+ghost use Rattle.cs_judge.specs.Explained.{asked_form, IsTold, Tells, input_member, members_text, AreTold, IsWritten};
+ghost use Rattle.cs_judge.specs.Lines.{IsDone, IsCutOff, LeavesLines, IsOfRules, IsLineAnswer};
+ghost use Rattle.cs_judge.specs.Writing.{Holds, HoldsSome};
 
-use crate::answers::{LinesOutcome, outcome_of};
-use crate::begun_line::BegunLine;
-use crate::documents::members_of;
-use crate::held_answers::HeldAnswers;
-use crate::telling::verdict_line;
-use crate::text_judge::TextJudge;
-use crate::why::{Why, form_of};
+use crate::answers::{HeldAnswers, LinesOutcome, members_of, outcome_of};
+use crate::text_judge::{TextJudge, Why, form_of, verdict_line};
 use cs_place::Named;
 use cs_reason_words::Form;
-use cs_tool::{Fault, MEMBER_ROOM, put, put_error};
+use cs_tool::{Fault, MEMBER_ROOM, MOST_INPUT_BYTES, put};
 use itoa::Buffer;
 use memchr::memchr;
 use std::alloc::{AllocError, Global};
@@ -24,18 +19,12 @@ use std::io::{Read, Write};
 /// How many bytes are asked for at a time.
 const CHUNK: usize = 65_536;
 
-/// The answers of a run between two reads.
-#[derive(Drop)]
-pub(crate) struct LineRun {
-    pub(crate) begun: BegunLine,
-    pub(crate) held: HeldAnswers,
-    pub(crate) outcome: LinesOutcome,
-}
-
 /// A run between two reads, with what is told of its lines.
 #[derive(Drop)]
-struct ToldRun<'a> {
-    run: LineRun,
+struct LineRun<'a> {
+    begun: BegunLine,
+    held: HeldAnswers,
+    outcome: LinesOutcome,
     /// The name of the input, and the number of the line that is begun.
     line: Named<'a>,
     /// What is told of the line before.
@@ -75,7 +64,7 @@ pub fn run_lines<R: Read, W: Write, E: Write>(
     ensures only { IfErr result (λ e. (e ≡ Fault.OutOfMemory)
         ⊎ (e ≡ Fault.ReadFailed) ⊎ (e ≡ Fault.WriteFailed)) }
 {
-    let mut run = ToldRun::new(alloc, name)?;
+    let mut run = LineRun::new(alloc, name)?;
     let mut chunk = vec![in alloc; 0u8; CHUNK]?;
     answer_chunks(&mut judge, &mut run, why, &mut chunk, input, output, notes)
 }
@@ -83,7 +72,7 @@ pub fn run_lines<R: Read, W: Write, E: Write>(
 /// Answers the lines of the input, as many bytes at a time as the chunk has.
 fn answer_chunks<R: Read, W: Write, E: Write>(
     judge: &mut TextJudge<'_>,
-    run: &mut ToldRun<'_>,
+    run: &mut LineRun<'_>,
     why: Option<Why<'_>>,
     chunk: &mut [u8],
     input: &mut R,
@@ -91,9 +80,9 @@ fn answer_chunks<R: Read, W: Write, E: Write>(
     notes: &mut E,
 ) -> Result<LinesOutcome, Fault>
     requires room { 0 < length chunk.old }
-    requires start { IsAnswered (AreToldTo (asked_form why) run.old.line.line) judge.old
-        (W.contents output.old) (W.contents output.old) [] run.old.run }
-    requires none { run.old.run.held ≡ [] }
+    requires start { Stands (asked_form why) judge.old
+        (W.contents output.old) (W.contents output.old) [] run.old }
+    requires none { run.old.held ≡ [] }
     ensures done { IfOk result (IsDone (AreTold (asked_form why.entry)) judge.old
         (R.remaining input.old) (W.contents output.old) (W.contents output.new)) }
     ensures refused { IfErr result (λ e. LeavesLines (AreTold (asked_form why.entry)) judge.old e
@@ -107,45 +96,44 @@ fn answer_chunks<R: Read, W: Write, E: Write>(
         };
         if count == 0 {
             run.finish(judge, why, output, notes)?;
-            return Ok(run.run.outcome);
+            return Ok(run.outcome);
         }
         run.answer_chunk(judge, why, &chunk[..count], output, notes)?;
         run.notes.write_out(notes)?;
-        run.run.held.write_out(output)?;
+        run.held.write_out(output)?;
     }
     Err(Fault::ReadFailed)
 }
 
-impl<'a> ToldRun<'a> {
+impl<'a> LineRun<'a> {
     /// A run before its first line.
-    fn new(alloc: Global, name: &'a str) -> Result<ToldRun<'a>, AllocError>
-        ensures begun { IfOk result (λ r. HoldsFront r.run.begun []) }
-        ensures held { IfOk result (λ r. r.run.held ≡ []) }
-        ensures outcome { IfOk result (λ r. r.run.outcome ≡ LinesOutcome.AllValid) }
+    fn new(alloc: Global, name: &'a str) -> Result<LineRun<'a>, AllocError>
+        ensures begun { IfOk result (λ r. HoldsFront r.begun []) }
+        ensures held { IfOk result (λ r. r.held ≡ []) }
+        ensures outcome { IfOk result (λ r. r.outcome ≡ LinesOutcome.AllValid) }
         ensures first { IfOk result (λ r. r.line.line ≡ 1) }
     {
         let held = HeldAnswers::new(alloc)?;
         let notes = HeldAnswers::new(alloc)?;
-        let run = LineRun {
-            begun: BegunLine::new(alloc),
-            held,
-            outcome: LinesOutcome::AllValid,
+        let begun = BegunLine {
+            bytes: Vec::new(alloc),
+            kept: Kept::All,
         };
         let line = Named {
             name,
             text: b"",
             line: 1,
         };
-        Ok(ToldRun {
-            run,
+        Ok(LineRun {
+            begun,
+            held,
+            outcome: LinesOutcome::AllValid,
             line,
             told: Vec::new(alloc),
             notes,
         })
     }
-}
 
-impl ToldRun<'_> {
     /// Answers each line that ends in the chunk, and keeps the front of the line after them.
     fn answer_chunk<W: Write, E: Write>(
         &mut self,
@@ -156,15 +144,13 @@ impl ToldRun<'_> {
         notes: &mut E,
     ) -> Result<(), Fault>
         ensures all { (start : Option (List ℕ)) (bytes : List ℕ)
-            → IsAnswered (AreToldTo (asked_form why.entry) self.old.line.line) judge.old
-            start (W.contents output.old) bytes self.old.run
-            → OnOk result (IsAnswered (AreToldTo (asked_form why.entry) self.new.line.line) judge.old
-            start (W.contents output.new) (bytes ++ chunk.now) self.new.run) }
+            → Stands (asked_form why.entry) judge.old start (W.contents output.old) bytes self.old
+            → OnOk result (Stands (asked_form why.entry) judge.old
+            start (W.contents output.new) (bytes ++ chunk.now) self.new) }
         ensures front { (start : Option (List ℕ)) (bytes : List ℕ)
-            → IsAnswered (AreToldTo (asked_form why.entry) self.old.line.line) judge.old
-            start (W.contents output.old) bytes self.old.run
-            → OnErr result (IsCutOffIn (AreTold (asked_form why.entry)) judge.old (bytes ++ chunk.now)
-            start (W.contents output.new)) }
+            → Stands (asked_form why.entry) judge.old start (W.contents output.old) bytes self.old
+            → OnErr result (IsCutOffIn (AreTold (asked_form why.entry)) judge.old
+            (bytes ++ chunk.now) start (W.contents output.new)) }
         ensures kind { OnErr result (result ≡ Err Fault.WriteFailed) }
         ensures same { judge.new ≡ judge.old }
     {
@@ -173,7 +159,7 @@ impl ToldRun<'_> {
             self.answer_line(judge, why, &chunk[at..at + count], output, notes)?;
             at += count + 1;
         }
-        self.run.begun.add(&chunk[at..]);
+        self.begun.add(&chunk[at..]);
         Ok(())
     }
 
@@ -187,16 +173,13 @@ impl ToldRun<'_> {
         notes: &mut E,
     ) -> Result<(), Fault>
         ensures all { (start : Option (List ℕ)) (lines : List (List ℕ)) (front : List ℕ)
-            → AreAnswered (AreToldTo (asked_form why.entry) self.old.line.line) judge.old
-            start (W.contents output.old) lines self.old.run
-            → HoldsFront self.old.run.begun front
-            → OnOk result (AreAnswered (AreToldTo (asked_form why.entry) self.new.line.line) judge.old
-            start (W.contents output.new) (lines ++ (front ++ piece.now) ∷ []) self.new.run) }
-        ensures begun { HoldsFront self.new.run.begun [] }
+            → StandsAt (asked_form why.entry) judge.old start (W.contents output.old) lines self.old
+            → HoldsFront self.old.begun front → OnOk result (StandsAt (asked_form why.entry) judge.old
+            start (W.contents output.new) (lines ++ (front ++ piece.now) ∷ []) self.new) }
+        ensures begun { HoldsFront self.new.begun [] }
         ensures front { (start : Option (List ℕ)) (lines : List (List ℕ)) (front : List ℕ)
-            → AreAnswered (AreToldTo (asked_form why.entry) self.old.line.line) judge.old
-            start (W.contents output.old) lines self.old.run
-            → HoldsFront self.old.run.begun front
+            → StandsAt (asked_form why.entry) judge.old start (W.contents output.old) lines self.old
+            → HoldsFront self.old.begun front
             → OnErr result (AreCutOff (AreTold (asked_form why.entry)) judge.old
             (lines ++ (front ++ piece.now) ∷ []) start (W.contents output.new)) }
         ensures kind { OnErr result (result ≡ Err Fault.WriteFailed) }
@@ -204,23 +187,15 @@ impl ToldRun<'_> {
     {
         self.told.clear();
         let answer = self
-            .run
             .begun
             .finish(judge, piece, self.line, why, &mut self.told);
         let outcome = outcome_of(&answer);
-        self.run.outcome = self.run.outcome.with(outcome);
+        self.outcome = self.outcome.with(outcome);
         let form = form_of(why);
         note(&mut self.notes, form, &self.told, notes)?;
         let number = self.line.line;
         self.line.line = number.saturating_add(1);
-        hold_told(
-            &mut self.run.held,
-            form,
-            number,
-            &answer,
-            &self.told,
-            output,
-        )
+        hold_told(&mut self.held, form, number, &answer, &self.told, output)
     }
 
     /// Answers the line without a newline, where the input ends in one, and writes what is held.
@@ -232,22 +207,20 @@ impl ToldRun<'_> {
         notes: &mut E,
     ) -> Result<(), Fault>
         ensures all { (start : Option (List ℕ)) (bytes : List ℕ)
-            → IsAnswered (AreToldTo (asked_form why.entry) self.old.line.line) judge.old
-            start (W.contents output.old) bytes self.old.run
+            → Stands (asked_form why.entry) judge.old start (W.contents output.old) bytes self.old
             → OnOk result (IsDone (AreTold (asked_form why.entry)) judge.old (Some bytes)
-            start (W.contents output.new) self.new.run.outcome) }
+            start (W.contents output.new) self.new.outcome) }
         ensures front { (start : Option (List ℕ)) (bytes : List ℕ)
-            → IsAnswered (AreToldTo (asked_form why.entry) self.old.line.line) judge.old
-            start (W.contents output.old) bytes self.old.run
+            → Stands (asked_form why.entry) judge.old start (W.contents output.old) bytes self.old
             → OnErr result (IsCutOff (AreTold (asked_form why.entry)) judge.old (Some bytes)
             start (W.contents output.new)) }
         ensures kind { OnErr result (result ≡ Err Fault.WriteFailed) }
     {
-        if !self.run.begun.is_empty() {
+        if !self.begun.is_empty() {
             self.answer_line(judge, why, &[], output, notes)?;
         }
         self.notes.write_out(notes)?;
-        self.run.held.write_out(output)
+        self.held.write_out(output)
     }
 }
 
@@ -278,40 +251,14 @@ fn hold_told<W: Write>(
     told: &[u8],
     output: &mut W,
 ) -> Result<(), Fault>
-    ensures all { IfOk answer.now (λ b. IsTold form b told.now)
-        → OnOk result (HoldsWritten form number answer.now
-        (W.contents output.old) (W.contents output.new) held.old held.new) }
-    ensures front { IfOk answer.now (λ b. IsTold form b told.now)
-        → OnErr result (LeavesWritten form number answer.now
-        (W.contents output.old) (W.contents output.new) held.old) }
-    ensures kind { OnErr result (result ≡ Err Fault.WriteFailed) }
+    ensures { IfOk answer.now (λ b. IsTold form b told.now)
+        → HoldsSome result (W.contents output.old) (W.contents output.new)
+        held.old held.new (IsWritten form number answer.now) }
 {
     match form {
         None => held.hold(answer, output),
-        Some(form) => hold_in_form(held, form, number, answer, told, output),
-    }
-}
-
-/// The same where reasons are asked for in that form.
-fn hold_in_form<W: Write>(
-    held: &mut HeldAnswers,
-    form: Form,
-    number: usize,
-    answer: &Result<bool, Fault>,
-    told: &[u8],
-    output: &mut W,
-) -> Result<(), Fault>
-    ensures all { IfOk answer.now (λ b. IsTold (Some form) b told.now)
-        → OnOk result (HoldsWritten (Some form) number answer.now
-        (W.contents output.old) (W.contents output.new) held.old held.new) }
-    ensures front { IfOk answer.now (λ b. IsTold (Some form) b told.now)
-        → OnErr result (LeavesWritten (Some form) number answer.now
-        (W.contents output.old) (W.contents output.new) held.old) }
-    ensures kind { OnErr result (result ≡ Err Fault.WriteFailed) }
-{
-    match form {
-        Form::Lines => held.hold(answer, output),
-        Form::Object(_) => hold_object(held, number, answer, told, output),
+        Some(Form::Lines) => held.hold(answer, output),
+        Some(Form::Object(_)) => hold_object(held, number, answer, told, output),
     }
 }
 
@@ -323,31 +270,123 @@ fn hold_object<W: Write>(
     told: &[u8],
     output: &mut W,
 ) -> Result<(), Fault>
-    ensures all { OnOk result (Hands (W.contents output.old) (W.contents output.new)
-        (held.old ++ (input_member number ++ members_text answer.now told.now)) held.new) }
-    ensures front { OnErr result (AppendsFront (W.contents output.old) (W.contents output.new)
-        (held.old ++ (input_member number ++ members_text answer.now told.now))) }
-    ensures kind { OnErr result (result ≡ Err Fault.WriteFailed) }
+    ensures { Holds result (W.contents output.old) (W.contents output.new)
+        (held.old ++ (input_member number ++ members_text answer.now told.now)) held.new }
 {
-    let mut front = [0u8; 2 * MEMBER_ROOM];
-    let front = &mut front[..];
-    let end = put_input(front, number);
-    match answer {
-        Ok(_) => held.hold_both(&front[..end], members_of(told), output),
-        Err(fault) => {
-            let end = put_error(front, end, fault);
-            held.hold_both(&front[..end], b"}\n", output)
+    let mut front = [0u8; MEMBER_ROOM];
+    let mut room = [0u8; MEMBER_ROOM];
+    let members = members_of(answer, told, &mut room);
+    held.hold_both(front_of(number, &mut front), members, output)
+}
+
+/// What the object of a line of that number begins with, its first member, which is put in the room.
+fn front_of(number: usize, room: &mut [u8]) -> &[u8]
+    requires { 35 ≤ length room.old }
+    ensures { result.now ≡ input_member number }
+{
+    let end = put(room, 0, b"{\"input\":");
+    let end = put(room, end, Buffer::new().format(number).as_bytes());
+    let end = put(room, end, b",");
+    &room[..end]
+}
+
+/// What is kept of the front of a line.
+#[derive(Clone, Copy)]
+enum Kept {
+    /// All of its bytes.
+    All,
+    /// None: it has more bytes than a text may have.
+    TooLong,
+    /// None: memory ran out.
+    OutOfMemory,
+}
+
+/// The front of a line, up to where the input is read. Its memory is used again for the next line.
+#[derive(Drop)]
+struct BegunLine {
+    bytes: Vec<u8>,
+    kept: Kept,
+}
+
+impl BegunLine {
+    /// Whether the line has no byte yet.
+    fn is_empty(&self) -> bool
+        ensures tells { (front : List ℕ) → HoldsFront self.now front
+            → IsTrue result ↔ (front ≡ []) }
+        ensures begun { IsTrue result → HoldsFront self.now [] }
+    {
+        match self.kept {
+            Kept::All => self.bytes.is_empty(),
+            _ => false,
+        }
+    }
+
+    /// Takes the next piece of the line. Where it can't be kept, no more is.
+    fn add(&mut self, piece: &[u8])
+        ensures { (front : List ℕ) → HoldsFront self.old front
+            → HoldsFront self.new (front ++ piece.now) }
+    {
+        if let Kept::All = self.kept {
+            if piece.len() > MOST_INPUT_BYTES.saturating_sub(self.bytes.len()) {
+                self.kept = Kept::TooLong;
+            } else if !piece.is_empty() && self.bytes.extend_from_slice(piece).is_err() {
+                self.kept = Kept::OutOfMemory;
+            }
+        }
+    }
+
+    /// Answers the line that ends with the piece, adds what is told of it under its name and number, and begins the next one. A line that
+    /// is one piece is judged where it is.
+    fn finish(
+        &mut self,
+        judge: &mut TextJudge<'_>,
+        piece: &[u8],
+        line: Named<'_>,
+        why: Option<Why<'_>>,
+        told: &mut Vec<u8>,
+    ) -> Result<bool, Fault>
+        ensures answer { (front : List ℕ) → HoldsFront self.old front
+            → IsLineAnswer judge.old (front ++ piece.now) result }
+        ensures empty { HoldsFront self.new [] }
+        ensures told { IfOk result
+            (λ b. Tells (asked_form why.entry) b told.old.items told.new.items) }
+        ensures same { judge.new ≡ judge.old }
+    {
+        if self.is_empty() && piece.len() <= MOST_INPUT_BYTES {
+            return judge.explain(with_text(line, piece), why, told);
+        }
+        self.add(piece);
+        let answer = self.answered(judge, line, why, told);
+        self.bytes.clear();
+        self.kept = Kept::All;
+        answer
+    }
+
+    /// The answer to the line, with what is told of it.
+    fn answered(
+        &self,
+        judge: &mut TextJudge<'_>,
+        line: Named<'_>,
+        why: Option<Why<'_>>,
+        told: &mut Vec<u8>,
+    ) -> Result<bool, Fault>
+        ensures answer { (line : List ℕ) → HoldsFront self.now line
+            → IsLineAnswer judge.old line result }
+        ensures told { IfOk result
+            (λ b. Tells (asked_form why.entry) b told.old.items told.new.items) }
+        ensures same { judge.new ≡ judge.old }
+    {
+        match self.kept {
+            Kept::All => judge.explain(with_text(line, &self.bytes), why, told),
+            Kept::TooLong => Err(Fault::InputTooLong),
+            Kept::OutOfMemory => Err(Fault::OutOfMemory),
         }
     }
 }
 
-/// Puts the beginning of the object of a line of that number, with its first member.
-fn put_input(line: &mut [u8], number: usize) -> usize
-    requires { 35 ≤ length line.old }
-    ensures within { result ≤ 35 }
-    ensures text { take result line.new ≡ input_member number }
+/// The line of that name and number with its text.
+fn with_text<'a>(line: Named<'a>, text: &'a [u8]) -> Named<'a>
+    ensures { result.text.now ≡ text.now }
 {
-    let start = put(line, 0, b"{\"input\":");
-    let end = put(line, start, Buffer::new().format(number).as_bytes());
-    put(line, end, b",")
+    Named { text, ..line }
 }

@@ -1,19 +1,28 @@
-// Judging texts one after another by the same rules.
-use crate::explanations::{explain_both, explain_root, explain_schema};
-use crate::telling::tell;
-use crate::why::{Why, form_of};
+// Judging texts one after another by the same rules, and what is told of the verdicts.
+use crate::verdict::{Case, NumberedRules, verdict};
+use cs_flat::flatten;
 use cs_guard::Guarded;
-use cs_instance::RootRules;
-use cs_json::Scratch;
+use cs_instance_report::Written;
+use cs_json::{Document, Scratch, read_document};
 use cs_place::Named;
+use cs_reason_words::Form;
+use cs_reasons::Telling;
 use cs_schema::SchemaDoc;
 use cs_table::Verdicts;
 use cs_tool::{
     Fault, Rules, number_root, number_schema, read_both, read_root, read_schema_text, slices_of,
 };
-use cs_validate::SchemaRules;
-use std::alloc::Global;
+use std::alloc::{AllocError, Global};
 use std::marker::Model;
+
+/// How documents are explained.
+#[derive(Clone, Copy)]
+pub struct Why<'a> {
+    /// The sources that the rules were read from; none where there is a schema.
+    pub sources: &'a Written<'a>,
+    pub form: Form,
+    pub telling: Telling,
+}
 
 /// What was read of rules, with the name of a root.
 #[derive(Drop)]
@@ -41,14 +50,6 @@ impl<'a> Model for Prepared<'a> {
     ghost invariant = { λ p. IsReadOf p.rules.now p.read };
 }
 
-/// The rules that were read, numbered.
-#[derive(Drop)]
-enum NumberedRules<'a> {
-    Root(RootRules<'a>),
-    Schema(SchemaRules<'a>),
-    Both(RootRules<'a>, SchemaRules<'a>),
-}
-
 /// Judges texts one after another by the same rules. Its buffers and its table are used again.
 #[derive(Drop)]
 pub struct TextJudge<'a> {
@@ -70,10 +71,11 @@ impl<'a> Model for TextJudge<'a> {
     ghost invariant = { λ j. AreNumbersOf j.rules.now j.numbered };
 }
 
-ghost use Rattle.std.specs.Prelude.{◌≡◌, ℕ, List, IfOk, IfErr, IsOkUnless};
-ghost use Rattle.cs_judge.specs.Judged.{call_on, AreReadable};
+ghost use Rattle.std.specs.Prelude.{◌≡◌, ◌++◌, ℕ, List, OnOk, OnErr, IfOk, IfErr, IsOkUnless};
+ghost use Rattle.cs_judge.specs.Explained.{asked_form, IsReport, ReportsAsked, Tells};
+ghost use Rattle.cs_judge.specs.Judged.{call_on, AreReadable, IsOf};
 ghost use Rattle.cs_judge.specs.Prepared.{IsReadOf, AreNumbersOf};
-ghost use Rattle.cs_tool.specs.Runs.{IsCallRefusal};
+ghost use Rattle.cs_tool.specs.Runs.{IsCallAnswer, IsCallRefusal, IsReadyCall, verdict_text, line_of};
 
 /// Reads rules once for any number of documents.
 ///
@@ -109,8 +111,6 @@ fn read_rules<'a>(alloc: Global, rules: &'a Rules) -> Result<ReadRules<'a>, Faul
 }
 
 impl Prepared<'_> {
-    ghost use Rattle.std.specs.Prelude.{◌≡◌, IfOk, IsOkUnless};
-
     /// Numbers the rules. Only memory can run out.
     pub fn judge(&self, alloc: Global) -> Result<TextJudge<'_>, Fault>
         ensures rules { IfOk result (λ j. j ≡ self.now) }
@@ -151,11 +151,6 @@ fn number_rules<'a>(
 }
 
 impl TextJudge<'_> {
-    ghost use Rattle.std.specs.Prelude.{◌≡◌, IfOk, IfErr, OnErr, IsOkUnless};
-    ghost use Rattle.cs_judge.specs.Explained.{asked_form, Tells, ReportsAsked};
-    ghost use Rattle.cs_judge.specs.Judged.{call_on, IsOf};
-    ghost use Rattle.cs_tool.specs.Runs.{IsCallAnswer, IsCallRefusal, IsReadyCall, verdict_text};
-
     /// What the call on the text answers: `vet`, `validate` or `agree`.
     ///
     /// # Errors
@@ -218,25 +213,85 @@ impl TextJudge<'_> {
         ensures told { IfOk result
             (λ b. ReportsAsked (asked_form why.entry) b report.old.items report.new.items) }
     {
-        let alloc = self.alloc;
-        let (scratch, table) = (&mut self.scratch, &mut self.table);
-        match &self.numbered {
-            NumberedRules::Root(rules) => {
-                explain_root(rules, alloc, document, why, scratch, table, report)
+        let (alloc, rules, table) = (self.alloc, &self.numbered, &mut self.table);
+        match read_document(alloc, document.text, &mut self.scratch)? {
+            Document::Listed(flat) => {
+                let flat = &flat;
+                verdict(
+                    rules,
+                    Case {
+                        alloc,
+                        document,
+                        flat,
+                        why,
+                    },
+                    table,
+                    report,
+                )
             }
-            NumberedRules::Schema(rules) => {
-                explain_schema(rules, alloc, document, why, scratch, table, report)
+            Document::Tree(doc) => {
+                let flat = &flatten(alloc, &doc)?;
+                verdict(
+                    rules,
+                    Case {
+                        alloc,
+                        document,
+                        flat,
+                        why,
+                    },
+                    table,
+                    report,
+                )
             }
-            NumberedRules::Both(root_side, schema_side) => explain_both(
-                root_side,
-                schema_side,
-                alloc,
-                document,
-                why,
-                scratch,
-                table,
-                report,
-            ),
         }
     }
+}
+
+/// The form in which reasons are told; none where none are asked for.
+pub(crate) fn form_of(why: Option<Why<'_>>) -> Option<Form>
+    ensures { result ≡ asked_form why.entry }
+{
+    let why = why?;
+    Some(why.form)
+}
+
+/// The line of a verdict.
+pub(crate) fn verdict_line(truth: bool) -> &'static [u8]
+    ensures { result.now ≡ line_of (verdict_text truth) }
+{
+    if truth { b"valid\n" } else { b"invalid\n" }
+}
+
+/// Adds what is told of a verdict: its line where no reasons are asked for; in lines the same, and the report behind `invalid`; in the
+/// other forms the report.
+fn tell(
+    form: Option<Form>,
+    truth: bool,
+    report: &[u8],
+    output: &mut Vec<u8>,
+) -> Result<(), AllocError>
+    ensures told { IsReport form truth report.now
+        → OnOk result (Tells form truth output.old.items output.new.items) }
+    ensures kept { OnErr result (output.new.items ≡ output.old.items) }
+{
+    match form {
+        None => output.extend_from_slice(verdict_line(truth)),
+        Some(Form::Lines) if truth => output.extend_from_slice(verdict_line(true)),
+        Some(Form::Lines) => add_both(verdict_line(false), report, output),
+        Some(Form::Object(_)) => output.extend_from_slice(report),
+    }
+}
+
+/// Adds both texts, or nothing.
+fn add_both(first: &[u8], second: &[u8], output: &mut Vec<u8>) -> Result<(), AllocError>
+    ensures all { OnOk result (output.new.items ≡ output.old.items ++ first.now ++ second.now) }
+    ensures kept { OnErr result (output.new.items ≡ output.old.items) }
+{
+    let start = output.len();
+    output.extend_from_slice(first)?;
+    if output.extend_from_slice(second).is_err() {
+        output.truncate(start);
+        return Err(AllocError);
+    }
+    Ok(())
 }

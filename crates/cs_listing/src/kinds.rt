@@ -2,13 +2,12 @@
 ghost use Rattle.std.specs.Prelude.{◌≡◌, ℕ, true, Some, IfOk, length, slice_get, unwrap_or};
 ghost use Rattle.cs_document.specs.Opened.{Opened};
 ghost use Rattle.cs_rules.specs.Kinds.{verdict_of};
-ghost use Rattle.cs_listing.specs.ByKind.{AreLeftOpen};
+ghost use Rattle.cs_listing.specs.ByKind.{AreByKind, AreLeftOpen};
 ghost use Rattle.cs_listing.specs.Kinds.{has_kind, HasKindsAt};
 
-use crate::by_kind::all_by_kind;
 use cs_guard::Guarded;
-use cs_instance::{NumberedPackage, numbered_package};
-use cs_rules::ByKind;
+use cs_instance::{NumberedPackage, Rule, numbered_package};
+use cs_rules::{Asks, ByKind};
 use std::alloc::{AllocError, Global};
 
 /// Kinds of documents: for each whether it is among them. Every number of a document is an integer.
@@ -20,6 +19,18 @@ pub struct Kinds {
     pub text: bool,
     pub list: bool,
     pub object: bool,
+}
+
+/// The verdicts by kind of each rule, asked with those of the rules before it.
+fn all_by_kind(alloc: Global, rules: &[Rule<'_>]) -> Result<Vec<ByKind>, AllocError>
+    ensures { IfOk result (λ known. AreByKind rules.now known.items) }
+{
+    let mut known = Vec::with_capacity(alloc, rules.len())?;
+    for rule in rules {
+        let verdicts = rule.by_kind(&known);
+        known.push(verdicts)?;
+    }
+    Ok(known)
 }
 
 /// The kinds that verdicts don't rule out.

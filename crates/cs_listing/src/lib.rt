@@ -1,12 +1,8 @@
 // The definitions of a package: where each is declared, and the kinds of documents that its instances can have.
 #![tactic(auto)]
 
-mod by_kind;
-mod entries;
 mod kinds;
-mod lines;
-mod objects;
+mod listing;
 
 pub use kinds::{Kinds, kinds_of};
-pub use lines::put_listing;
-pub use objects::put_listing_json;
+pub use listing::{put_listing, put_listing_json};

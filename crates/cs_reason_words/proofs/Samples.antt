@@ -3,7 +3,7 @@
 use Rattle.std.proofs.Common.{◌≡◌, List, [], ◌∷◌, map, true, false, codes, refl}
 use Rattle.cs_reason_words.specs.declared.form.Form.{Form}
 use Rattle.cs_reason_words.specs.declared.form.Form.TheVariants.{Lines, Object}
-use Rattle.cs_reason_words.specs.declared.format.Format.TheVariants.{Json, Flag, Basic}
+use Rattle.cs_reason_words.specs.declared.form.Format.TheVariants.{Json, Flag, Basic}
 use Rattle.cs_reason_words.specs.Formats.{asks_standard, asks_reasons}
 use Rattle.cs_reason_words.specs.Valid.{report_text}
 

@@ -1,8 +1,13 @@
 // The forms of reasons in words.
-ghost use Rattle.std.specs.Prelude.{◌≡◌};
-ghost use Rattle.cs_reason_words.specs.Formats.{asks_standard, asks_reasons};
+ghost use Rattle.std.specs.Prelude.{◌≡◌, ◌++◌, true, false, IfOk, OnOk, OnErr, string_bytes};
+ghost use Rattle.cs_reason_words.specs.Formats.{asks_standard, asks_reasons, is_standard, has_reasons};
+ghost use Rattle.cs_reason_words.specs.Valid.{flag_text, valid_text, invalid_object, report_text, HasLines, EndsInLine};
 
-use crate::format::Format;
+use crate::entry::{Entry, SourcePlace, Told};
+use crate::wording::put_between;
+use cs_place::{Named, put_place, put_quoted, put_shown};
+use cs_text::{Written, put_all, put_count, put_number, put_string};
+use std::alloc::{AllocError, Global};
 
 /// How reasons are written.
 #[derive(Clone, Copy)]
@@ -33,4 +38,254 @@ impl Form {
             Form::Object(format) => format.has_reasons(),
         }
     }
+}
+
+/// How reasons are told as an object of JSON.
+#[derive(Clone, Copy)]
+pub enum Format {
+    /// What the lines tell.
+    Json,
+    /// The output format `flag` (JSON Schema Core 2020-12, section 12.4.1).
+    Flag,
+    /// The output format `basic` (Core, section 12.4.2).
+    Basic,
+}
+
+/// The formats by their names.
+const NAMES: &[(&str, Format)] = &[
+    ("json", Format::Json),
+    ("flag", Format::Flag),
+    ("basic", Format::Basic),
+];
+
+impl Format {
+    /// The format of a name.
+    pub fn named(name: &str) -> Option<Format> {
+        let (_, format) = NAMES.iter().find(|(known, _)| *known == name)?;
+        Some(*format)
+    }
+
+    /// Whether it is one of the output formats of JSON Schema (JSON Schema Core 2020-12, section 12.4). These tell reasons by the keywords
+    /// of a schema alone: a definition tells the verdict and no more, and a refusal of a call has its number and no more.
+    pub fn is_standard(self) -> bool
+        ensures { result ≡ is_standard self }
+    {
+        match self {
+            Format::Json => false,
+            Format::Flag | Format::Basic => true,
+        }
+    }
+
+    /// Whether reasons are told in it at all.
+    pub fn has_reasons(self) -> bool
+        ensures { result ≡ has_reasons self }
+    {
+        match self {
+            Format::Flag => false,
+            Format::Json | Format::Basic => true,
+        }
+    }
+}
+
+/// The objects that say whether a document is valid, and no more (JSON Schema Core 2020-12, section 12.4.1).
+const VALID: &str = "{\"valid\":true}\n";
+
+const INVALID: &str = "{\"valid\":false}\n";
+
+/// What is told of a document that is valid: nothing for people, and else the object that says so.
+fn valid_words(form: Form) -> &'static str
+    ensures { result.now ≡ valid_text form }
+{
+    match form {
+        Form::Lines => "",
+        Form::Object(_) => VALID,
+    }
+}
+
+/// The object that says first that a document is invalid, with further members, each behind a comma.
+fn invalid_words(alloc: Global, members: &str) -> Result<String, AllocError>
+    ensures { IfOk result (λ s. string_bytes s ≡ invalid_object members.now) }
+{
+    let mut object = String::new(alloc);
+    object.push_str("{\"valid\":false")?;
+    object.push_str(members)?;
+    object.push_str("}\n")?;
+    Ok(object)
+}
+
+/// Puts what is told of the reasons of a document: lines for people, members for programs, and in the output formats of JSON Schema nothing.
+pub fn put_told(text: &mut String, form: Form, document: Named<'_>, told: &Told<'_>) -> Written
+    ensures flag { asks_standard form ≡ true
+        → OnOk result (string_bytes text.new ≡ string_bytes text.old) }
+    ensures lines { OnOk result (HasLines false form (string_bytes text.new)) }
+{
+    match form {
+        Form::Lines => put_lines(text, document, &told.entries, told.more),
+        Form::Object(format) if format.is_standard() => Ok(()),
+        Form::Object(_) => put_members(text, &told.entries, told.more),
+    }
+}
+
+/// Adds what is told of a verdict, whatever was judged: of a valid document nothing for people, and else the object that says so.
+/// Of an invalid one what is told of its reasons: for people lines, and for programs the members behind the verdict's.
+///
+/// # Errors
+/// Memory alone; nothing is added then.
+pub fn report_verdict(
+    alloc: Global,
+    form: Form,
+    valid: bool,
+    reasons: &str,
+    output: &mut Vec<u8>,
+) -> Written
+    ensures all { OnOk result (output.new.items
+        ≡ output.old.items ++ report_text form valid reasons.now) }
+    ensures kept { OnErr result (output.new.items ≡ output.old.items) }
+{
+    if valid {
+        return output.extend_from_slice(valid_words(form).as_bytes());
+    }
+    match form {
+        Form::Lines => output.extend_from_slice(reasons.as_bytes()),
+        Form::Object(format) if format.has_reasons() => {
+            let object = invalid_words(alloc, reasons)?;
+            output.extend_from_slice(object.as_bytes())
+        }
+        Form::Object(_) => output.extend_from_slice(INVALID.as_bytes()),
+    }
+}
+
+/// Puts the member with the place of an embedding.
+fn put_embedded(text: &mut String, place: SourcePlace<'_>) -> Written {
+    text.push_str(",\"embedded\":{\"file\":")?;
+    put_quoted(text, place.file)?;
+    put_count(text, "line", place.position.line)?;
+    put_count(text, "column", place.position.column)?;
+    text.push('}')
+}
+
+/// Puts the object of an entry.
+fn put_object(text: &mut String, entry: &Entry<'_>) -> Written {
+    let finding = &entry.finding;
+    let way = &entry.way;
+    text.push_str("{\"valid\":false")?;
+    put_string(text, "instanceLocation", way.pointer.as_str())?;
+    put_count(text, "line", entry.position.line)?;
+    put_count(text, "column", entry.position.column)?;
+    put_string(text, "reason", finding.reason)?;
+    put_string(text, "error", finding.text.as_str())?;
+    if finding.definition.is_empty() {
+        put_string(text, "schemaPath", way.rule.as_str())?;
+    } else {
+        put_string(text, "definition", finding.definition)?;
+        put_string(text, "path", entry.path())?;
+    }
+    if !way.alternative.is_empty() {
+        put_string(text, "alternative", way.alternative.as_str())?;
+    }
+    if let Some(place) = &finding.source {
+        put_string(text, "file", place.file)?;
+        put_count(text, "sourceLine", place.position.line)?;
+        put_count(text, "sourceColumn", place.position.column)?;
+    }
+    if let Some(place) = finding.embedded {
+        put_embedded(text, place)?;
+    }
+    text.push('}')
+}
+
+/// Puts the members with the reasons, and with how many are left out, behind that of the verdict.
+pub(crate) fn put_members(text: &mut String, entries: &[Entry<'_>], more: usize) -> Written {
+    text.push_str(",\"errors\":[")?;
+    for (place, entry) in entries.iter().enumerate() {
+        put_between(text, place, ",")?;
+        put_object(text, entry)?;
+    }
+    text.push(']')?;
+    put_count(text, "more", more)
+}
+
+/// Puts a place in a source.
+fn put_source(text: &mut String, place: SourcePlace<'_>) -> Written {
+    put_place(text, place.file, place.position.line, place.position.column)
+}
+
+/// Puts what says no: its place in the source, its path, where it is embedded, and the alternative.
+fn put_rule(text: &mut String, entry: &Entry<'_>) -> Written {
+    if let Some(place) = entry.finding.source {
+        put_source(text, place)?;
+        text.push(' ')?;
+    }
+    put_shown(text, entry.way.rule.as_str())?;
+    if let Some(place) = entry.finding.embedded {
+        text.push_str(", embedded at ")?;
+        put_source(text, place)?;
+    }
+    if entry.way.alternative.is_empty() {
+        return Ok(());
+    }
+    put_all(text, &[", ", entry.way.alternative.as_str()])
+}
+
+/// Ends the line of an entry.
+fn end_entry(text: &mut String) -> Written
+    ensures { OnOk result (EndsInLine (string_bytes text.new)) }
+{
+    text.push_str("]\n")?;
+    Ok(())
+}
+
+/// Puts the line of an entry, with what says no in brackets.
+fn put_entry(text: &mut String, name: &str, entry: &Entry<'_>) -> Written
+    ensures { OnOk result (EndsInLine (string_bytes text.new)) }
+{
+    for _ in 0..entry.way.depth {
+        text.push_str("  ")?;
+    }
+    put_place(text, name, entry.position.line, entry.position.column)?;
+    text.push_str(": ")?;
+    let pointer = entry.way.pointer.as_str();
+    put_shown(
+        text,
+        if pointer.is_empty() {
+            "(root)"
+        } else {
+            pointer
+        },
+    )?;
+    put_all(text, &[": ", entry.finding.text.as_str(), " ["])?;
+    put_rule(text, entry)?;
+    end_entry(text)
+}
+
+/// Puts the line that says how many reasons are left out.
+fn put_more(text: &mut String, more: usize) -> Written
+    ensures { OnOk result (EndsInLine (string_bytes text.new)) }
+{
+    put_number(text, more)?;
+    text.push_str(" more; --most N tells more\n")?;
+    Ok(())
+}
+
+/// Puts a line for each entry, and one that says how many reasons are left out, if any are; where there is no entry, that is one at
+/// least.
+pub fn put_lines(
+    text: &mut String,
+    document: Named<'_>,
+    entries: &[Entry<'_>],
+    more: usize,
+) -> Written
+    ensures { OnOk result (EndsInLine (string_bytes text.new)) }
+{
+    let Some((last, others)) = entries.split_last() else {
+        return put_more(text, more.max(1));
+    };
+    for entry in others {
+        put_entry(text, document.name, entry)?;
+    }
+    put_entry(text, document.name, last)?;
+    if more == 0 {
+        return Ok(());
+    }
+    put_more(text, more)
 }

@@ -3,31 +3,15 @@
 #![tactic(auto)]
 
 mod entry;
-mod finding;
 mod form;
-mod format;
-mod json;
-mod lines;
-mod once;
-mod pointer;
-mod targets;
-mod telling;
-mod verdicts;
 mod walk;
 mod wording;
-mod words;
 
-pub use cs_text::{put_all, put_count, put_integer, put_number, put_string};
-pub use entry::{Entry, SourcePlace, position_in};
-pub use finding::{Finding, MOST_COMPARISONS, item_at, told_apart};
-pub use form::Form;
-pub use format::Format;
-pub use lines::put_lines;
-pub use once::Told;
-pub use pointer::put_steps;
-pub use targets::Targets;
-pub use telling::told_by;
-pub use verdicts::{put_told, report_verdict};
-pub use walk::{Choice, Way, above, chain_to, walk_to};
+pub use cs_text::{Written, put_all, put_count, put_integer, put_number, put_string};
+pub use entry::{
+    Entry, Finding, Found, MOST_COMPARISONS, SourcePlace, Targets, Told, item_at, position_in,
+    told_apart,
+};
+pub use form::{Form, Format, put_lines, put_told, report_verdict};
+pub use walk::{Choice, Way, Words, above, chain_to, put_steps, told_by, walk_to};
 pub use wording::{Kinds, MOST_WANTED, put_between, put_more};
-pub use words::Words;

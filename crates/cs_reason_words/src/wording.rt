@@ -1,8 +1,7 @@
 // Words for what is found and what is wanted.
 use cs_flat::Item;
 use cs_place::put_in_string;
-use cs_text::put_integer;
-use std::alloc::AllocError;
+use cs_text::{Written, put_integer};
 
 /// How many characters of a value are shown.
 const MOST_SHOWN: usize = 60;
@@ -21,7 +20,7 @@ pub struct Kinds {
 
 impl Kinds {
     /// Puts a value: a scalar as JSON writes it, cut where it is long, or of which kind it is.
-    pub fn put(self, text: &mut String, item: Item<'_>) -> Result<(), AllocError> {
+    pub fn put(self, text: &mut String, item: Item<'_>) -> Written {
         match item {
             Item::Null => text.push_str("null"),
             Item::Bool(value) => text.push_str(if value { "true" } else { "false" }),
@@ -33,20 +32,20 @@ impl Kinds {
     }
 
     /// Puts what is found.
-    pub fn put_found(self, text: &mut String, item: Item<'_>) -> Result<(), AllocError> {
+    pub fn put_found(self, text: &mut String, item: Item<'_>) -> Written {
         text.push_str("found ")?;
         self.put(text, item)
     }
 
     /// Puts what is found, up to what is wanted.
-    pub fn put_mismatch(self, text: &mut String, item: Item<'_>) -> Result<(), AllocError> {
+    pub fn put_mismatch(self, text: &mut String, item: Item<'_>) -> Written {
         self.put_found(text, item)?;
         text.push_str(", want ")
     }
 }
 
 /// Puts a text as a string of JSON, cut where that is long.
-fn put_beginning(text: &mut String, inside: &str) -> Result<(), AllocError> {
+fn put_beginning(text: &mut String, inside: &str) -> Written {
     text.push('"')?;
     for (count, character) in inside.chars().enumerate() {
         if count >= MOST_SHOWN - 1 {
@@ -58,14 +57,14 @@ fn put_beginning(text: &mut String, inside: &str) -> Result<(), AllocError> {
 }
 
 /// Puts a count of elements.
-pub(crate) fn put_elements(text: &mut String, count: usize) -> Result<(), AllocError> {
+pub(crate) fn put_elements(text: &mut String, count: usize) -> Written {
     let ending = if count == 1 { "" } else { "s" };
     write!(text, "{count} element{ending}")?;
     Ok(())
 }
 
 /// Puts a mark behind so many parts, if there are any.
-pub fn put_between(text: &mut String, before: usize, mark: &str) -> Result<(), AllocError> {
+pub fn put_between(text: &mut String, before: usize, mark: &str) -> Written {
     if before > 0 {
         text.push_str(mark)?;
     }
@@ -73,7 +72,7 @@ pub fn put_between(text: &mut String, before: usize, mark: &str) -> Result<(), A
 }
 
 /// Puts how many of so many alternatives aren't named, if any.
-pub fn put_more(text: &mut String, count: usize) -> Result<(), AllocError> {
+pub fn put_more(text: &mut String, count: usize) -> Written {
     let left = count.saturating_sub(MOST_WANTED);
     if left > 0 {
         write!(text, " and {left} more")?;

@@ -3,22 +3,125 @@
 
 mod command_line;
 mod files;
-mod profile;
-mod reasons;
-mod sources;
-mod unread;
-mod words;
 
+use clap::ArgMatches;
 pub use command_line::{COMMAND_LINE, process_words, show};
-use cs_tool::{Fault, write_text};
-pub use files::{read_document, read_input, read_source, read_sources};
-pub use profile::{meant_rules, meant_source, profile_of};
-pub use reasons::{Reasons, are_at_odds, reasons_of, told_form};
-pub use sources::{STANDARD_INPUT, named, named_sources};
-pub use unread::{NO_FILE, Unread, first_unread, sizes_of, unread_file};
-pub use words::{files_of, root_of, sources_of, word_of};
+use cs_reason_words::{Form, Format};
+use cs_reasons::Telling;
+use cs_tool::{Fault, Rules, slices_of, write_text};
+use cs_widen::{Profile, schema_stands_for_in, stands_for_in};
+pub use files::{
+    NO_FILE, STANDARD_INPUT, Unread, named_sources, named_text, named_texts, read_input,
+    read_source, read_sources, sizes_of, unread_file,
+};
+use std::alloc::Global;
 
-/// Writes a text on standard output.
-pub fn print(rt: &HostRuntime, text: &[u8]) -> Result<(), Fault> {
-    write_text(&mut rt.stdout(), text)
+/// How many reasons are told at most where the words don't say.
+const MOST_REASONS: usize = 20;
+
+/// What comes of a command: its status.
+pub type Status = Result<u8, Fault>;
+
+/// A call of the program: the runtime, and the words of its command.
+#[derive(Clone, Copy)]
+pub struct Call<'m, 'w> {
+    pub rt: &'m HostRuntime,
+    pub words: &'m ArgMatches<'w>,
+}
+
+/// How reasons are asked for.
+#[derive(Clone, Copy)]
+pub struct Reasons {
+    pub form: Form,
+    pub telling: Telling,
+}
+
+impl<'m, 'w> Call<'m, 'w> {
+    /// The allocator of the runtime.
+    pub fn alloc(self) -> Global {
+        self.rt.alloc()
+    }
+
+    /// The value of an option that `clap` asks for.
+    pub fn word(self, name: &str) -> &'w str {
+        self.words.get_str(name).unwrap_or("")
+    }
+
+    /// The files that a word names.
+    pub fn paths(self, name: &str) -> &'m [&'m str] {
+        self.words.get_strs(name).unwrap_or(&[])
+    }
+
+    /// The sources that are named, or standard input as the one source where none is.
+    pub fn sources(self) -> Result<Vec<Vec<u8>>, Fault> {
+        match self.words.get_strs("FILE") {
+            Some(paths) => read_sources(self.rt, paths),
+            None => Ok(vec![in self.alloc(); read_source(self.rt)?]?),
+        }
+    }
+
+    /// Writes a text on standard output, and gives the status of a command that does so.
+    pub fn print(self, text: &[u8]) -> Status {
+        write_text(&mut self.rt.stdout(), text)?;
+        Ok(0)
+    }
+
+    /// How the words ask for reasons; `None` where they don't.
+    pub fn reasons(self) -> Option<Reasons> {
+        let form = match self.words.get_str("format") {
+            Some(name) => Form::Object(Format::named(name)?),
+            None if self.words.contains_id("why") => Form::Lines,
+            None => return None,
+        };
+        let most = self.words.get_one("most").unwrap_or(MOST_REASONS);
+        let all = self.words.get_str("why") == Some("all");
+        Some(Reasons {
+            form,
+            telling: Telling { most, all },
+        })
+    }
+
+    /// Whether the words ask for reasons in two ways: in lines, of the closest alternatives, and in a format.
+    pub fn is_at_odds(self) -> bool {
+        self.words.contains_id("format") && self.words.get_str("why") == Some("closest")
+    }
+
+    /// The form in which the words ask for refusals to be told; `None` where they don't.
+    pub fn told_form(self) -> Option<Form> {
+        let asked = self.reasons().map(|reasons| reasons.form);
+        asked.or(self.words.get_flag("why_refused").then_some(Form::Lines))
+    }
+
+    /// The profile that the words ask for: the default one where they name none.
+    pub fn profile(self) -> Profile {
+        match self.words.get_str("profile") {
+            Some(_) => Profile::Wide,
+            None => Profile::Default,
+        }
+    }
+
+    /// The source that sources stand for in the profile that the words ask for; `None` where they stand for themselves.
+    pub fn meant_source(self, sources: &[&[u8]]) -> Result<Option<Vec<u8>>, Fault> {
+        Ok(stands_for_in(self.alloc(), self.profile(), sources)?.map(String::into_bytes))
+    }
+
+    /// The rules that the sources or the schema of rules stand for; `None` where they stand for themselves.
+    pub fn meant_rules(self, rules: &Rules) -> Result<Option<Rules>, Fault> {
+        let alloc = self.alloc();
+        let (given, root) = match rules {
+            Rules::Schema { schema } => {
+                let meant = schema_stands_for_in(alloc, self.profile(), schema)?;
+                return Ok(meant.map(|schema| Rules::Schema { schema }));
+            }
+            Rules::Root { sources, root } | Rules::Both { sources, root } => (sources, root),
+        };
+        let Some(meant) = self.meant_source(&slices_of(alloc, given)?)? else {
+            return Ok(None);
+        };
+        let (sources, root) = (vec![in alloc; meant]?, root.clone()?);
+        Ok(Some(match rules {
+            Rules::Both { .. } => Rules::Both { sources, root },
+            Rules::Root { .. } | Rules::Schema { .. } => Rules::Root { sources, root },
+        }))
+    }
 }

@@ -1,6 +1,5 @@
 // The command that compares two editions of a definition.
 use crate::INVALID;
-use clap::ArgMatches;
 use cs_compare::{
     CompareRefusal, Comparison, Side, Told, compare as compare_sources, write_both,
     write_comparison,
@@ -9,10 +8,8 @@ use cs_fault_words::About;
 use cs_judge::{Prepared, Why, Written, prepare};
 use cs_place::Named;
 use cs_reason_words::Form;
-use cs_run_input::{
-    NO_FILE, Reasons, first_unread, meant_rules, named_sources, read_sources, reasons_of, word_of,
-};
-use cs_run_refusals::{about_sources, is_of_reading, read_as_asked, tell, tell_unread};
+use cs_run_input::{Call, Reasons, Status, named_sources, named_text, read_sources};
+use cs_run_refusals::{Teller, about_sources};
 use cs_tool::{Fault, Rules, slices_of};
 use std::alloc::Global;
 
@@ -37,202 +34,129 @@ impl<'a> Edition<'a> {
             root,
         }
     }
+
+    /// The same by other rules, where there are some.
+    fn by(self, meant: Option<&'a Rules>) -> Edition<'a> {
+        Edition::of(meant.unwrap_or(self.rules), self.sources, self.root)
+    }
 }
 
 /// The status of `compare`: 0, or 1 where an answer is `breaking`. A refusal is told as the answer would be.
-pub fn compare(rt: &HostRuntime, words: &ArgMatches<'_>) -> Result<u8, Fault> {
-    match compared(rt, words) {
+pub fn compare(call: Call<'_, '_>) -> Status {
+    match compared(call) {
         Ok(status) => Ok(status),
-        Err(refusal) => tell_refusal(rt, words, refusal, about_sources(&[], "")),
+        Err(refusal) => tell_refusal(call, refusal, about_sources(&[], "")),
     }
 }
 
 /// The same, where the refusals of the input aren't told.
-fn compared(rt: &HostRuntime, words: &ArgMatches<'_>) -> Result<u8, CompareRefusal> {
-    let old = rules_of(rt, words, Side::Old)?;
-    let new = rules_of(rt, words, Side::New)?;
-    Ok(compare_rules(rt, words, &old, &new)?)
+fn compared(call: Call<'_, '_>) -> Result<u8, CompareRefusal> {
+    let old = rules_of(call, Side::Old)?;
+    let new = rules_of(call, Side::New)?;
+    let old_sources = named_sources(call.alloc(), call.paths(word_of(Side::Old)), &old)?;
+    let new_sources = named_sources(call.alloc(), call.paths(word_of(Side::New)), &new)?;
+    let before = Edition::of(&old, &old_sources, root_of(call, Side::Old));
+    let after = Edition::of(&new, &new_sources, root_of(call, Side::New));
+    Ok(compare_editions(call, before, after)?)
 }
 
 /// The word of a side, for its files and before what is told of it.
-fn word_of_side(side: Side) -> &'static str {
+fn word_of(side: Side) -> &'static str {
     match side {
         Side::Old => "old",
         Side::New => "new",
     }
 }
 
-/// The files of a side.
-fn paths_of<'m, 'w>(words: &'m ArgMatches<'w>, side: Side) -> Option<&'m [&'w str]> {
-    words.get_strs(word_of_side(side))
+/// The root of a side: the new one may have a name of its own.
+fn root_of<'w>(call: Call<'_, 'w>, side: Side) -> &'w str {
+    match (side, call.words.get_str("new-root")) {
+        (Side::New, Some(root)) => root,
+        (Side::Old | Side::New, _) => call.word("root"),
+    }
 }
 
-/// The root of a side: the new one may have a name of its own.
-fn root_of<'a>(words: &ArgMatches<'a>, side: Side) -> &'a str {
-    match (side, words.get_str("new-root")) {
-        (Side::New, Some(root)) => root,
-        (Side::Old | Side::New, _) => word_of(words, "root"),
-    }
+/// The refusal of a side.
+fn refusal_of(side: Side, fault: Fault) -> CompareRefusal {
+    let side = Some(side);
+    CompareRefusal { side, fault }
 }
 
 /// The rules of a side, read from its files.
-fn rules_of(rt: &HostRuntime, words: &ArgMatches<'_>, side: Side) -> Result<Rules, CompareRefusal> {
-    let root = String::from_str(rt.alloc(), root_of(words, side))?;
-    match read_sources(rt, paths_of(words, side).unwrap_or(&[])) {
+fn rules_of(call: Call<'_, '_>, side: Side) -> Result<Rules, CompareRefusal> {
+    let root = String::from_str(call.alloc(), root_of(call, side))?;
+    match read_sources(call.rt, call.paths(word_of(side))) {
         Ok(sources) => Ok(Rules::Root { sources, root }),
-        Err(fault) => Err(CompareRefusal {
-            side: Some(side),
-            fault,
-        }),
+        Err(fault) => Err(refusal_of(side, fault)),
     }
 }
 
-/// The status of `compare` by the rules of both sides, whose refusals are told.
-fn compare_rules(
-    rt: &HostRuntime,
-    words: &ArgMatches<'_>,
-    old: &Rules,
-    new: &Rules,
-) -> Result<u8, Fault> {
-    let old_sources = named_sources(rt.alloc(), old, paths_of(words, Side::Old).unwrap_or(&[]))?;
-    let new_sources = named_sources(rt.alloc(), new, paths_of(words, Side::New).unwrap_or(&[]))?;
-    let before = Edition::of(old, &old_sources, root_of(words, Side::Old));
-    let after = Edition::of(new, &new_sources, root_of(words, Side::New));
-    compare_editions(rt, words, before, after)
-}
-
-/// The same by the editions of both sides.
-fn compare_editions(
-    rt: &HostRuntime,
-    words: &ArgMatches<'_>,
-    before: Edition<'_>,
-    after: Edition<'_>,
-) -> Result<u8, Fault> {
-    match write_meant(rt, words, before, after) {
-        Ok(is_compatible) => Ok(if is_compatible { 0 } else { INVALID }),
-        Err(refusal) => tell_of_sides(rt, words, refusal, before, after),
-    }
-}
-
-/// Tells a refusal by the edition of its side, and gives its status.
-fn tell_of_sides(
-    rt: &HostRuntime,
-    words: &ArgMatches<'_>,
-    refusal: CompareRefusal,
-    before: Edition<'_>,
-    after: Edition<'_>,
-) -> Result<u8, Fault> {
-    match refusal.side {
-        Some(Side::Old) => {
-            let about = about_sources(before.sources, before.root);
-            tell_refusal(rt, words, refusal, about)
-        }
-        Some(Side::New) => {
-            let about = about_sources(after.sources, after.root);
-            tell_refusal(rt, words, refusal, about)
-        }
-        None => tell_refusal(rt, words, refusal, about_sources(&[], "")),
-    }
+/// The status of `compare` by the editions of both sides, whose refusals are told by them.
+fn compare_editions<'a>(call: Call<'_, '_>, before: Edition<'a>, after: Edition<'a>) -> Status {
+    let refusal = match write_meant(call, before, after) {
+        Ok(is_compatible) => return Ok(if is_compatible { 0 } else { INVALID }),
+        Err(refusal) => refusal,
+    };
+    let about = match refusal.side {
+        Some(Side::Old) => about_sources(before.sources, before.root),
+        Some(Side::New) => about_sources(after.sources, after.root),
+        None => about_sources(&[], ""),
+    };
+    tell_refusal(call, refusal, about)
 }
 
 /// Tells a refusal as it is asked for, and gives its status. Which file can't be read is told in any case.
-fn tell_refusal(
-    rt: &HostRuntime,
-    words: &ArgMatches<'_>,
-    refusal: CompareRefusal,
-    about: About<'_>,
-) -> Result<u8, Fault> {
+fn tell_refusal(call: Call<'_, '_>, refusal: CompareRefusal, about: About<'_>) -> Status {
     let CompareRefusal { side, fault } = refusal;
-    let form = match reasons_of(words) {
-        Some(reasons) => reasons.form,
+    let form = match call.told_form() {
+        Some(form) => form,
         None if matches!(fault, Fault::ReadFailed) => Form::Lines,
         None => return Err(fault),
     };
-    let Some(side) = side else {
-        return tell(rt, form, &fault, about, &[], None);
-    };
-    let (paths, word) = (
-        paths_of(words, side).unwrap_or(&[]),
-        Some(word_of_side(side)),
-    );
-    if is_of_reading(&fault) {
-        let found = first_unread(rt, &fault, paths).unwrap_or(NO_FILE);
-        return tell_unread(rt, form, &fault, found, paths, word);
-    }
-    let about = read_as_asked(about, words);
-    tell(rt, form, &fault, about, paths, word)
+    let side = side.map(word_of);
+    Teller { call, form, side }.tell(&fault, about)
 }
 
-/// The rules that those of an edition stand for in the profile that the words ask for.
-fn meant_of(
-    alloc: Global,
-    words: &ArgMatches<'_>,
-    edition: Edition<'_>,
-    side: Side,
-) -> Result<Option<Rules>, CompareRefusal> {
-    match meant_rules(alloc, words, edition.rules) {
-        Ok(meant) => Ok(meant),
-        Err(fault) => Err(CompareRefusal {
-            side: Some(side),
-            fault,
-        }),
-    }
-}
-
-/// Writes the answers for what the editions stand for.
+/// Writes the answers for what the editions stand for in the profile that the words ask for.
 fn write_meant(
-    rt: &HostRuntime,
-    words: &ArgMatches<'_>,
+    call: Call<'_, '_>,
     before: Edition<'_>,
     after: Edition<'_>,
 ) -> Result<bool, CompareRefusal> {
-    let old = meant_of(rt.alloc(), words, before, Side::Old)?;
-    let new = meant_of(rt.alloc(), words, after, Side::New)?;
-    let before = Edition::of(
-        old.as_ref().unwrap_or(before.rules),
-        before.sources,
-        before.root,
-    );
-    let after = Edition::of(
-        new.as_ref().unwrap_or(after.rules),
-        after.sources,
-        after.root,
-    );
-    write_answers(rt, words, before, after)
+    let of_old = |fault| refusal_of(Side::Old, fault);
+    let of_new = |fault| refusal_of(Side::New, fault);
+    let old = call.meant_rules(before.rules).map_err(of_old)?;
+    let new = call.meant_rules(after.rules).map_err(of_new)?;
+    write_answers(call, before.by(old.as_ref()), after.by(new.as_ref()))
 }
 
 /// Writes whether old documents are new ones, and where both directions are asked for whether new documents are old ones.
 fn write_answers(
-    rt: &HostRuntime,
-    words: &ArgMatches<'_>,
+    call: Call<'_, '_>,
     before: Edition<'_>,
     after: Edition<'_>,
 ) -> Result<bool, CompareRefusal> {
-    let (alloc, reasons) = (rt.alloc(), reasons_of(words));
-    let is_json = matches!(
-        reasons,
-        Some(Reasons {
-            form: Form::Object(_),
-            ..
-        })
-    );
-    let backward = told_answer(alloc, before, after, reasons)?;
-    if !words.get_flag("both") {
-        return Ok(write_comparison(alloc, &backward, is_json, &mut rt.stdout())?);
+    let (alloc, output) = (call.alloc(), &mut call.rt.stdout());
+    let is_json = matches!(call.told_form(), Some(Form::Object(_)));
+    let backward = told_answer(call, before, after)?;
+    if !call.words.get_flag("both") {
+        return Ok(write_comparison(alloc, &backward, is_json, output)?);
     }
-    let forward = told_answer(alloc, after, before, reasons)?;
-    Ok(write_both(alloc, &backward, &forward, is_json, &mut rt.stdout())?)
+    let forward = told_answer(call, after, before)?;
+    Ok(write_both(alloc, &backward, &forward, is_json, output)?)
 }
 
 /// Whether each document of an edition is one of the other edition, and where it is asked for why one isn't.
 fn told_answer(
-    alloc: Global,
+    call: Call<'_, '_>,
     from: Edition<'_>,
     to: Edition<'_>,
-    reasons: Option<Reasons>,
 ) -> Result<Told, CompareRefusal> {
-    let comparison = comparison(alloc, from, to)?;
-    let reasons = match (&comparison, reasons) {
+    let alloc = call.alloc();
+    let admitting = texts_in(alloc, from.rules)?;
+    let refusing = texts_in(alloc, to.rules)?;
+    let comparison = compare_sources(alloc, &admitting, from.root, &refusing, to.root)?;
+    let reasons = match (&comparison, call.reasons()) {
         (Comparison::Breaking(shown), Some(reasons)) => reasons_told(alloc, shown, to, reasons)?,
         _ => Vec::new(alloc),
     };
@@ -248,17 +172,6 @@ fn texts_in(alloc: Global, rules: &Rules) -> Result<Vec<&[u8]>, Fault> {
         Rules::Schema { .. } => Ok(Vec::new(alloc)),
         Rules::Root { sources, .. } | Rules::Both { sources, .. } => Ok(slices_of(alloc, sources)?),
     }
-}
-
-/// Whether each document of an edition is one of the other edition.
-fn comparison(
-    alloc: Global,
-    from: Edition<'_>,
-    to: Edition<'_>,
-) -> Result<Comparison, CompareRefusal> {
-    let admitting = texts_in(alloc, from.rules)?;
-    let refusing = texts_in(alloc, to.rules)?;
-    compare_sources(alloc, &admitting, from.root, &refusing, to.root)
 }
 
 /// What an edition tells of the text of a document that it refuses: the lines below the verdict, or the object without its newline.
@@ -286,18 +199,14 @@ fn explained(
     sources: &Written<'_>,
     reasons: Reasons,
 ) -> Result<Vec<u8>, Fault> {
+    let Reasons { form, telling } = reasons;
     let why = Why {
         sources,
-        form: reasons.form,
-        telling: reasons.telling,
-    };
-    let document = Named {
-        name: SHOWN,
-        text: shown,
-        line: 1,
+        form,
+        telling,
     };
     let mut told = Vec::new(alloc);
     let mut judge = prepared.judge(alloc)?;
-    judge.explain(document, Some(why), &mut told)?;
+    judge.explain(named_text(SHOWN, shown), Some(why), &mut told)?;
     Ok(told)
 }

@@ -2,25 +2,23 @@
 #![tactic(auto)]
 
 mod compared;
-mod listed;
-mod sampled;
-mod widened;
 
-use clap::ArgMatches;
 pub use compared::compare;
 use cs_check::{
     Checked, Findings, schema_findings, source_findings, wide_findings, wide_schema_findings,
 };
+use cs_compare::write_lines;
 use cs_fault_words::explained;
+use cs_listing::{put_listing, put_listing_json};
 use cs_place::Named;
 use cs_reason_words::Form;
-use cs_run_input::{COMMAND_LINE, named, print, profile_of, read_input, sources_of};
-use cs_run_refusals::or_unread;
-use cs_tool::{Fault, slices_of};
-use cs_widen::Profile;
-pub use listed::list;
-pub use sampled::write_samples;
-pub use widened::write_widened;
+use cs_run_input::{COMMAND_LINE, Call, Status, named_text, read_input};
+use cs_run_refusals::{Teller, over_sources};
+use cs_samples::{QuestionFault, SampleTexts, Sampled, samples};
+use cs_tool::{Fault, accepted_package, read_root, write_text};
+use cs_widen::{Profile, widen, widen_in};
+use std::alloc::{AllocError, Global};
+use std::io::Write;
 
 /// The numbers that refusals have.
 const NUMBERS: &str = "the numbers are 1 to 17, 20 to 28, 30 and 31";
@@ -30,51 +28,45 @@ const INVALID: u8 = 1;
 const WARNED: u8 = 1;
 /// The status of faults.
 const FAULTY: u8 = 2;
+/// How many documents are written at most where the words don't say.
+const MOST_SAMPLES: usize = 100;
 
 /// The status of `check`. Which file can't be read is told.
-pub fn check(rt: &HostRuntime, words: &ArgMatches<'_>) -> Result<u8, Fault> {
-    let answer = match words.get_str("schema") {
-        Some(path) => check_schema(rt, words, path),
-        None => check_sources(rt, words),
+pub fn check(call: Call<'_, '_>) -> Status {
+    let answer = match call.words.get_str("schema") {
+        Some(path) => check_schema(call, path),
+        None => over_sources(call, |sources, named| check_sources(call, sources, named)),
     };
-    let form = match answer {
-        Err(Fault::ReadFailed) => Some(Form::Lines),
-        _ => None,
-    };
-    or_unread(rt, form, words, answer)
+    match answer {
+        Err(Fault::ReadFailed) => Teller::of(call, Form::Lines).tell_unread(&Fault::ReadFailed),
+        answer => answer,
+    }
 }
 
 /// The status after all that is found in the sources.
-fn check_sources(rt: &HostRuntime, words: &ArgMatches<'_>) -> Result<u8, Fault> {
-    let sources = sources_of(rt, words)?;
-    let named = named(rt.alloc(), words.get_strs("FILE").unwrap_or(&[]), &sources)?;
-    let texts = slices_of(rt.alloc(), &sources)?;
-    let root = words.get_str("root");
-    let findings = match profile_of(words) {
-        Profile::Default => source_findings(rt.alloc(), &texts, &named, root)?,
-        Profile::Wide => wide_findings(rt.alloc(), &texts, &named, root)?,
+fn check_sources(call: Call<'_, '_>, sources: &[&[u8]], named: &[Named<'_>]) -> Status {
+    let root = call.words.get_str("root");
+    let findings = match call.profile() {
+        Profile::Default => source_findings(call.alloc(), sources, named, root)?,
+        Profile::Wide => wide_findings(call.alloc(), sources, named, root)?,
     };
-    write_findings(rt, &findings, words.get_flag("strict"))
+    write_findings(call, &findings, call.words.get_flag("strict"))
 }
 
 /// The status after all faults of a schema.
-fn check_schema(rt: &HostRuntime, words: &ArgMatches<'_>, path: &str) -> Result<u8, Fault> {
-    let text = read_input(rt, path)?;
-    let schema = Named {
-        name: path,
-        text: text.as_slice(),
-        line: 1,
+fn check_schema(call: Call<'_, '_>, path: &str) -> Status {
+    let text = read_input(call.rt, Some(path))?;
+    let schema = named_text(path, &text);
+    let findings = match call.profile() {
+        Profile::Default => schema_findings(call.alloc(), schema)?,
+        Profile::Wide => wide_schema_findings(call.alloc(), schema)?,
     };
-    let findings = match profile_of(words) {
-        Profile::Default => schema_findings(rt.alloc(), schema)?,
-        Profile::Wide => wide_schema_findings(rt.alloc(), schema)?,
-    };
-    write_findings(rt, &findings, false)
+    write_findings(call, &findings, false)
 }
 
 /// Writes what was found. The status of it, where warnings count and where they don't.
-fn write_findings(rt: &HostRuntime, findings: &Findings, is_strict: bool) -> Result<u8, Fault> {
-    print(rt, findings.lines.as_bytes())?;
+fn write_findings(call: Call<'_, '_>, findings: &Findings, is_strict: bool) -> Status {
+    call.print(findings.lines.as_bytes())?;
     Ok(match findings.checked {
         Checked::Well => 0,
         Checked::Warned if is_strict => WARNED,
@@ -84,12 +76,125 @@ fn write_findings(rt: &HostRuntime, findings: &Findings, is_strict: bool) -> Res
 }
 
 /// The status of `explain`, after what a number means.
-pub fn explain(rt: &HostRuntime, words: &ArgMatches<'_>) -> Result<u8, Fault> {
-    let number = words.get_one("NUMBER").unwrap_or(0);
-    let Some(text) = explained(rt.alloc(), number)? else {
-        let _ = eprintln!(rt; "error: no refusal has the number {number}; {NUMBERS}");
+pub fn explain(call: Call<'_, '_>) -> Status {
+    let number = call.words.get_one("NUMBER").unwrap_or(0);
+    let Some(text) = explained(call.alloc(), number)? else {
+        let _ = eprintln!(call.rt; "error: no refusal has the number {number}; {NUMBERS}");
         return Ok(COMMAND_LINE);
     };
-    print(rt, text.as_bytes())?;
-    Ok(0)
+    call.print(text.as_bytes())
+}
+
+/// The status of `list`: a refusal is told as the words ask for it.
+pub fn list(call: Call<'_, '_>) -> Status {
+    over_sources(call, |sources, named| list_meant(call, sources, named))
+}
+
+/// Writes the definitions of what these sources stand for, whose places are in those that are named.
+fn list_meant(call: Call<'_, '_>, sources: &[&[u8]], named: &[Named<'_>]) -> Status {
+    match call.meant_source(sources)? {
+        Some(meant) => write_listing(call, &[&meant], named),
+        None => write_listing(call, sources, named),
+    }
+}
+
+/// Writes the definitions of the package of these sources, in lines or as an object.
+fn write_listing(call: Call<'_, '_>, sources: &[&[u8]], named: &[Named<'_>]) -> Status {
+    let alloc = call.alloc();
+    let package = accepted_package(alloc, sources)?;
+    let mut text = Vec::new(alloc);
+    match call.told_form() {
+        Some(Form::Object(_)) => put_listing_json(alloc, named, &package, &mut text)?,
+        Some(Form::Lines) | None => put_listing(alloc, named, &package, &mut text)?,
+    }
+    call.print(&text)
+}
+
+/// The status of `widen`: a refusal is told as the words ask for it.
+pub fn write_widened(call: Call<'_, '_>) -> Status {
+    over_sources(call, |sources, _| write_source(call, sources))
+}
+
+/// Writes the source that these sources stand for.
+fn write_source(call: Call<'_, '_>, sources: &[&[u8]]) -> Status {
+    let source = source_of(call.alloc(), call.profile(), sources)?;
+    call.print(source.as_bytes())
+}
+
+/// The source that sources stand for in a profile. In the default one they are refused for their size as a package is, with how many
+/// definitions they have.
+fn source_of(alloc: Global, profile: Profile, sources: &[&[u8]]) -> Result<String, Fault> {
+    match widen_in(alloc, profile, sources) {
+        Err(Fault::TooLarge { .. }) if profile == Profile::Default => widen(alloc, sources),
+        answer => answer,
+    }
+}
+
+/// The status of `samples`: 0, or 1 where there is no document, and with `--strict` where something is left. A refusal is told where
+/// the words ask for it.
+pub fn write_samples(call: Call<'_, '_>) -> Status {
+    over_sources(call, |sources, _| sample_meant(call, sources))
+}
+
+/// Writes documents of the root of what these sources stand for.
+fn sample_meant(call: Call<'_, '_>, sources: &[&[u8]]) -> Status {
+    match call.meant_source(sources)? {
+        Some(meant) => write_found(call, &[&meant]),
+        None => write_found(call, sources),
+    }
+}
+
+/// Writes the documents of the root of these sources, and says what is left. What can't be said changes no status.
+fn write_found(call: Call<'_, '_>, sources: &[&[u8]]) -> Status {
+    let most = call.words.get_one("most").unwrap_or(MOST_SAMPLES);
+    let found = found_in(call, sources, most)?;
+    let left = left_of(call.alloc(), &found, most)?;
+    let has_some = write_lines(call.alloc(), &found.texts, &mut call.rt.stdout())?;
+    if !left.is_empty() {
+        let _ = write_text(&mut call.rt.stderr(), left.as_bytes());
+    }
+    let is_faulty = call.words.get_flag("strict") && !left.is_empty();
+    Ok(match (has_some, is_faulty) {
+        (false, _) => INVALID,
+        (true, true) => WARNED,
+        (true, false) => 0,
+    })
+}
+
+/// The documents of the root of these sources, as many as that at most.
+fn found_in(call: Call<'_, '_>, sources: &[&[u8]], most: usize) -> Result<SampleTexts, Fault> {
+    let root = call.word("root");
+    let which = if call.words.get_flag("invalid") {
+        Sampled::Invalid
+    } else {
+        Sampled::Valid
+    };
+    let package = read_root(call.alloc(), sources, root)?;
+    match samples(call.alloc(), &package, root, which, most) {
+        Ok(found) => Ok(found),
+        Err(QuestionFault::OutOfMemory) => Err(Fault::OutOfMemory),
+        Err(QuestionFault::UnknownRoot) => Err(Fault::UnknownRoot),
+        Err(QuestionFault::TooManyCases) => Err(Fault::TooManyCases),
+    }
+}
+
+/// What is left, in lines: how many documents there are beside those that are written, and how many rules have none. Where as many
+/// are written as were asked for, more may be asked for.
+fn left_of(alloc: Global, found: &SampleTexts, most: usize) -> Result<String, AllocError> {
+    let mut left = String::new(alloc);
+    if found.more > 0 {
+        let front = if found.is_complete { "" } else { "at least " };
+        write!(left, "{front}{} more; --most N tells more\n", found.more)?;
+    } else if !found.is_complete {
+        let end = if found.texts.len() >= most {
+            "--most N tells more"
+        } else {
+            "a limit was met"
+        };
+        write!(left, "maybe more; {end}\n")?;
+    }
+    if found.untried > 0 {
+        write!(left, "rules without a document: {}\n", found.untried)?;
+    }
+    Ok(left)
 }

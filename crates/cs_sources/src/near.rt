@@ -1,9 +1,8 @@
-// A token of a source, and what is near it.
-use crate::outline::{Inside, Separator};
-use crate::part::Part;
-use crate::source::Source;
-use crate::tokens::{is_mark, precedes_declaration};
+// A token of a source and what is near it, and a part of a source and its parts.
+use crate::source::{Inside, Separator, Source};
+use crate::tokens::{end_of, is_mark, precedes_declaration};
 use cs_grammar::{Sort, Token};
+use std::iter::successors;
 
 /// A token among those of a source.
 #[derive(Clone, Copy)]
@@ -13,9 +12,13 @@ pub struct Near<'s, 'a> {
     pub place: usize,
 }
 
-/// The place behind a separator; that of the first token where there is none.
-fn behind(separator: Option<usize>) -> usize {
-    separator.map_or(0, |place| place.saturating_add(1))
+/// A part of a source: its tokens from one place up to another, which are in one bracket. Each part of it is found by the outline of the
+/// source, without a look at the other parts.
+#[derive(Clone, Copy)]
+pub struct Part<'s, 'a> {
+    pub source: &'s Source<'a>,
+    pub from: usize,
+    pub to: usize,
 }
 
 impl<'s, 'a> Near<'s, 'a> {
@@ -74,16 +77,6 @@ impl<'s, 'a> Near<'s, 'a> {
         (first == self.place.checked_add(1)?).then_some(number)
     }
 
-    /// The token before it in the same bracket, where a bracket goes by the token that opens it.
-    pub fn previous(self) -> Option<Near<'s, 'a>> {
-        // The bracket around it may begin right before it.
-        let before = self.source.near(self.place.checked_sub(1)?)?;
-        match before.opened() {
-            Some(_) => None,
-            None => self.source.near(self.source.front(before.place)?),
-        }
-    }
-
     /// The token behind it in the same bracket, where all that a bracket holds is one.
     pub fn next(self) -> Option<Near<'s, 'a>> {
         // A bracket that isn't closed goes on to the end of that around it.
@@ -102,21 +95,18 @@ impl<'s, 'a> Near<'s, 'a> {
             && matches!(self.inside(), Inside::File | Inside::Struct)
     }
 
-    /// Whether the field of a struct begins with the token.
-    pub(crate) fn begins_field(self) -> bool {
-        precedes_declaration(self.before(1))
-            && self.inside() == Inside::Struct
-            && self.part().count(Separator::Colon) > 0
+    /// How many colons of its own the declaration of a struct has that begins with the token; none where none does.
+    fn colons(self) -> Option<usize> {
+        let is_first = precedes_declaration(self.before(1)) && self.inside() == Inside::Struct;
+        is_first.then(|| self.part().count(Separator::Colon))
     }
 
     /// The operands of `&` that the token is in, in the same bracket.
     pub fn conjunction(self) -> Option<Part<'s, 'a>> {
-        let (part, place) = (self.part(), self.place);
-        let bar = self.source.last_separator(Separator::Bar, place);
-        let colon = self.source.last_separator(Separator::Colon, place);
-        let from = part.from.max(behind(bar)).max(behind(colon));
-        let to = self.source.separator(Separator::Bar, place, part.to, 0);
-        let whole = part.between(from, to.unwrap_or(part.to));
+        let between = self.part().part_around(Separator::Bar, self.place);
+        let colon = self.source.last_separator(Separator::Colon, self.place);
+        let from = colon.map_or(0, |colon| colon.saturating_add(1));
+        let whole = between.between(between.from.max(from), between.to);
         (whole.count(Separator::Amp) > 0).then_some(whole)
     }
 
@@ -124,10 +114,7 @@ impl<'s, 'a> Near<'s, 'a> {
     pub fn begins_embedding(self) -> bool {
         let here = self.here();
         let may_begin = here.sort == Sort::Definition || is_mark(here, "{") || is_mark(here, "(");
-        may_begin
-            && precedes_declaration(self.before(1))
-            && self.inside() == Inside::Struct
-            && self.part().count(Separator::Colon) == 0
+        may_begin && self.colons() == Some(0)
     }
 
     /// The expression that a struct embeds and that the token is in, in no other struct.
@@ -144,15 +131,10 @@ impl<'s, 'a> Near<'s, 'a> {
     pub fn stands_beside_embeddings(self) -> bool {
         let source = self.source;
         let bracket = source.around(source.declaration_at(self.place).from);
-        let opening = source.bracket(bracket).first.saturating_sub(1);
-        let held = source.held(bracket);
-        let is_embedded = Near {
-            source,
-            place: opening,
-        }
-        .embedding()
-        .is_some();
-        let embeds = (held.from..held.to).any(|place| {
+        let Part { from, to, .. } = source.held(bracket);
+        let place = from.saturating_sub(1);
+        let is_embedded = Near { source, place }.embedding().is_some();
+        let embeds = (from..to).any(|place| {
             source.around(place) == bracket && Near { source, place }.begins_embedding()
         });
         bracket > 0 && (is_embedded || embeds)
@@ -174,5 +156,189 @@ impl<'s, 'a> Near<'s, 'a> {
         let colon = self.source.last_separator(Separator::Colon, self.place)?;
         let colon = self.source.near(colon)?;
         (self.part().from < colon.place).then_some(colon)
+    }
+}
+
+impl<'s, 'a> Part<'s, 'a> {
+    /// The tokens of the same source from one place up to another.
+    pub fn between(self, from: usize, to: usize) -> Part<'s, 'a> {
+        Part { from, to, ..self }
+    }
+
+    /// Its first token; none where it has no tokens.
+    pub fn first(self) -> Option<Near<'s, 'a>> {
+        let (source, place) = (self.source, self.from);
+        (place < self.to).then_some(Near { source, place })
+    }
+
+    /// Its token, where it has one alone.
+    pub fn only(self) -> Option<Near<'s, 'a>> {
+        let first = self.first()?;
+        (first.place.checked_add(1)? == self.to).then_some(first)
+    }
+
+    /// The offset behind its last token.
+    pub fn end(self) -> usize {
+        let last = self.to.checked_sub(1);
+        last.map_or(0, |last| end_of(self.source.token(last)))
+    }
+
+    /// Its text.
+    pub fn text(self) -> &'a str {
+        let start = self.source.token(self.from).start;
+        self.source.text(start, self.end())
+    }
+
+    /// The place of its separator with so many of the same sort before it.
+    pub fn separator(self, separator: Separator, before: usize) -> Option<usize> {
+        self.source.separator(separator, self.from, self.to, before)
+    }
+
+    /// How many separators of a sort it has.
+    pub fn count(self, separator: Separator) -> usize {
+        self.source.count(separator, self.from, self.to)
+    }
+
+    /// Its part at a place, where separators are between the parts.
+    pub fn part(self, separator: Separator, place: usize) -> Option<Part<'s, 'a>> {
+        let from = match place.checked_sub(1) {
+            None => self.from,
+            Some(before) => self.separator(separator, before)?.checked_add(1)?,
+        };
+        let to = self.separator(separator, place).unwrap_or(self.to);
+        Some(self.between(from, to))
+    }
+
+    /// Its part that the token at a place is directly in, where separators are between the parts.
+    pub fn part_around(self, separator: Separator, place: usize) -> Part<'s, 'a> {
+        let before = self.source.last_separator(separator, place);
+        let from = before.map_or(0, |before| before.saturating_add(1));
+        let to = self.source.separator(separator, place, self.to, 0);
+        self.between(from.max(self.from), to.unwrap_or(self.to))
+    }
+
+    /// What the bracket at its front has inside, if it closes at the end.
+    pub(crate) fn inside(self, open: &str) -> Option<Part<'s, 'a>> {
+        let first = self.first()?;
+        let held = first.held()?;
+        let is_whole = first.closing()?.place.checked_add(1)? == self.to;
+        (is_whole && is_mark(first.here(), open)).then_some(held)
+    }
+
+    /// What the parentheses around have inside.
+    fn in_parentheses(self) -> Option<Part<'s, 'a>> {
+        let inner = self.inside("(")?;
+        // The end of a line may have inserted a comma at the end.
+        let last = inner.to.saturating_sub(1);
+        let is_comma = self.source.token(last).sort == Sort::Inserted;
+        Some(inner.between(inner.from, if is_comma { last } else { inner.to }))
+    }
+
+    /// It without the parentheses around, which say nothing.
+    pub(crate) fn unwrapped(self) -> Part<'s, 'a> {
+        let inner = successors(Some(self), |left| left.in_parentheses());
+        inner.take(self.to).last().unwrap_or(self)
+    }
+
+    /// What is behind `close`, if it begins with that name.
+    fn behind_close(self) -> Part<'s, 'a> {
+        let is_close = self
+            .first()
+            .is_some_and(|first| first.here().text == "close");
+        let from = self.from.saturating_add(usize::from(is_close));
+        self.between(from, self.to)
+    }
+
+    /// It without the parentheses around, and without `close` before them: of a value both say nothing.
+    pub(crate) fn bare(self) -> Part<'s, 'a> {
+        let inner = successors(Some(self), |left| left.behind_close().in_parentheses());
+        inner.take(self.to).last().unwrap_or(self)
+    }
+
+    /// Whether nothing in it is a struct literal or a reference, so that it stays beside what is put together.
+    pub fn is_plain(self) -> bool {
+        (self.from..self.to).all(|place| {
+            let token = self.source.token(place);
+            // A colon is that of a short form, which is a struct.
+            let is_struct = is_mark(token, "{") || is_mark(token, ":");
+            token.sort != Sort::Definition && !is_struct
+        })
+    }
+
+    /// How many operands it is that a separator is between.
+    pub fn operands(self, separator: Separator) -> usize {
+        self.bare().count(separator).saturating_add(1)
+    }
+
+    /// The first reference in it that closes what it stands for: one that is no value of a field, or that stands anywhere in what a literal
+    /// embeds.
+    pub fn closed_by(self) -> Option<Near<'s, 'a>> {
+        let source = self.source;
+        let mut place = self.from;
+        let mut embedded_to = self.from;
+        for _ in self.from..self.to {
+            let near = Near { source, place };
+            if place >= self.to {
+                return None;
+            }
+            if near.here().sort == Sort::Definition {
+                return Some(near);
+            }
+            let is_passed = place >= embedded_to && near.colons().is_some_and(|count| count > 0);
+            if near.begins_embedding() {
+                embedded_to = embedded_to.max(near.part().to);
+            }
+            let next = if is_passed { near.part().to } else { place };
+            place = next.max(place.saturating_add(1));
+        }
+        None
+    }
+
+    /// Its operand at a place.
+    pub fn operand(self, separator: Separator, place: usize) -> Option<Part<'s, 'a>> {
+        self.bare().part(separator, place)
+    }
+
+    /// Its operand of `&` at a place, where those that aren't plain are one operand, which stands where the first of them does.
+    pub fn standing_operand(self, place: usize) -> Option<Part<'s, 'a>> {
+        let mut is_met = false;
+        (0..self.operands(Separator::Amp))
+            .filter_map(|at| self.operand(Separator::Amp, at))
+            .filter(|operand| {
+                let is_plain = operand.is_plain();
+                let stands = is_plain || !is_met;
+                is_met |= !is_plain;
+                stands
+            })
+            .nth(place)
+    }
+
+    /// Whether two declarations may declare one key. Escapes aren't read.
+    pub fn may_share_key(self, other: Part<'_, '_>) -> bool {
+        let (Some(first), Some(second)) = (self.first(), other.first()) else {
+            return false;
+        };
+        let (first, second) = (first.here(), second.here());
+        let is_every = is_mark(first, "[") || is_mark(second, "[");
+        is_every || first.text.trim_matches('"') == second.text.trim_matches('"')
+    }
+
+    /// What is declared by this declaration: what is behind its first colon.
+    pub fn declared(self) -> Option<Part<'s, 'a>> {
+        let colon = self.separator(Separator::Colon, 0)?;
+        Some(self.between(colon.checked_add(1)?, self.to))
+    }
+
+    /// Its element at a place, or what is asked behind `...` there.
+    pub fn element(self, place: usize) -> Option<Part<'s, 'a>> {
+        let element = self.bare().inside("[")?.part(Separator::Comma, place)?;
+        let is_end = is_mark(element.first()?.here(), "...");
+        let from = element.from.saturating_add(usize::from(is_end));
+        Some(element.between(from, element.to))
+    }
+
+    /// Where it begins, without parentheses and `close`.
+    pub fn offset(self) -> Option<usize> {
+        Some(self.bare().first()?.here().start)
     }
 }

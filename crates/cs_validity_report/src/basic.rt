@@ -3,7 +3,7 @@ use crate::schemas::{Schemas, put_rule};
 use cs_place::{Named, Position, Positions};
 use cs_profile::Schema;
 use cs_reason_words::{
-    Entry, Told, above, chain_to, position_in, put_between, put_count, put_string, walk_to,
+    Entry, Told, Written, above, chain_to, position_in, put_between, put_count, put_string, walk_to,
 };
 use cs_reasons::{Link, Reasons};
 use cs_validity_reasons::ValidCause;
@@ -48,7 +48,7 @@ impl Location {
     }
 
     /// Leads on to what a cause leads to, or to the keyword that refuses.
-    fn lead(&mut self, cause: &ValidCause<'_>) -> Result<(), AllocError> {
+    fn lead(&mut self, cause: &ValidCause<'_>) -> Written {
         if self.is_cut() {
             return Ok(());
         }
@@ -172,7 +172,7 @@ fn schema_unit<'t>(
 }
 
 /// Puts a place in the schema document as the fragment of a URI (RFC 6901, section 6).
-fn put_fragment(text: &mut String, rule: &str) -> Result<(), AllocError> {
+fn put_fragment(text: &mut String, rule: &str) -> Written {
     text.push('#')?;
     for byte in rule.bytes().skip(1) {
         if is_in_fragments(byte) {
@@ -197,7 +197,7 @@ fn put_unit(
     pointer: &str,
     error: &str,
     position: Position,
-) -> Result<(), AllocError> {
+) -> Written {
     text.push_str("{\"valid\":false")?;
     put_string(text, "keywordLocation", location.pointer())?;
     if location.is_cut() {
@@ -213,7 +213,7 @@ fn put_unit(
 }
 
 /// Puts the units of schemas, of which the root's is the first.
-fn put_schemas(text: &mut String, document: Named<'_>, units: &[Unit]) -> Result<(), AllocError> {
+fn put_schemas(text: &mut String, document: Named<'_>, units: &[Unit]) -> Written {
     let mut positions = Positions::new(document.text);
     for (place, unit) in units.iter().enumerate() {
         put_between(text, place, ",")?;
@@ -236,7 +236,7 @@ fn put_reason(
     reasons: &Reasons<ValidCause<'_>>,
     before: usize,
     entry: &Entry<'_>,
-) -> Result<(), AllocError> {
+) -> Written {
     let Some(reason) = reasons.told.get(entry.number) else {
         return Ok(());
     };
@@ -255,7 +255,7 @@ pub(crate) fn put_basic<'t>(
     document: Named<'_>,
     reasons: &Reasons<ValidCause<'t>>,
     told: &Told<'t>,
-) -> Result<(), AllocError> {
+) -> Written {
     let units = schema_units(words, reasons, told)?;
     text.push_str(",\"errors\":[")?;
     put_schemas(text, document, &units)?;

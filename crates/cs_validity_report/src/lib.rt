@@ -2,8 +2,6 @@
 #![tactic(auto)]
 
 mod basic;
-mod reports;
 mod schemas;
-mod words;
 
-pub use reports::report_validity;
+pub use schemas::report_validity;

@@ -3,10 +3,10 @@
 
 use clap::ArgMatches;
 use cs_run_export::export;
-use cs_run_input::{COMMAND_LINE, are_at_odds, process_words, show};
+use cs_run_input::{COMMAND_LINE, Call, Status, process_words, show};
 use cs_run_judge::judge;
 use cs_run_questions::{check, compare, explain, list, write_samples, write_widened};
-use cs_tool::{Fault, command, write_fault};
+use cs_tool::{command, write_fault};
 use std::process::ExitCode;
 
 fn main(rt: HostRuntime) -> ExitCode {
@@ -21,7 +21,7 @@ fn main(rt: HostRuntime) -> ExitCode {
 }
 
 /// The status of the command that the words of the process give.
-fn answer(rt: &HostRuntime) -> Result<u8, Fault> {
+fn answer(rt: &HostRuntime) -> Status {
     let Some(words) = process_words(rt)? else {
         return Ok(COMMAND_LINE);
     };
@@ -33,25 +33,26 @@ fn answer(rt: &HostRuntime) -> Result<u8, Fault> {
 }
 
 /// The status of what the words ask for.
-fn answered(rt: &HostRuntime, matches: &ArgMatches<'_>) -> Result<u8, Fault> {
+fn answered<'m>(rt: &'m HostRuntime, matches: &'m ArgMatches<'_>) -> Status {
     let Some((command, words)) = matches.subcommand() else {
         return Ok(COMMAND_LINE);
     };
-    if are_at_odds(words) {
+    let call = Call { rt, words };
+    if call.is_at_odds() {
         let _ = eprintln!(rt;
             "error: '--format' tells reasons by itself; beside it only '--why=all' can be given"
         );
         return Ok(COMMAND_LINE);
     }
     match command {
-        "export" => export(rt, words),
-        "vet" | "validate" | "agree" => judge(rt, command, words),
-        "check" => check(rt, words),
-        "compare" => compare(rt, words),
-        "explain" => explain(rt, words),
-        "list" => list(rt, words),
-        "samples" => write_samples(rt, words),
-        "widen" => write_widened(rt, words),
+        "export" => export(call),
+        "vet" | "validate" | "agree" => judge(call, command),
+        "check" => check(call),
+        "compare" => compare(call),
+        "explain" => explain(call),
+        "list" => list(call),
+        "samples" => write_samples(call),
+        "widen" => write_widened(call),
         _ => Ok(COMMAND_LINE),
     }
 }

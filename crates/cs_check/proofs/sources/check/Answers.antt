@@ -1,6 +1,5 @@
-use Rattle.std.proofs.Common.{◌≡◌, ℕ, List, [], ◌∷◌, refl, sym, ap, subst, ◌∙◌}
+use Rattle.std.proofs.Common.{◌≡◌, ℕ, List, [], ◌∷◌, refl, sym, subst, ◌∙◌}
 use Rattle.cs_tool.specs.First.{SourcesFault, SourcesRefusal}
-use Rattle.cs_tool.specs.Refusals.{number_of}
 use Rattle.cs_tool.specs.Given.{bytes_in}
 use Rattle.cs_tool.specs.declared.fault.Fault.{Fault}
 use Rattle.cs_tool.specs.declared.fault.Fault.TheVariants.{OutOfMemory}
@@ -23,8 +22,8 @@ returns c =
     let sources = bytes_in c.args.sources.now in
     let first = c.in-Err.first in
     let faults = c.in_ok-faults_from-in-Err.field-0.items in
-    let b : BeginsWith first faults = c.in_ok-faults_from-in-Err.ensures.begins in
-    let other : ¬ (first ≡ OutOfMemory) = λ e. c.if-number.false (c.number.ensures ∙ ap number_of e ∙ sym c.number-in-Err.ensures) in
+    let b : BeginsWith first faults = c.in_ok-faults_from-in-Err.ensures.begins.0 in
+    let other : ¬ (first ≡ OutOfMemory) = c.in_ok-faults_from-in-Err.ensures.begins.1 in
     record {
       first = begins sources first faults (fails sources first other c.in-Err.ensures.refused) b;
       none = (λ none. absurd (some first faults b none), λ all. absurd (other (c.in-Err.ensures.only all.0 all.1)));

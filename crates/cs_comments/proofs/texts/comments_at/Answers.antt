@@ -9,7 +9,7 @@ use Rattle.cs_comments.proofs.texts.comments_at.Goals as goal
 pub returns-then-not-is_empty : goal.returns-then-not-is_empty
 returns-then-not-is_empty c =
     let ls = c.args.lines.now in
-    let i = c.args.line in
+    let i = c.args.at in
     let found = c.in_ok-comments.comments.items in
     let up = up_to found ls i c.min.result c.min.ensures c.in_ok-comments.ensures in
     let some : length found ≢ 0 = grind (arith, common_steps) in
@@ -18,7 +18,7 @@ returns-then-not-is_empty c =
 pub returns-in_ok-push-in-Some : goal.returns-in_ok-push-in-Some
 returns-in_ok-push-in-Some c =
     let ls = c.args.lines.now in
-    let i = c.args.line in
+    let i = c.args.at in
     let found = c.in_ok-comments.comments.items in
     let up = up_to found ls i c.min.result c.min.ensures c.in_ok-comments.ensures in
     let none : length found ≡ 0 = grind (arith, common_steps) in
@@ -28,7 +28,7 @@ returns-in_ok-push-in-Some c =
 pub returns-in-None : goal.returns-in-None
 returns-in-None c =
     let ls = c.args.lines.now in
-    let i = c.args.line in
+    let i = c.args.at in
     let found = c.in_ok-comments.comments.items in
     let up = up_to found ls i c.min.result c.min.ensures c.in_ok-comments.ensures in
     let none : length found ≡ 0 = grind (arith, common_steps) in

@@ -56,14 +56,13 @@ returns-in_err-write_out-clause-refused g c =
     let start = contents c.args.output.now in
     let now = contents c.answer_chunk.new.output in
     let after = c.answer_chunk.new.self in
-    let run = after.run in
     let all = rw v.same at c.in_ok-answer_chunk.ensures.all in
     let a = all start v.bytes v.answered in
     let given = Consumes-trans _ _ _ v.bytes _ v.given c.in-Ok.ensures.bytes.0 in
-    let told = at_any_line (asked_form c.args.why) after.line.line c.args.judge.now start now a.lines run a.answered in
-    let lines = lines_cut_off c.args.judge.now start now now a.lines run told (none_written _ _) in
-    let cut = cut_off c.args.judge.now (remaining c.args.input.now) _ start now _ given (answers_cut_off c.args.judge.now start _ now _ run a lines) in
-    let kind : c.in_err-write_out.field-0.0 ≡ WriteFailed = cc c.in_err-write_out.ensures.kind in
+    let told = at_any_line (asked_form c.args.why) after.line.line c.args.judge.now start now a.lines after a.answered in
+    let lines = lines_cut_off c.args.judge.now start now now a.lines after told (none_written _ _) in
+    let cut = cut_off c.args.judge.now (remaining c.args.input.now) _ start now _ given (answers_cut_off c.args.judge.now start _ now _ after a lines) in
+    let kind : c.in_err-write_out.field-0.0 ≡ WriteFailed = cc c.in_err-write_out.ensures.written.kind in
     let p = err_from_is_err_and c.from_residual-in_err-write_out.result c.from_residual-in_err-write_out.ensures.1 in
     write_failed c.from_residual-in_err-write_out.result p.0 _ _ _ _ _ p.1 (p.2 ∙ kind) cut
 
@@ -76,14 +75,13 @@ returns-in_err-write_out-2-clause-refused g c =
     let start = contents c.args.output.now in
     let now = contents c.write_out-in-loop.new.output in
     let after = c.answer_chunk.new.self in
-    let run = after.run in
     let all = rw v.same at c.in_ok-answer_chunk.ensures.all in
     let a = all start v.bytes v.answered in
     let given = Consumes-trans _ _ _ v.bytes _ v.given c.in-Ok.ensures.bytes.0 in
-    let told = at_any_line (asked_form c.args.why) after.line.line c.args.judge.now start _ a.lines run a.answered in
-    let lines = lines_cut_off c.args.judge.now start _ now a.lines run told c.in_err-write_out-2.ensures.front in
-    let cut = cut_off c.args.judge.now (remaining c.args.input.now) _ start now _ given (answers_cut_off c.args.judge.now start _ now _ run a lines) in
-    let kind : c.in_err-write_out-2.field-0.0 ≡ WriteFailed = cc c.in_err-write_out-2.ensures.kind in
+    let told = at_any_line (asked_form c.args.why) after.line.line c.args.judge.now start _ a.lines after a.answered in
+    let lines = lines_cut_off c.args.judge.now start _ now a.lines after told c.in_err-write_out-2.ensures.written.front in
+    let cut = cut_off c.args.judge.now (remaining c.args.input.now) _ start now _ given (answers_cut_off c.args.judge.now start _ now _ after a lines) in
+    let kind : c.in_err-write_out-2.field-0.0 ≡ WriteFailed = cc c.in_err-write_out-2.ensures.written.kind in
     let p = err_from_is_err_and c.from_residual-in_err-write_out-2.result c.from_residual-in_err-write_out-2.ensures.1 in
     write_failed c.from_residual-in_err-write_out-2.result p.0 _ _ _ _ _ p.1 (p.2 ∙ kind) cut
 
@@ -95,7 +93,7 @@ loop-preserved g c =
     let a = all start v.bytes v.answered in record {
       bytes = v.bytes ++ take c.in-Ok.count c.read.new.buf;
       given = Consumes-trans _ _ _ v.bytes _ v.given c.in-Ok.ensures.bytes.0;
-      answered = written_out c.args.judge.now start _ _ _ c.answer_chunk.new.self.run _ a c.in_ok-write_out-2.ensures.all refl c.in_ok-write_out-2.ensures.empty refl;
+      answered = written_out c.args.judge.now start _ _ _ c.answer_chunk.new.self _ a c.in_ok-write_out-2.ensures.written.all refl c.in_ok-write_out-2.ensures.empty refl;
       none = c.in_ok-write_out-2.ensures.empty;
       same = c.answer_chunk.ensures.same ∙ v.same;
     }

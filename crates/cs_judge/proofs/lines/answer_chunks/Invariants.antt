@@ -8,7 +8,7 @@ abbrev pub invariant-loop : goal.invariant-loop
 invariant-loop g l = record {
   bytes : List ℕ;
   given : Consumes (g.R.Read.remaining l.initial.input) (g.R.Read.remaining l.input) bytes;
-  answered : IsAnswered (AreToldTo (asked_form l.why) l.run.line.line) l.initial.judge (g.W.Write.contents l.initial.output) (g.W.Write.contents l.output) bytes l.run.run;
-  none : l.run.run.held ≡ [];
+  answered : IsAnswered (AreToldTo (asked_form l.why) l.run.line.line) l.initial.judge (g.W.Write.contents l.initial.output) (g.W.Write.contents l.output) bytes l.run;
+  none : l.run.held ≡ [];
   same : l.judge ≡ l.initial.judge;
 }

@@ -1,33 +1,53 @@
-use Rattle.std.proofs.Common.{sym, subst, subst₂}
-use Rattle.cs_judge.specs.Judged.{call_on, IsOf}
+use Rattle.std.proofs.Common.{◌≡◌, ℕ, List, refl, sym, subst, subst₂}
+use Rattle.cs_document.specs.Document.{Document, IsDocument}
+use Rattle.cs_json.specs.Texts.{Reads}
 use Rattle.cs_judge.specs.Prepared.{AreNumbersOf}
-use Rattle.cs_judge.proofs.ByRules.{by_root, by_schema, by_both, sides_of}
-use Rattle.cs_judge.proofs.text_judge.TextJudge.answer.Goals.{in-Root, in-Schema, in-Both}
+use Rattle.cs_judge.specs.Verdicts.{IsReadAs}
+use Rattle.cs_judge.proofs.text_judge.TextJudge.answer.Goals.{in-Listed, in-Tree+in_ok-flat-in-Tree+in-Text-1, in-Tree+in_ok-flat-in-Tree+in-List-1, in-Tree+in_ok-flat-in-Tree+in-Object-1, in-Tree+in_ok-flat-in-Tree+in-Null-1}
 use Rattle.cs_judge.proofs.text_judge.TextJudge.answer.Goals as goal
+
+-- the list of the values is that of the tree
+flattened : (text : List ℕ) (d e : Document) → e ≡ d → Reads text d → IsDocument d → IsReadAs text e
+flattened text d e same read proper = (subst (Reads text) (sym same) read, subst IsDocument (sym same) proper)
 
 pub returns-clause-of : goal.returns-clause-of
 returns-clause-of c =
     let t = c.args.document.text.now in
-    let R = c.args.self.now in
-    elim c.match-self.branch [
-      | in-Root w ↦
-          let is = subst₂ AreNumbersOf c.self.view_is w.in-Root.is c.self.invariant in
-          subst (IsOf (call_on R t)) (sym w.result-is) (by_root t _ R _ is w.explain_root.ensures.of)
-      | in-Schema w ↦
-          let is = subst₂ AreNumbersOf c.self.view_is w.in-Schema.is c.self.invariant in
-          subst (IsOf (call_on R t)) (sym w.result-is) (by_schema t _ R _ is w.explain_schema.ensures.of)
-      | in-Both w ↦
-          let is = subst₂ AreNumbersOf c.self.view_is w.in-Both.is c.self.invariant in
-          subst (IsOf (call_on R t)) (sym w.result-is) (by_both t _ R _ _ is w.explain_both.ensures.of)
+    let numbers = subst₂ AreNumbersOf c.self.view_is refl c.self.invariant in
+    let read = c.in_ok-flat.ensures in
+    elim c.match-branch-2.branch [
+      | in-Listed w ↦ rw w.result-is (w.verdict.ensures c.args.self.now t numbers (rw w.in-Listed.is at read.found, rw w.in-Listed.is at read.document)).of
+      | in-Tree+in_ok-flat-in-Tree+in-Text-1 w ↦
+          let is = flattened t _ _ w.in_ok-flat-in-Tree.ensures.found (rw w.in-Tree.is at read.found) (rw w.in-Tree.is at read.document) in
+          rw w.result-is (w.verdict-in-Tree.ensures c.args.self.now t numbers is).of
+      | in-Tree+in_ok-flat-in-Tree+in-List-1 w ↦
+          let is = flattened t _ _ w.in_ok-flat-in-Tree.ensures.found (rw w.in-Tree.is at read.found) (rw w.in-Tree.is at read.document) in
+          rw w.result-is (w.verdict-in-Tree.ensures c.args.self.now t numbers is).of
+      | in-Tree+in_ok-flat-in-Tree+in-Object-1 w ↦
+          let is = flattened t _ _ w.in_ok-flat-in-Tree.ensures.found (rw w.in-Tree.is at read.found) (rw w.in-Tree.is at read.document) in
+          rw w.result-is (w.verdict-in-Tree.ensures c.args.self.now t numbers is).of
+      | in-Tree+in_ok-flat-in-Tree+in-Null-1 w ↦
+          let is = flattened t _ _ w.in_ok-flat-in-Tree.ensures.found (rw w.in-Tree.is at read.found) (rw w.in-Tree.is at read.document) in
+          rw w.result-is (w.verdict-in-Tree.ensures c.args.self.now t numbers is).of
     ]
 
 pub returns-clause-told : goal.returns-clause-told
 returns-clause-told c =
-    elim c.match-self.branch [
-      | in-Root w ↦ rw (w.result-is, w.report-is) w.explain_root.ensures.told
-      | in-Schema w ↦ rw (w.result-is, w.report-is) w.explain_schema.ensures.told
-      | in-Both w ↦
-          let is = subst₂ AreNumbersOf c.self.view_is w.in-Both.is c.self.invariant in
-          let sides = sides_of c.args.self.now _ _ is in
-          rw (w.result-is, w.report-is) (w.explain_both.ensures.told sides.0 sides.1 sides.2)
+    let t = c.args.document.text.now in
+    let numbers = subst₂ AreNumbersOf c.self.view_is refl c.self.invariant in
+    let read = c.in_ok-flat.ensures in
+    elim c.match-branch-2.branch [
+      | in-Listed w ↦ rw (w.result-is, w.report-is) (w.verdict.ensures c.args.self.now t numbers (rw w.in-Listed.is at read.found, rw w.in-Listed.is at read.document)).told
+      | in-Tree+in_ok-flat-in-Tree+in-Text-1 w ↦
+          let is = flattened t _ _ w.in_ok-flat-in-Tree.ensures.found (rw w.in-Tree.is at read.found) (rw w.in-Tree.is at read.document) in
+          rw (w.result-is, w.report-is) (w.verdict-in-Tree.ensures c.args.self.now t numbers is).told
+      | in-Tree+in_ok-flat-in-Tree+in-List-1 w ↦
+          let is = flattened t _ _ w.in_ok-flat-in-Tree.ensures.found (rw w.in-Tree.is at read.found) (rw w.in-Tree.is at read.document) in
+          rw (w.result-is, w.report-is) (w.verdict-in-Tree.ensures c.args.self.now t numbers is).told
+      | in-Tree+in_ok-flat-in-Tree+in-Object-1 w ↦
+          let is = flattened t _ _ w.in_ok-flat-in-Tree.ensures.found (rw w.in-Tree.is at read.found) (rw w.in-Tree.is at read.document) in
+          rw (w.result-is, w.report-is) (w.verdict-in-Tree.ensures c.args.self.now t numbers is).told
+      | in-Tree+in_ok-flat-in-Tree+in-Null-1 w ↦
+          let is = flattened t _ _ w.in_ok-flat-in-Tree.ensures.found (rw w.in-Tree.is at read.found) (rw w.in-Tree.is at read.document) in
+          rw (w.result-is, w.report-is) (w.verdict-in-Tree.ensures c.args.self.now t numbers is).told
     ]

@@ -1,4 +1,0 @@
-use Rattle.cs_check.proofs.schema.mending.+cut.Given as goal
-
-abbrev pub decreases-cut : goal.decreases-cut
-decreases-cut l = l.depth
