@@ -1,4 +1,4 @@
-// Reasons in words.
+// Reasons in words: what is wrong with a value, where that is, what of it is told once, and in which order.
 use crate::walk::{Way, Words, above};
 use crate::wording::put_elements;
 use cs_flat::{Flat, Item};

@@ -1,4 +1,4 @@
-// The forms of reasons in words.
+// The forms in which reasons are told, and what is told of a verdict in each: lines for people, and objects of JSON for programs.
 ghost use Rattle.std.specs.Prelude.{◌≡◌, ◌++◌, true, false, IfOk, OnOk, OnErr, string_bytes};
 ghost use Rattle.cs_reason_words.specs.Formats.{asks_standard, asks_reasons, is_standard, has_reasons};
 ghost use Rattle.cs_reason_words.specs.Valid.{flag_text, valid_text, invalid_object, report_text, HasLines, EndsInLine};

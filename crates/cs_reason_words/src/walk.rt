@@ -1,4 +1,4 @@
-// Along a chain of causes, from the root to a rule and from the document to a value.
+// Along chains of causes, from the root to a rule and from the document to a value, by the words of a side; and what is told of reasons.
 ghost use Rattle.std.specs.Prelude.{◌≡◌, ◌++◌, OnOk, string_bytes, encode_utf8};
 ghost use Rattle.cs_profile.specs.Places.{escaped, at_key, at_index};
 ghost use Rattle.cs_reason_words.specs.Pointer.{at_step, at_steps};

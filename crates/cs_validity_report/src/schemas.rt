@@ -1,4 +1,4 @@
-// The words of schemas: where causes lead, and what is wrong with a value by a cause that leads nowhere.
+// The words of schemas, and reports in them: where causes lead, what is wrong by one that leads nowhere, and what keywords ask.
 ghost use Rattle.std.specs.Prelude.{◌≡◌, false, OnOk, OnErr, string_bytes};
 ghost use Rattle.cs_reason_words.specs.Valid.{HasLines, Reports};
 ghost use Rattle.cs_validity_reasons.specs.WhyTold.{says_valid};
