@@ -24,7 +24,7 @@ crates/cs_instance_reasons/proofs/near/literals/Search/+leading
 crates/cs_instance_reasons/proofs/near/names/+are_near
 crates/cs_syntax/proofs/parser/height/+height
 crates/cs_syntax/proofs/parser/place/Parser/+parse
-crates/cs_text/proofs/near/+are_near'
+crates/cs_text/proofs/+are_near'
 
 # The proofs of a recursion are in a folder whose name begins with `+`. The measure of the function f is `decreases-f` there, and
 # that of a loop in it has a further part.

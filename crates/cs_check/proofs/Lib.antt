@@ -1,5 +1,4 @@
 mod Samples
-pub mod FlawLists
-mod FlawSamples
+pub mod FaultLists
 pub mod SchemaFaults
 mod SchemaSamples

@@ -1,19 +1,28 @@
--- The flaws of a schema's text as faults of the tool.
-use Rattle.std.proofs.Common.{◌≡◌, ℕ, List, [], ◌∷◌, map, sym, subst}
-use Rattle.cs_check.specs.Flaws.{IsFirstFlaw, BeginsWithFirstFlaw}
-use Rattle.cs_check.specs.declared.schema.Flaw.{Flaw}
-use Rattle.cs_check.specs.declared.schema.Flaw.TheVariants as flaw
+-- The flaws of a schema's document as faults of its text.
+use Rattle.std.proofs.Common.{◌≡◌, ℕ, true, List, [], ◌∷◌, refl, sym, subst}
+use Rattle.cs_document.specs.Document.{Document}
+use Rattle.cs_json.specs.Texts.{Reads}
+use Rattle.cs_profile.specs.Refusal.{IsRefusal}
+use Rattle.cs_profile.specs.declared.fault.SchemaFault.{SchemaFault}
+use Rattle.cs_profile.specs.declared.fault.SchemaFault.TheVariants as fault
+use Rattle.cs_tool.specs.Conversions.{of_schema}
 use Rattle.cs_tool.specs.declared.fault.Fault.{Fault}
-use Rattle.cs_check.specs.SchemaFaults.{of_flaw, IsSchemaRefusal, BeginsWithSchemaFault}
+use Rattle.cs_check.specs.SchemaFaults.{BeginsWithFaultOf, BeginsWithSchemaFault, IsFaultOf, IsSchemaRefusal, is_of_schema}
 
-refusal : (text : List ℕ) (f : Flaw) → IsFirstFlaw text f → IsSchemaRefusal text (of_flaw f)
-refusal text (flaw.NotJson o c) h = record { refused = λ document. h; other = λ e. cc e }
-refusal text (flaw.NotInteger o) h = record { refused = λ document. h; other = λ e. cc e }
-refusal text (flaw.Keyword place name) h = record { refused = λ document. record { document = h.0; read = h.1; refused = h.2 }; other = λ e. cc e }
-refusal text (flaw.Shape place name) h = record { refused = λ document. record { document = h.0; read = h.1; refused = h.2 }; other = λ e. cc e }
-refusal text (flaw.Reference place name) h = record { refused = λ document. record { document = h.0; read = h.1; refused = h.2 }; other = λ e. cc e }
-refusal text (flaw.Loop names) h = record { refused = λ document. record { document = h.0; read = h.1; refused = h.2 }; other = λ e. cc e }
+pub of_schema_told : (e : SchemaFault) → ¬ (e ≡ fault.OutOfMemory) → is_of_schema (of_schema e) ≡ true
+of_schema_told fault.OutOfMemory other = absurd (other refl)
+of_schema_told (fault.Keyword place name) other = refl
+of_schema_told (fault.Shape place name) other = refl
+of_schema_told (fault.Reference place name) other = refl
+of_schema_told (fault.Loop names) other = refl
 
-pub begins : (text : List ℕ) (flaws : List Flaw) (faults : List Fault) → faults ≡ map of_flaw flaws → BeginsWithFirstFlaw text flaws → BeginsWithSchemaFault text faults
-begins text [] faults told h = subst (BeginsWithSchemaFault text) (sym told) tt
-begins text (f ∷ fs) faults told h = subst (BeginsWithSchemaFault text) (sym told) (refusal text f h)
+refusal : (text : List ℕ) (d : Document) (e : SchemaFault) → Reads text d → IsRefusal e d → ¬ (e ≡ fault.OutOfMemory) → IsSchemaRefusal text (of_schema e)
+refusal text d fault.OutOfMemory read h other = absurd (other refl)
+refusal text d (fault.Keyword place name) read h other = record { refused = λ document. record { document = d; read = read; refused = h }; other = λ e. cc e }
+refusal text d (fault.Shape place name) read h other = record { refused = λ document. record { document = d; read = read; refused = h }; other = λ e. cc e }
+refusal text d (fault.Reference place name) read h other = record { refused = λ document. record { document = d; read = read; refused = h }; other = λ e. cc e }
+refusal text d (fault.Loop names) read h other = record { refused = λ document. record { document = d; read = read; refused = h }; other = λ e. cc e }
+
+pub begins : (text : List ℕ) (d : Document) (faults : List Fault) → Reads text d → BeginsWithFaultOf d faults → BeginsWithSchemaFault text faults
+begins text d [] read h = tt
+begins text d (f ∷ fs) read h = subst (IsSchemaRefusal text) (sym h.is) (refusal text d h.flaw read h.refused h.other)

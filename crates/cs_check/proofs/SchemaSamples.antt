@@ -1,11 +1,13 @@
--- Want of memory is no fault of a schema, and each flaw is the fault of its number.
-use Rattle.std.proofs.Common.{◌≡◌, ℕ, true, List, [], ◌∷◌, refl, String}
+-- Want of memory is no fault of a schema. The first fault counts, whatever comes behind it; faults of different kinds aren't the same, nor are those
+-- of different places or names.
+use Rattle.std.proofs.Common.{◌≡◌, ℕ, List, [], ◌∷◌, true, false, refl, String}
 use Rattle.std.specs.declared.alloc.Global.{Global}
-use Rattle.cs_check.specs.declared.schema.Flaw.TheVariants as flaw
-use Rattle.cs_tool.specs.Refusals.{number_of}
+use Rattle.std.specs.Prelude.{string_bytes, string_eq}
+use Rattle.std.specs.Str.{bytes_eq}
+use Rattle.std.specs.String.{string_eq_equiv}
 use Rattle.cs_tool.specs.declared.fault.Fault.{Fault}
-use Rattle.cs_tool.specs.declared.fault.Fault.TheVariants.{OutOfMemory}
-use Rattle.cs_check.specs.SchemaFaults.{of_flaw, IsSchemaRefusal, BeginsWithSchemaFault}
+use Rattle.cs_tool.specs.declared.fault.Fault.TheVariants.{OutOfMemory, NotInteger, SchemaNotJson, Keyword, Shape, Reference}
+use Rattle.cs_check.specs.SchemaFaults.{IsSchemaRefusal, BeginsWithSchemaFault, is_of_schema, is_same}
 
 no_memory : (text : List ℕ) → ¬ (IsSchemaRefusal text OutOfMemory)
 no_memory text h = h.other refl
@@ -16,8 +18,20 @@ none text = tt
 first_of_two : (text : List ℕ) (f g : Fault) → BeginsWithSchemaFault text (f ∷ g ∷ []) → IsSchemaRefusal text f
 first_of_two text f g h = h
 
-numbers : (number_of (of_flaw (flaw.NotJson 3 true)) ≡ 20) × (number_of (of_flaw (flaw.NotInteger 3)) ≡ 26)
-numbers = (refl, refl)
+of_schema : (is_of_schema (SchemaNotJson 3 true) ≡ true) × (is_of_schema (NotInteger 3 true) ≡ true)
+of_schema = (refl, refl)
 
-places : (p n : String Global) → (number_of (of_flaw (flaw.Keyword p n)) ≡ 21) × (number_of (of_flaw (flaw.Shape p n)) ≡ 22) × (number_of (of_flaw (flaw.Reference p n)) ≡ 23)
-places p n = (refl, refl, refl)
+of_document : is_of_schema (NotInteger 3 false) ≡ false
+of_document = refl
+
+kinds : (p n : String Global) → is_same (Keyword p n) (Shape p n) ≡ false
+kinds p n = refl
+
+other_kinds : (p n : String Global) → is_same (Shape p n) (Reference p n) ≡ false
+other_kinds p n = refl
+
+texts : is_same (SchemaNotJson 3 true) (NotInteger 3 true) ≡ false
+texts = refl
+
+other_place : (p q n : String Global) → bytes_eq (string_bytes p) (string_bytes q) ≡ false → is_same (Shape p n) (Shape q n) ≡ false
+other_place p q n apart = cc apart

@@ -1,4 +1,3 @@
 -- What is told of sources, and of a schema.
 pub mod Told
 pub mod SchemaFaults
-pub mod Flaws

@@ -1,21 +1,18 @@
 -- What a list of the faults of a schema's text tells (own rules).
-use Rattle.std.specs.Prelude.{◌≡◌, ℕ, true, List, [], ◌∷◌, map}
-use Rattle.std.specs.List.{IsDistinct}
-use Rattle.cs_check.specs.Flaws.{is_same}
-use Rattle.cs_check.specs.declared.schema.Flaw.{Flaw}
-use Rattle.cs_check.specs.declared.schema.Flaw.TheVariants as flaw
+use Rattle.std.specs.Prelude.{◌≡◌, ℕ, List, [], ◌∷◌, ◌++◌, Bool, true, false, ◌&&◌, nat_eq, String, string_bytes, string_eq}
+use Rattle.std.specs.List.{AllByRecursion, IsDistinct}
+use Rattle.std.specs.Str.{bytes_eq}
+use Rattle.std.specs.declared.alloc.Global.{Global}
+use lib.Pointwise.{pointwise}
+use Rattle.cs_document.specs.Document.{Document}
+use Rattle.cs_profile.specs.Refusal.{IsRefusal}
+use Rattle.cs_profile.specs.declared.fault.SchemaFault.{SchemaFault}
+use Rattle.cs_profile.specs.declared.fault.SchemaFault.TheVariants as fault
 use Rattle.cs_tool.specs.CallRefusals.{ValidateRefusal}
+use Rattle.cs_tool.specs.Conversions.{of_schema}
+use Rattle.cs_tool.specs.Refusals.{number_of}
 use Rattle.cs_tool.specs.declared.fault.Fault.{Fault}
 use Rattle.cs_tool.specs.declared.fault.Fault.TheVariants.{SchemaNotJson, NotInteger, Keyword, Shape, Reference, Loop, OutOfMemory}
-
--- the fault that a flaw is
-abbrev pub of_flaw : Flaw → Fault
-of_flaw (flaw.NotJson offset is_cut) = SchemaNotJson offset is_cut
-of_flaw (flaw.NotInteger offset) = NotInteger offset true
-of_flaw (flaw.Keyword place name) = Keyword place name
-of_flaw (flaw.Shape place name) = Shape place name
-of_flaw (flaw.Reference place name) = Reference place name
-of_flaw (flaw.Loop names) = Loop names
 
 -- the fault is why `validate` refuses the schema's text, whatever the document is, and not for want of memory
 pub record IsSchemaRefusal (text : List ℕ) (f : Fault) : Type 0 where
@@ -27,8 +24,53 @@ abbrev pub BeginsWithSchemaFault : List ℕ → List Fault → Type 0
 BeginsWithSchemaFault text [] = Unit {0}
 BeginsWithSchemaFault text (first ∷ further) = IsSchemaRefusal text first
 
--- the faults are flaws of which no two are the same
+-- the fault is one of a schema's text
+abbrev pub is_of_schema : Fault → Bool
+is_of_schema (SchemaNotJson offset is_cut) = true
+is_of_schema (NotInteger offset in_schema) = in_schema
+is_of_schema (Keyword place name) = true
+is_of_schema (Shape place name) = true
+is_of_schema (Reference place name) = true
+is_of_schema (Loop names) = true
+is_of_schema _ = false
+
+-- the place that such a fault tells, and the names
+abbrev pub place_of : Fault → List ℕ
+place_of (Keyword place name) = string_bytes place
+place_of (Shape place name) = string_bytes place
+place_of (Reference place name) = string_bytes place
+place_of _ = []
+
+abbrev pub names_of : Fault → List (String Global)
+names_of (Keyword place name) = name ∷ []
+names_of (Shape place name) = name ∷ []
+names_of (Reference place name) = name ∷ []
+names_of (Loop names) = names.items
+names_of _ = []
+
+-- two faults have one number, and the same place and the same names
+abbrev pub is_same : Fault → Fault → Bool
+is_same f g = nat_eq (number_of f) (number_of g) && (bytes_eq (place_of f) (place_of g) && pointwise string_eq (names_of f) (names_of g))
+
+-- all faults are of a schema's text, and no two are the same
 pub record AreDistinctFaults (faults : List Fault) : Type 0 where
-  pub flaws : List Flaw
-  pub told : faults ≡ map of_flaw flaws
-  pub distinct : IsDistinct is_same flaws
+  pub told : AllByRecursion (λ f. is_of_schema f ≡ true) faults
+  pub distinct : IsDistinct is_same faults
+
+-- ---- for private contracts alone
+
+-- the fault is that of a document which is no schema by this flaw
+pub record IsFaultOf (d : Document) (f : Fault) : Type 0 where
+  pub flaw : SchemaFault
+  pub is : f ≡ of_schema flaw
+  pub refused : IsRefusal flaw d
+  pub other : ¬ (flaw ≡ fault.OutOfMemory)
+
+-- the first of the faults is that of a document
+abbrev pub BeginsWithFaultOf : Document → List Fault → Type 0
+BeginsWithFaultOf d [] = Unit {0}
+BeginsWithFaultOf d (first ∷ further) = IsFaultOf d first
+
+-- the faults begin with all of the others
+abbrev pub BeginsWithAll : List Fault → List Fault → Type 0
+BeginsWithAll others faults = (more : List Fault) × (faults ≡ others ++ more)

@@ -35,6 +35,9 @@ pub struct Findings {
     pub lines: String,
 }
 
+/// What is found, unless memory runs out.
+type Found = Result<Findings, Fault>;
+
 /// What is found in the sources: a line for each fault, 50 at most; where there is none, one for each definition that is found to have
 /// no instance. `named` has the sources with their names, in their order.
 ///
@@ -48,16 +51,15 @@ pub fn source_findings<'a>(
     named: &'a [Named<'a>],
     root: Option<&'a str>,
 ) -> Result<Findings, Fault>
-    ensures accepted { IfOk result
-        (λ f. ¬ (f.checked ≡ Checked.Faulty) → AreAccepted (bytes_in sources.now)) }
-    ensures refused { root.entry ≡ None → IfOk result
-        (λ f. f.checked ≡ Checked.Faulty → ¬ (AreAccepted (bytes_in sources.now))) }
+    ensures accepted { IfOk result (λ f. ¬ (f.checked ≡ Checked.Faulty) → AreAccepted (bytes_in sources.now)) }
+    ensures refused { root.entry ≡ None → IfOk result (λ f. f.checked ≡ Checked.Faulty → ¬ (AreAccepted (bytes_in sources.now))) }
 {
+    let about = known(Profile::Default, named, root);
     let faults = check(alloc, sources)?;
     if !faults.is_empty() {
-        return faulty(alloc, &faults, known(Profile::Default, named, root));
+        return faulty(alloc, &faults, about);
     }
-    package_findings(alloc, sources, named, root)
+    package_findings(alloc, sources, root, about)
 }
 
 /// What is found in the sources in the wide profile, as by [`source_findings`].
@@ -72,36 +74,29 @@ pub fn wide_findings<'a>(
     named: &'a [Named<'a>],
     root: Option<&'a str>,
 ) -> Result<Findings, Fault>
-    ensures { IfOk result
-        (λ f. ¬ (f.checked ≡ Checked.Faulty) → AreWideAccepted (bytes_in sources.now)) }
+    ensures { IfOk result (λ f. ¬ (f.checked ≡ Checked.Faulty) → AreWideAccepted (bytes_in sources.now)) }
 {
+    let about = known(Profile::Wide, named, root);
     let faults = check_wide(alloc, sources)?;
     if !faults.is_empty() {
-        return faulty(alloc, &faults, known(Profile::Wide, named, root));
+        return faulty(alloc, &faults, about);
     }
     match stands_for(alloc, sources)? {
-        Some(meant) => package_findings(alloc, &[meant.as_bytes()], named, root),
-        None => package_findings(alloc, sources, named, root),
+        Some(meant) => package_findings(alloc, &[meant.as_bytes()], root, about),
+        None => package_findings(alloc, sources, root, about),
     }
 }
 
 /// What is found in the package of sources without faults: that it hasn't the root, or else its warnings.
-fn package_findings<'a>(
-    alloc: Global,
-    sources: &[&[u8]],
-    named: &'a [Named<'a>],
-    root: Option<&'a str>,
-) -> Result<Findings, Fault>
+fn package_findings(alloc: Global, sources: &[&[u8]], root: Option<&str>, about: About<'_>) -> Found
     ensures { root.entry ≡ None → IfOk result (λ f. ¬ (f.checked ≡ Checked.Faulty)) }
 {
     let package = accepted_package(alloc, sources)?;
-    if let Some(name) = root
-        && package.package().find(name).is_none()
-    {
-        let about = known(Profile::Default, named, root);
-        return faulty(alloc, &[Fault::UnknownRoot], about);
+    if root.is_some_and(|name| package.package().find(name).is_none()) {
+        let profile = Profile::Default;
+        return faulty(alloc, &[Fault::UnknownRoot], About { profile, ..about });
     }
-    let lines = warning_lines(alloc, &package, named)?;
+    let lines = warning_lines(alloc, &package, about.sources)?;
     let mut checked = Checked::Well;
     if !lines.is_empty() {
         checked = Checked::Warned;
@@ -116,10 +111,8 @@ fn package_findings<'a>(
 /// # Errors
 /// Memory alone.
 pub fn schema_findings(alloc: Global, schema: Named<'_>) -> Result<Findings, Fault>
-    ensures accepted { IfOk result
-        (λ f. ¬ (f.checked ≡ Checked.Faulty) → IsSchemaText schema.entry.text.now) }
-    ensures refused { IfOk result
-        (λ f. f.checked ≡ Checked.Faulty → ¬ (IsSchemaText schema.entry.text.now)) }
+    ensures accepted { IfOk result (λ f. ¬ (f.checked ≡ Checked.Faulty) → IsSchemaText schema.entry.text.now) }
+    ensures refused { IfOk result (λ f. f.checked ≡ Checked.Faulty → ¬ (IsSchemaText schema.entry.text.now)) }
 {
     findings_of(alloc, schema, schema.text)
 }
@@ -129,8 +122,7 @@ pub fn schema_findings(alloc: Global, schema: Named<'_>) -> Result<Findings, Fau
 /// # Errors
 /// Memory alone.
 pub fn wide_schema_findings(alloc: Global, schema: Named<'_>) -> Result<Findings, Fault>
-    ensures accepted { IfOk result (λ f. ¬ (f.checked ≡ Checked.Faulty)
-        → SchemaMeans profiles.Wide schema.entry.text.now IsSchemaText) }
+    ensures accepted { IfOk result (λ f. ¬ (f.checked ≡ Checked.Faulty) → SchemaMeans profiles.Wide schema.entry.text.now IsSchemaText) }
     ensures refused { IfOk result (λ f. f.checked ≡ Checked.Faulty
         → SchemaMeans profiles.Wide schema.entry.text.now (λ judged. ¬ (IsSchemaText judged))) }
 {
@@ -141,11 +133,9 @@ pub fn wide_schema_findings(alloc: Global, schema: Named<'_>) -> Result<Findings
 }
 
 /// What is found in a schema's text, which is shown as another one with the same places.
-fn findings_of(alloc: Global, shown: Named<'_>, text: &[u8]) -> Result<Findings, Fault>
-    ensures accepted { IfOk result
-        (λ f. ¬ (f.checked ≡ Checked.Faulty) → IsSchemaText text.now) }
-    ensures refused { IfOk result
-        (λ f. f.checked ≡ Checked.Faulty → ¬ (IsSchemaText text.now)) }
+fn findings_of(alloc: Global, shown: Named<'_>, text: &[u8]) -> Found
+    ensures accepted { IfOk result (λ f. ¬ (f.checked ≡ Checked.Faulty) → IsSchemaText text.now) }
+    ensures refused { IfOk result (λ f. f.checked ≡ Checked.Faulty → ¬ (IsSchemaText text.now)) }
 {
     let faults = check_schema(alloc, text)?;
     if faults.is_empty() {
@@ -173,7 +163,7 @@ fn known<'a>(profile: Profile, sources: &'a [Named<'a>], root: Option<&'a str>) 
 }
 
 /// Faults of what is known, with a line for each.
-fn faulty(alloc: Global, faults: &[Fault], about: About<'_>) -> Result<Findings, Fault>
+fn faulty(alloc: Global, faults: &[Fault], about: About<'_>) -> Found
     ensures { IfOk result (λ f. f.checked ≡ Checked.Faulty) }
 {
     let mut lines = String::new(alloc);

@@ -4,7 +4,6 @@
 
 mod findings;
 mod mends;
-mod operands;
 mod schema;
 mod sources;
 mod warnings;

@@ -1,8 +1,8 @@
 // What is mended at a place of a source: a label, an operand, a declaration, or the lines of a definition; and sources with such mends.
 use cs_grammar::Sort;
 use cs_sources::Separator::{Amp, Bar, Colon, Comma};
-use cs_sources::{Inside, Near, Part, Source, is_mark, separates};
-use std::alloc::{AllocError, Global};
+use cs_sources::{Inside, Made, Near, Part, Source, is_mark, separates};
+use std::alloc::Global;
 use std::collections::BTreeSet;
 
 /// A mend: what is from one offset of a source up to another one becomes a text.
@@ -31,7 +31,7 @@ pub(crate) struct Draft<'a> {
 
 impl<'a> Draft<'a> {
     /// The text with its mends.
-    pub(crate) fn mended(&self, alloc: Global) -> Result<Vec<u8>, AllocError> {
+    pub(crate) fn mended(&self, alloc: Global) -> Made<Vec<u8>> {
         let source = self.source.named.text;
         let mut text = Vec::with_capacity(alloc, source.len())?;
         let mut from = 0;
@@ -62,7 +62,7 @@ impl<'a> Draft<'a> {
     }
 
     /// Adds a mend, in the place of those inside of it. Of two texts that come before the same token the later one stands first.
-    pub(crate) fn add(&mut self, mend: Mend) -> Result<(), AllocError> {
+    pub(crate) fn add(&mut self, mend: Mend) -> Made<()> {
         let is_added = mend.from == mend.to;
         self.mends.retain(|other| is_added || other.from < mend.from || mend.to < other.to);
         let place = self.mends.partition_point(|other| other.from < mend.from);
@@ -70,7 +70,7 @@ impl<'a> Draft<'a> {
     }
 
     /// Puts the words that stand in what mends took out.
-    pub(crate) fn put_taken(&self, words: &mut BTreeSet<&'a str>) -> Result<(), AllocError> {
+    pub(crate) fn put_taken(&self, words: &mut BTreeSet<&'a str>) -> Made<()> {
         for mend in &self.mends {
             let first = self.source.place_at(mend.from);
             let tokens = self.source.tokens.get(first..self.source.place_at(mend.to));
@@ -80,7 +80,7 @@ impl<'a> Draft<'a> {
     }
 
     /// Opens a struct literal: `...` at its end, and brackets around one that is written without them, as `b: T` in `a: b: T`.
-    pub(crate) fn open_literal(&mut self, place: usize) -> Result<(), AllocError> {
+    pub(crate) fn open_literal(&mut self, place: usize) -> Made<()> {
         let source = &self.source;
         if is_mark(source.token(place), "{") {
             let held = source.held(source.own(place));
@@ -99,7 +99,7 @@ impl<'a> Draft<'a> {
     }
 
     /// The references to a name in the bodies of a definition become `_`; whether there are some.
-    pub(crate) fn cut_names(&mut self, definition: &str, name: &str) -> Result<bool, AllocError> {
+    pub(crate) fn cut_names(&mut self, definition: &str, name: &str) -> Made<bool> {
         let source = &self.source;
         let count = self.mends.len();
         // Where the body ends that the token is in.
@@ -124,9 +124,10 @@ impl<'a> Draft<'a> {
 struct Spot<'s, 'a> {
     place: usize,
     declaration: Part<'s, 'a>,
-    /// The last colon of the declaration before the place, and the next one.
-    colon_before: Option<usize>,
-    colon_behind: Option<usize>,
+    /// What of it is between the colons around the place, and whether there is one before that, and one behind.
+    between: Part<'s, 'a>,
+    is_value: bool,
+    is_label: bool,
     /// Whether it is in the label of a definition.
     is_definition: bool,
 }
@@ -147,24 +148,22 @@ impl<'s, 'a> Spot<'s, 'a> {
         if begins_for(declaration) && is_mark(source.token(declaration.to), ",") {
             declaration.to = source.declaration_at(declaration.to.saturating_add(1)).to;
         }
-        let held = source.held_in_declaration(place);
-        let before = source.last_separator(Colon, held);
-        let colon_before = before.filter(|colon| *colon >= declaration.from);
+        let between = declaration.part_around(Colon, source.held_in_declaration(place));
+        let is_value = between.from > declaration.from;
         Spot {
             place,
             declaration,
-            colon_before,
-            colon_behind: source.separator(Colon, held, declaration.to, 0),
-            is_definition: colon_before.is_none() && source.around(declaration.from) == 0,
+            between,
+            is_value,
+            is_label: between.to < declaration.to,
+            is_definition: !is_value && source.around(declaration.from) == 0,
         }
     }
 
     /// The label that the place is in becomes one that no name refers to.
     fn mended_label(self) -> Option<Mend> {
-        let before = self.colon_before.map(|colon| colon.saturating_add(1));
-        let from = before.unwrap_or(self.declaration.from);
         let put = if self.is_definition { "#_" } else { "\"\"" };
-        Some(Mend::over(self.declaration.between(from, self.colon_behind?), put))
+        self.is_label.then_some(Mend::over(self.between, put))
     }
 
     /// The operand that the place is in, without `...` at its front, becomes `_`, in a value: behind a colon, or in a list or parentheses. The
@@ -174,17 +173,12 @@ impl<'s, 'a> Spot<'s, 'a> {
         let around = source.around(self.place);
         let mut operand = source.held(around);
         for separator in [Amp, Bar, Comma, Colon] {
-            if let Some(before) = source.last_separator(separator, self.place) {
-                operand.from = operand.from.max(before.saturating_add(1));
-            }
-            let behind = source.separator(separator, self.place, operand.to, 0);
-            operand.to = behind.unwrap_or(operand.to);
+            operand = operand.part_around(separator, self.place);
         }
         let dots = usize::from(is_mark(source.token(operand.from), "..."));
         operand.from = operand.from.saturating_add(dots);
         let inside = source.bracket(around).inside;
-        let is_in_value = self.colon_before.is_some()
-            || matches!(inside, Inside::List | Inside::Parentheses);
+        let is_in_value = self.is_value || matches!(inside, Inside::List | Inside::Parentheses);
         let is_one = operand.from < operand.to && is_in_value && !begins_for(operand);
         is_one.then_some(Mend::over(operand, "_"))
     }
@@ -196,10 +190,10 @@ impl<'s, 'a> Spot<'s, 'a> {
         if opened.inside != Inside::Struct {
             opened = source.bracket(source.own(to.checked_sub(1)?));
         }
-        let is_labelled = self.colon_before.is_some() || self.colon_behind.is_some();
+        let is_one = opened.inside == Inside::Struct && !self.is_value && !self.is_label;
         let put = if self.is_definition { "#_: " } else { "\"\": " };
         let head = self.declaration.between(from, opened.first.checked_sub(1)?);
-        (opened.inside == Inside::Struct && !is_labelled).then_some(Mend::over(head, put))
+        is_one.then_some(Mend::over(head, put))
     }
 
     /// The declaration goes, with the comma behind it; the token alone, where that is in none.

@@ -6,7 +6,7 @@ ghost use Rattle.cs_check.specs.Told.{AreAccepted, AreWideAccepted, BeginsWithFi
 use crate::MOST_FAULTS;
 use crate::mends::{Draft, mend_at, mended_embedding, mended_value};
 use cs_place::Named;
-use cs_sources::Source;
+use cs_sources::{Made, Source};
 use cs_tool::{Fault, accepted_package, slices_of};
 use cs_widen::{Profile, stands_for};
 use std::alloc::{AllocError, Global};
@@ -24,8 +24,7 @@ const MOST_READS: usize = 2 * MOST_FAULTS;
 /// opened, and recursion, where all sources spell files as they are.
 pub fn check(alloc: Global, sources: &[&[u8]]) -> Result<Vec<Fault>, Fault>
     ensures first { IfOk result (λ faults. BeginsWithFirst (bytes_in sources.now) faults.items) }
-    ensures none { IfOk result
-        (λ faults. (faults.items ≡ []) ↔ AreAccepted (bytes_in sources.now)) }
+    ensures none { IfOk result (λ faults. (faults.items ≡ []) ↔ AreAccepted (bytes_in sources.now)) }
     ensures most { IfOk result (λ faults. length faults.items ≤ 50) }
     ensures memory { IsOkUnless result Fault.OutOfMemory }
 {
@@ -38,8 +37,7 @@ pub fn check(alloc: Global, sources: &[&[u8]]) -> Result<Vec<Fault>, Fault>
 /// The faults of sources in the wide profile, as those of [`check`].
 pub fn check_wide(alloc: Global, sources: &[&[u8]]) -> Result<Vec<Fault>, Fault>
     ensures first { IfOk result (λ faults. BeginsWithWideFirst (bytes_in sources.now) faults.items) }
-    ensures none { IfOk result
-        (λ faults. faults.items ≡ [] → AreWideAccepted (bytes_in sources.now)) }
+    ensures none { IfOk result (λ faults. faults.items ≡ [] → AreWideAccepted (bytes_in sources.now)) }
     ensures most { IfOk result (λ faults. length faults.items ≤ 50) }
     ensures memory { IsOkUnless result Fault.OutOfMemory }
 {
@@ -118,7 +116,7 @@ fn place_of(fault: &Fault) -> (usize, usize) {
 
 impl<'f, 'a> Told<'f, 'a> {
     /// A draft of each source, without mends.
-    fn drafts(&self, sources: &[&'a [u8]]) -> Result<Vec<Draft<'a>>, AllocError> {
+    fn drafts(&self, sources: &[&'a [u8]]) -> Made<Vec<Draft<'a>>> {
         let (name, line) = ("", 1);
         let mut drafts = Vec::with_capacity(self.alloc, sources.len())?;
         for (file, text) in sources.iter().enumerate() {
@@ -133,7 +131,7 @@ impl<'f, 'a> Told<'f, 'a> {
     /// The faults behind the first one, in the order of their places: those of texts, one text after another, and then those of the package, where
     /// each text spells a file with its faults mended. Where words were taken out of the sources, names alone are told of it, but for these words.
     /// There are none where what the first one is about isn't a place that can be mended.
-    fn further_faults(mut self, sources: &[&'a [u8]]) -> Result<Vec<Fault>, AllocError> {
+    fn further_faults(mut self, sources: &[&'a [u8]]) -> Made<Vec<Fault>> {
         let first = self.first;
         if !matches!(first.number(), 3..=7 | 9..=12) {
             return Ok(self.rest);
@@ -157,7 +155,7 @@ impl<'f, 'a> Told<'f, 'a> {
     }
 
     /// The first fault of drafts as they are mended; none where they spell a package, or where no more faults are told.
-    fn next_fault(&self, drafts: &[Draft<'_>]) -> Result<Option<Fault>, AllocError> {
+    fn next_fault(&self, drafts: &[Draft<'_>]) -> Made<Option<Fault>> {
         if self.rest.len() >= MOST_FAULTS - 1 {
             return Ok(None);
         }
@@ -175,7 +173,7 @@ impl<'f, 'a> Told<'f, 'a> {
     }
 
     /// Tells a fault, and says whether it is new.
-    fn tell(&mut self, fault: Fault) -> Result<bool, AllocError> {
+    fn tell(&mut self, fault: Fault) -> Made<bool> {
         // Cycles are told by their names, and none comes twice.
         let is_cycle = matches!(fault, Fault::Cycle { .. });
         let (number, place) = (fault.number(), place_of(&fault));
@@ -189,7 +187,7 @@ impl<'f, 'a> Told<'f, 'a> {
 
     /// Tells the faults of a text, and says whether it spells a file with all of them mended. Where no further place is at fault, more is
     /// taken out at the last one.
-    fn tell_text(&mut self, draft: &mut Draft<'_>) -> Result<bool, AllocError> {
+    fn tell_text(&mut self, draft: &mut Draft<'_>) -> Made<bool> {
         // The last place that was told: whether the text was cut into tokens there, which it is first, and the offset.
         let mut reached = None;
         let mut made = 0usize;
@@ -242,9 +240,8 @@ impl<'f, 'a> Told<'f, 'a> {
         (is_known && !is_mended).then_some((at_place(fault, file, offset), !is_uncertain))
     }
 
-    /// Mends a fault of a package by its place in its source, and says whether that was done. A cycle is cut between its first name and the
-    /// next one.
-    fn mend(&mut self, drafts: &mut [Draft<'_>], fault: &Fault) -> Result<bool, AllocError> {
+    /// Mends a fault of a package by its place in its source, and says whether that was done. A cycle is cut between its first name and the next one.
+    fn mend(&mut self, drafts: &mut [Draft<'_>], fault: &Fault) -> Made<bool> {
         if let Fault::Cycle { names } = fault
             && let Some(first) = names.first()
         {
@@ -271,7 +268,7 @@ impl<'f, 'a> Told<'f, 'a> {
     }
 
     /// Tells and mends the next fault of a package, and says whether to look for others.
-    fn tell_next(&mut self, drafts: &mut [Draft<'_>]) -> Result<bool, AllocError> {
+    fn tell_next(&mut self, drafts: &mut [Draft<'_>]) -> Made<bool> {
         let Some(fault) = self.next_fault(drafts)? else {
             return Ok(false);
         };

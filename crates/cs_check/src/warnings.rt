@@ -1,25 +1,25 @@
-// The definitions that have no instance, each with a line, and why they have none: in words, of which nothing is proved.
+// The definitions that have no instance, each with a line, and why they have none: in words, of which nothing is proved. What is asked of one document,
+// as expressions each of which it has to be an instance of, is looked at until one reason is found.
 ghost use Rattle.std.specs.Prelude.{◌≡◌, ℕ, true, Some, IfOk, slice_get};
 ghost use Rattle.std.specs.List.{AllByRecursion};
 ghost use Rattle.cs_question.specs.NoInstance.{HasNoDocument};
 
-use crate::operands::{Fields, Operand, clash, lengths_of, put_shapes};
-use cs_advice::{put_all, put_offset, put_quoted};
-use cs_fault_words::Profile;
+use cs_fault_words::{Profile, put_offset, put_quoted};
 use cs_guard::Guarded;
-use cs_package::{Package, Shape};
+use cs_package::{
+    FieldMark, Inside, Kind, Literal, Package, Part, Relation, Shape, ShapeEnd, Simple,
+};
 use cs_place::Named;
+use cs_profile::JsonKind;
 use cs_question::{QuestionFault, without_instance};
-use cs_sources::{declared_in, sources_of};
+use cs_sources::{Made, declared_in, sources_of};
 use std::alloc::{AllocError, Global};
-use std::collections::BTreeSet;
+use std::collections::{BTreeMap, BTreeSet};
 
 /// The most steps for one definition: the expressions that are looked at, and their parts.
 const MOST_OF_ONE: usize = 100_000;
-
 /// The most steps for all definitions of a package together.
 const MOST_OF_ALL: usize = 1_000_000;
-
 /// How deep a reason may lie: in parts of parts, and in alternatives that are taken at once.
 const MOST_DEPTH: usize = 64;
 
@@ -27,7 +27,7 @@ const MOST_DEPTH: usize = 64;
 #[derive(Drop)]
 pub struct Warning<'a> {
     pub definition: usize,
-    pub(crate) reason: Option<Reason<'a>>,
+    reason: Option<Reason<'a>>,
 }
 
 /// The definitions that no document is an instance of, as far as they are found: by the question of `cs_question::without_instance`,
@@ -35,7 +35,7 @@ pub struct Warning<'a> {
 ///
 /// # Errors
 /// Where memory runs out.
-pub fn warned<'a>(alloc: Global, package: &'a Guarded) -> Result<Vec<Warning<'a>>, AllocError>
+pub fn warned<'a>(alloc: Global, package: &'a Guarded) -> Made<Vec<Warning<'a>>>
     ensures none { IfOk result (λ v. AllByRecursion (λ w. HasNoDocument «package».now w.definition) v.items) }
 {
     match without_instance(alloc, package) {
@@ -46,11 +46,7 @@ pub fn warned<'a>(alloc: Global, package: &'a Guarded) -> Result<Vec<Warning<'a>
 }
 
 /// A warning for each definition that is known to have no instance.
-fn told<'a>(
-    alloc: Global,
-    package: &'a Package,
-    empty: &[bool],
-) -> Result<Vec<Warning<'a>>, AllocError>
+fn told<'a>(alloc: Global, package: &'a Package, empty: &[bool]) -> Made<Vec<Warning<'a>>>
     ensures { IfOk result (λ v. AllByRecursion (λ w. slice_get empty.now w.definition ≡ Some true) v.items) }
 {
     let mut search = Search {
@@ -73,38 +69,32 @@ fn told<'a>(
 
 /// The lines of the warnings of a package, which these sources spell: where each definition is declared first, that it has no instance, and why
 /// where that was found.
-pub(crate) fn warning_lines(
-    alloc: Global,
-    package: &Guarded,
-    named: &[Named<'_>],
-) -> Result<String, AllocError> {
-    let warnings = warned(alloc, package)?;
+pub(crate) fn warning_lines(alloc: Global, package: &Guarded, named: &[Named<'_>]) -> Made<String> {
     let mut lines = String::new(alloc);
-    if !warnings.is_empty() {
-        let sources = sources_of(alloc, Profile::Wide, named)?;
-        let declared = declared_in(alloc, &sources)?;
-        for warning in &warnings {
-            let (name, _) = definition_at(package.package(), warning.definition);
-            if let Some(first) = declared.of(name) {
-                put_offset(&mut lines, first.source.named, first.here().start)?;
-            }
-            put_all(
-                &mut lines,
-                &["warning: no document is an instance of ", name],
-            )?;
-            if let Some(reason) = warning.reason {
-                lines.push_str(": ")?;
-                reason.put(&mut lines)?;
-            }
-            lines.push('\n')?;
+    let warnings = warned(alloc, package)?;
+    if warnings.is_empty() {
+        return Ok(lines);
+    }
+    let sources = sources_of(alloc, Profile::Wide, named)?;
+    let declared = declared_in(alloc, &sources)?;
+    for warning in &warnings {
+        let (name, _) = definition_at(package.package(), warning.definition);
+        if let Some(first) = declared.of(name) {
+            put_offset(&mut lines, first.source.named, first.here().start)?;
         }
+        write!(lines, "warning: no document is an instance of {name}")?;
+        if let Some(reason) = warning.reason {
+            lines.push_str(": ")?;
+            reason.put(&mut lines)?;
+        }
+        lines.push('\n')?;
     }
     Ok(lines)
 }
 
 /// Why no document is an instance of a definition, as far as one reason was found. `put` says what each means.
 #[derive(Clone, Copy, PartialEq, Eq)]
-pub(crate) enum Reason<'a> {
+enum Reason<'a> {
     Bottom,
     Kinds,
     Interval,
@@ -140,7 +130,7 @@ impl<'a> Reason<'a> {
     }
 
     /// Puts it in words.
-    fn put(self, text: &mut String) -> Result<(), AllocError> {
+    fn put(self, text: &mut String) -> Made<()> {
         match self {
             Reason::Bottom => text.push_str("it asks for `_|_`"),
             Reason::Kinds => text.push_str("its operands are of different kinds"),
@@ -149,8 +139,7 @@ impl<'a> Reason<'a> {
             Reason::Lengths => text.push_str("its lists have different lengths"),
             Reason::MissingKey { key, closed } => {
                 put_quoted(text, "it requires ", key)?;
-                let parts = [", and ", closed, ", which is closed, doesn't allow it"];
-                put_all(text, &parts)
+                write!(text, ", and {closed}, which is closed, doesn't allow it")
             }
             Reason::Field { key } => put_quoted(text, "nothing may stand under its key ", key),
             Reason::Element { place } => {
@@ -159,9 +148,208 @@ impl<'a> Reason<'a> {
             Reason::Alternatives => text.push_str("none of its alternatives has an instance"),
             Reason::Together => text.push_str("none of its alternatives meets what else it asks"),
             Reason::Itself => text.push_str("each instance would need another one inside it"),
-            Reason::Through { name } => put_all(text, &["it refers to ", name, ", which has none"]),
+            Reason::Through { name } => write!(text, "it refers to {name}, which has none"),
         }
     }
+}
+
+/// An expression, which stands in a body of the definition of that name.
+#[derive(Clone, Copy)]
+struct Operand<'a> {
+    shape: &'a Shape,
+    definition: &'a str,
+}
+
+/// Adds expressions of a body of a definition.
+fn put_shapes<'a>(to: &mut Vec<Operand<'a>>, shapes: &'a [Shape], definition: &'a str) -> Made<()> {
+    for shape in shapes {
+        to.push(Operand { shape, definition })?;
+    }
+    Ok(())
+}
+
+/// How many elements lists have at least and at most, by the list literals among these. At least so many are the longest front.
+fn lengths_of(operands: &[Operand<'_>]) -> (usize, usize) {
+    let (mut least, mut most) = (0, usize::MAX);
+    for operand in operands {
+        if let Shape::List { front, end } = operand.shape {
+            least = front.len().max(least);
+            if matches!(end, ShapeEnd::Closed) {
+                most = front.len().min(most);
+            }
+        }
+    }
+    (least, most)
+}
+
+impl<'a> Operand<'a> {
+    /// What a look at it takes: one step, and one for each of its parts.
+    fn cost(self) -> usize {
+        let parts = match self.shape {
+            Shape::Struct { parts, .. } => parts.len(),
+            Shape::List { front, .. } => front.len(),
+            _ => 0,
+        };
+        parts.saturating_add(1)
+    }
+
+    /// What it asks of the element at a place, if it is a list literal.
+    fn element_at(self, place: usize) -> Option<Operand<'a>> {
+        let Shape::List { front, end } = self.shape else {
+            return None;
+        };
+        let shape = match (front.get(place), end) {
+            (Some(element), _) => element,
+            (None, ShapeEnd::Each(each)) => &**each,
+            (None, ShapeEnd::Closed | ShapeEnd::Any) => return None,
+        };
+        Some(Operand { shape, ..self })
+    }
+}
+
+/// What is asked of the value under a key.
+#[derive(Drop)]
+struct Field<'a> {
+    is_required: bool,
+    operands: Vec<Operand<'a>>,
+    /// How many closed structs declare it, from the first on, before one that doesn't.
+    allowed: usize,
+}
+
+/// What structs ask of the values under their labels, and under every key.
+#[derive(Drop)]
+struct Fields<'a> {
+    labelled: BTreeMap<&'a str, Field<'a>>,
+    every: Vec<Operand<'a>>,
+    /// For each closed struct, which allows its labels alone, the name of the definition in whose body it stands.
+    closed: Vec<&'a str>,
+}
+
+impl<'a> Fields<'a> {
+    /// What the structs among these ask of the values under their keys.
+    fn of(alloc: Global, operands: &[Operand<'a>]) -> Made<Fields<'a>> {
+        let mut fields = Fields {
+            labelled: BTreeMap::new(alloc),
+            every: Vec::new(alloc),
+            closed: Vec::new(alloc),
+        };
+        for operand in operands {
+            if let Shape::Struct { parts, opened } = operand.shape {
+                let is_every = |part: &Part| matches!(part.mark, FieldMark::Every { .. });
+                let is_closed = !opened && !parts.iter().any(is_every);
+                for part in parts {
+                    fields.add(part, *operand, is_closed)?;
+                }
+                if is_closed {
+                    fields.closed.push(operand.definition)?;
+                }
+            }
+        }
+        Ok(fields)
+    }
+
+    /// Adds what a declaration of a struct asks, which is the next closed one, or none.
+    fn add(&mut self, part: &'a Part, whole: Operand<'a>, is_closed: bool) -> Made<()> {
+        let shape = &part.value;
+        let operand = Operand { shape, ..whole };
+        if let FieldMark::Every { .. } = part.mark {
+            return Ok(self.every.push(operand)?);
+        }
+        let closed = self.closed.len();
+        let none = Field {
+            is_required: false,
+            operands: Vec::new(*self.closed.allocator()),
+            allowed: 0,
+        };
+        let field = self.labelled.entry(part.label.as_str())?.or_insert(none);
+        field.is_required |= matches!(part.mark, FieldMark::Regular | FieldMark::Required);
+        let is_next = is_closed && field.allowed == closed;
+        field.allowed = field.allowed.saturating_add(usize::from(is_next));
+        Ok(field.operands.push(operand)?)
+    }
+
+    /// The first key that is required and that a closed struct doesn't allow, with the definition of the first such struct.
+    fn missing_key(&self) -> Option<Reason<'a>> {
+        for (key, field) in &self.labelled {
+            if field.is_required
+                && let Some(closed) = self.closed.get(field.allowed).copied()
+            {
+                return Some(Reason::MissingKey { key: *key, closed });
+            }
+        }
+        None
+    }
+}
+
+/// The one kind of documents that an expression admits, where its form says so; none where it says nothing or admits several.
+fn kind_of(shape: &Shape) -> Option<JsonKind> {
+    let simple = match shape.inside() {
+        Inside::Simple(simple) => simple,
+        Inside::List { .. } => return Some(JsonKind::Array),
+        Inside::Struct { .. } => return Some(JsonKind::Object),
+        Inside::Definition(_) | Inside::And(_) | Inside::Or(_) => return None,
+    };
+    Some(match simple {
+        Simple::Top | Simple::Bottom | Simple::Excluded(Literal::Null) => return None,
+        Simple::Literal(literal) | Simple::Excluded(literal) => match literal {
+            Literal::Null => JsonKind::Null,
+            Literal::Bool(_) => JsonKind::Boolean,
+            Literal::Int(_) => JsonKind::Integer,
+            Literal::Text(_) => JsonKind::String,
+        },
+        Simple::Kind(Kind::Bool) => JsonKind::Boolean,
+        Simple::Kind(Kind::Text) => JsonKind::String,
+        Simple::Kind(Kind::Int | Kind::Number) | Simple::Range { .. } | Simple::Bound { .. } => {
+            JsonKind::Integer
+        }
+    })
+}
+
+/// The integers that an expression admits, by their ends; those of an empty interval where there is none.
+fn ends_of(shape: &Shape) -> (i64, i64) {
+    let (none, least, greatest) = ((i64::MAX, i64::MIN), i64::MIN, i64::MAX);
+    match shape {
+        Shape::Int(n) => (*n, *n),
+        Shape::Range { least, greatest } => (*least, greatest.unwrap_or(i64::MAX)),
+        Shape::Bound { relation, limit } => match relation {
+            Relation::AtLeast => (*limit, greatest),
+            Relation::AtMost => (least, *limit),
+            Relation::More => limit.checked_add(1).map_or(none, |next| (next, greatest)),
+            Relation::Less => limit.checked_sub(1).map_or(none, |last| (least, last)),
+        },
+        _ => (least, greatest),
+    }
+}
+
+/// Why no document meets all of the operands, as far as it is seen without looking at its parts.
+fn clash<'a>(operands: &[Operand<'a>]) -> Option<Reason<'a>> {
+    let mut kinds = operands.iter().filter_map(|operand| kind_of(operand.shape));
+    let kind = kinds.next()?;
+    if kinds.any(|other| other != kind) {
+        return Some(Reason::Kinds);
+    }
+    // The integers that all operands admit, by their ends.
+    let ends = operands.iter().map(|operand| ends_of(operand.shape));
+    let both = |all: (i64, i64), other: (i64, i64)| (all.0.max(other.0), all.1.min(other.1));
+    let (least, greatest) = ends.fold((i64::MIN, i64::MAX), both);
+    let last = (least == greatest).then_some(Literal::Int(least));
+    let named = operands.iter().find_map(|operand| operand.shape.literal());
+    if let Some(value) = named.or(last) {
+        let is_left_out = |operand: &Operand<'_>| {
+            operand.shape.literal().unwrap_or(value) != value
+                || operand.shape.excluded() == Some(value)
+        };
+        let reason = match value {
+            Literal::Null => Reason::Kinds,
+            Literal::Bool(_) | Literal::Int(_) | Literal::Text(_) => Reason::Literals,
+        };
+        return (least > greatest || operands.iter().any(is_left_out)).then_some(reason);
+    }
+    if least > greatest {
+        return Some(Reason::Interval);
+    }
+    let (shortest, longest) = lengths_of(operands);
+    (shortest > longest).then_some(Reason::Lengths)
 }
 
 /// The name of a definition with its `#`, and its bodies; nothing where there is no such definition.
@@ -174,7 +362,7 @@ fn definition_at(package: &Package, definition: usize) -> (&str, &[Shape]) {
 }
 
 /// The reason that was found, if any.
-type Found<'a> = Result<Option<Reason<'a>>, AllocError>;
+type Found<'a> = Made<Option<Reason<'a>>>;
 
 /// A search for reasons.
 #[derive(Drop)]
@@ -190,19 +378,6 @@ struct Search<'a, 'e> {
     left_of_others: usize,
 }
 
-/// Operands in the place of references and conjunctions.
-#[derive(Drop)]
-struct Opened<'a> {
-    waiting: Vec<Operand<'a>>,
-    /// The definitions that were referred to.
-    seen: BTreeSet<usize>,
-    /// Those that have no alternatives, and those that have.
-    simple: Vec<Operand<'a>>,
-    choices: Vec<Operand<'a>>,
-    /// Why one of them has no instance by itself.
-    never: Option<Reason<'a>>,
-}
-
 impl<'a, 'e> Search<'a, 'e> {
     /// Why nothing is an instance of a definition; none where no reason is found within the limits.
     fn why_empty(&mut self, definition: usize) -> Found<'a> {
@@ -216,49 +391,43 @@ impl<'a, 'e> Search<'a, 'e> {
         self.why(operands, MOST_DEPTH)
     }
 
-    /// Opens operands, as far as the steps are enough, and until one is found that has no instance by itself.
-    fn open(&mut self, waiting: Vec<Operand<'a>>) -> Result<Opened<'a>, AllocError> {
-        let mut opened = Opened {
-            waiting,
-            seen: BTreeSet::new(self.alloc),
-            simple: Vec::new(self.alloc),
-            choices: Vec::new(self.alloc),
-            never: None,
-        };
+    /// The operands in the place of references and conjunctions, as far as the steps are enough, and until one is found that has no instance
+    /// by itself: then why.
+    fn open(
+        &mut self,
+        mut waiting: Vec<Operand<'a>>,
+    ) -> Made<(Vec<Operand<'a>>, Option<Reason<'a>>)> {
+        let mut opened = Vec::new(self.alloc);
+        let mut never = None;
+        // The definitions that were referred to.
+        let mut seen = BTreeSet::new(self.alloc);
         for place in 0..self.left {
-            let Some(operand) = opened.waiting.get(place).copied() else {
+            let Some(operand) = waiting.get(place).copied() else {
                 break;
             };
             self.left = self.left.saturating_sub(operand.cost());
-            self.open_one(&mut opened, operand)?;
-            if self.left == 0 || opened.never.is_some() {
+            match operand.shape {
+                Shape::Bottom => never = Some(Reason::Bottom),
+                Shape::Definition(number) => {
+                    let (name, bodies) = definition_at(self.package, *number);
+                    if self.empty.get(*number) != Some(&true) {
+                        if seen.insert(*number)? {
+                            put_shapes(&mut waiting, bodies, name)?;
+                        }
+                    } else if *number == self.root {
+                        never = Some(Reason::Itself);
+                    } else {
+                        never = Some(Reason::Through { name });
+                    }
+                }
+                Shape::And(shapes) => put_shapes(&mut waiting, shapes, operand.definition)?,
+                _ => opened.push(operand)?,
+            }
+            if self.left == 0 || never.is_some() {
                 break;
             }
         }
-        Ok(opened)
-    }
-
-    /// Opens one of the operands that are waiting.
-    fn open_one(&self, opened: &mut Opened<'a>, operand: Operand<'a>) -> Result<(), AllocError> {
-        match operand.shape {
-            Shape::Bottom => opened.never = Some(Reason::Bottom),
-            Shape::Definition(number) => {
-                let (name, bodies) = definition_at(self.package, *number);
-                if self.empty.get(*number) != Some(&true) {
-                    if opened.seen.insert(*number)? {
-                        put_shapes(&mut opened.waiting, bodies, name)?;
-                    }
-                } else if *number == self.root {
-                    opened.never = Some(Reason::Itself);
-                } else {
-                    opened.never = Some(Reason::Through { name });
-                }
-            }
-            Shape::And(shapes) => put_shapes(&mut opened.waiting, shapes, operand.definition)?,
-            Shape::Or(_) => opened.choices.push(operand)?,
-            _ => opened.simple.push(operand)?,
-        }
-        Ok(())
+        Ok((opened, never))
     }
 
     /// Why no document meets all of these operands.
@@ -267,12 +436,12 @@ impl<'a, 'e> Search<'a, 'e> {
         if depth == 0 || self.left == 0 {
             return Ok(None);
         }
-        let opened = self.open(operands)?;
-        let known = clash(&opened.simple).or(opened.never);
+        let (opened, never) = self.open(operands)?;
+        let known = clash(&opened).or(never);
         if known.is_some() || self.left == 0 {
             return Ok(known);
         }
-        match self.why_inside(&opened.simple, depth - 1)? {
+        match self.why_inside(&opened, depth - 1)? {
             Some(reason) => Ok(Some(reason)),
             None => self.why_choice(opened, depth - 1),
         }
@@ -282,10 +451,7 @@ impl<'a, 'e> Search<'a, 'e> {
     #[cycle(why)]
     fn why_inside(&mut self, operands: &[Operand<'a>], depth: usize) -> Found<'a> {
         let (length, _) = lengths_of(operands);
-        for place in 0..length {
-            if self.left == 0 {
-                return Ok(None);
-            }
+        for place in 0..length.min(self.left) {
             let asked = operands.iter().filter_map(|list| list.element_at(place));
             let asked: Vec<Operand<'a>> = asked.collect(self.alloc)?;
             if let Some(reason) = self.why(asked, depth)? {
@@ -310,13 +476,13 @@ impl<'a, 'e> Search<'a, 'e> {
 
     /// Why no alternative of the last choice meets all other operands: what the reasons of all have in common.
     #[cycle(why)]
-    fn why_choice(&mut self, opened: Opened<'a>, depth: usize) -> Found<'a> {
-        let (mut others, mut choices) = (opened.simple, opened.choices);
+    fn why_choice(&mut self, mut others: Vec<Operand<'a>>, depth: usize) -> Found<'a> {
         let mut common = None;
-        if let Some(choice) = choices.pop()
+        let is_choice = |operand: &Operand<'_>| matches!(operand.shape, Shape::Or(_));
+        if let Some(place) = others.iter().rposition(is_choice)
+            && let choice = others.remove(place)
             && let Shape::Or(alternatives) = choice.shape
         {
-            others.extend_from_slice(&choices)?;
             for shape in alternatives {
                 let mut asked = others.clone()?;
                 asked.push(Operand { shape, ..choice })?;

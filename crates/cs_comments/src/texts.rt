@@ -5,11 +5,10 @@ ghost use Rattle.std.specs.Option.{option_copied, option_map};
 ghost use Rattle.cs_comments.specs.Comments.{above, comment_on, comments_at, is_newline, some_text, text_at};
 ghost use Rattle.cs_comments.specs.Views.{each_text, texts_of};
 
-use cs_describe::Notes;
 use cs_grammar::{Profile, Token};
 use cs_place::{Named, Positions};
-use cs_sources::{Source, end_of, is_mark};
-use std::alloc::{AllocError, Global};
+use cs_sources::{Made, Source, end_of, is_mark};
+use std::alloc::Global;
 use std::collections::BTreeMap;
 use std::str;
 
@@ -29,11 +28,7 @@ pub enum Line<'a> {
 ///
 /// # Errors
 /// Memory ran out.
-pub fn lines_of<'a>(
-    alloc: Global,
-    source: &'a str,
-    tokens: &[Token<'_>],
-) -> Result<Vec<Line<'a>>, AllocError> {
+pub fn lines_of<'a>(alloc: Global, source: &'a str, tokens: &[Token<'_>]) -> Made<Vec<Line<'a>>> {
     let mut lines = Vec::new(alloc);
     let mut start = 0usize;
     let mut next = 0;
@@ -48,8 +43,7 @@ pub fn lines_of<'a>(
     Ok(lines)
 }
 
-/// A line by its text, where it starts, and the tokens on it. No token has a newline in it, so what is behind the last one is
-/// blanks or a comment.
+/// A line by its text, where it starts, and the tokens on it. No token has a newline in it, so what is behind the last one is blanks or a comment.
 fn line_of<'a>(text: &'a str, start: usize, tokens: &[Token<'_>]) -> Line<'a> {
     let last = tokens.iter().rev().find(|token| !token.text.is_empty());
     let end = last.map_or(start, |token| end_of(*token));
@@ -71,7 +65,7 @@ fn comment_of(rest: &str) -> Option<&str> {
 }
 
 /// The comments of the lines that are alone right above a place, which are the last ones.
-fn above<'a>(alloc: Global, lines: &[Line<'a>]) -> Result<Vec<&'a str>, AllocError>
+fn above<'a>(alloc: Global, lines: &[Line<'a>]) -> Made<Vec<&'a str>>
     ensures { IfOk result (λ v. texts_of v.items ≡ above (reverse lines.now)) }
 {
     let mut comments = Vec::new(alloc);
@@ -96,7 +90,7 @@ fn comment_on<'a>(line: Option<&Line<'a>>) -> Option<&'a str>
 }
 
 /// The comments that are the text of what is declared first on a line.
-fn comments_at<'a>(alloc: Global, lines: &[Line<'a>], at: usize) -> Result<Vec<&'a str>, AllocError>
+fn comments_at<'a>(alloc: Global, lines: &[Line<'a>], at: usize) -> Made<Vec<&'a str>>
     ensures { IfOk result (λ v. texts_of v.items ≡ comments_at lines.now at) }
 {
     let mut comments = above(alloc, &lines[..at.min(lines.len())])?;
@@ -123,121 +117,20 @@ fn is_newlines(text: &[u8]) -> bool
 fn some_text(text: String) -> Option<String>
     ensures { option_map string_bytes result ≡ some_text (string_bytes text) }
 {
-    if is_newlines(text.as_bytes()) {
-        None
-    } else {
-        Some(text)
-    }
+    let is_empty = is_newlines(text.as_bytes());
+    if is_empty { None } else { Some(text) }
 }
 
-/// The text of what is declared first on a line: the comments of the run of lines that are alone right above it, each a line
-/// of the text, or else the comment on the line itself. None where that has no character
-/// but the newlines between them.
+/// The text of what is declared first on a line: the comments of the run of lines that are alone right above it, each a line of the text, or else the
+/// comment on the line itself. None where that has no character but the newlines between them.
 ///
 /// # Errors
 /// Memory ran out.
-pub fn text_at(alloc: Global, lines: &[Line<'_>], line: usize) -> Result<Option<String>, AllocError>
+pub fn text_at(alloc: Global, lines: &[Line<'_>], line: usize) -> Made<Option<String>>
     ensures { IfOk result (λ t. option_map string_bytes t ≡ text_at lines.now line) }
 {
     let comments = comments_at(alloc, lines, line)?;
     Ok(some_text(comments.join(alloc, "\n")?))
-}
-
-/// What is declared under one name: the texts, and the notes of the values, both in order.
-#[derive(Drop)]
-struct Declared {
-    texts: Vec<String>,
-    values: Vec<Notes>,
-}
-
-impl Declared {
-    /// The notes of it: those of its one value, or `allOf` of several. Their text is all texts.
-    fn into_notes(self, alloc: Global) -> Result<Notes, AllocError> {
-        let Declared { texts, mut values } = self;
-        let mut notes = Notes::new(alloc);
-        if values.len() > 1 {
-            notes.all_of = values;
-        } else if let Some(only) = values.pop() {
-            notes = only;
-        }
-        if !texts.is_empty() {
-            notes.text = Some(texts.join(alloc, "\n")?);
-        }
-        Ok(notes)
-    }
-}
-
-/// The notes of values, each with the name of what is declared with it, in their order.
-pub(crate) type Values = Vec<(String, Notes)>;
-
-/// The declarations of some names: of the definitions of a package, or of the fields of a struct.
-#[derive(Drop)]
-pub(crate) struct Declarations {
-    pub(crate) alloc: Global,
-    names: BTreeMap<String, Declared>,
-    /// The notes of each `[string]: T` of a struct.
-    unnamed: Vec<Notes>,
-}
-
-impl Declarations {
-    pub(crate) fn new(alloc: Global) -> Declarations {
-        let (names, unnamed) = (BTreeMap::new(alloc), Vec::new(alloc));
-        Declarations {
-            alloc,
-            names,
-            unnamed,
-        }
-    }
-
-    /// What is declared under a name so far.
-    fn under(&mut self, name: &str) -> Result<&mut Declared, AllocError> {
-        let name = String::from_str(self.alloc, name)?;
-        let (texts, values) = (Vec::new(self.alloc), Vec::new(self.alloc));
-        Ok(
-            self.names
-                .entry(name)?
-                .or_insert(Declared { texts, values }),
-        )
-    }
-
-    /// Adds the text of a declaration, where it has one.
-    pub(crate) fn add_text(&mut self, name: &str, text: Option<String>) -> Result<(), AllocError> {
-        match text {
-            Some(text) => Ok(self.under(name)?.texts.push(text)?),
-            None => Ok(()),
-        }
-    }
-
-    /// Adds the notes of the value of a declaration.
-    pub(crate) fn add_value(&mut self, name: &str, value: Notes) -> Result<(), AllocError> {
-        Ok(self.under(name)?.values.push(value)?)
-    }
-
-    /// Adds the notes of the value of `[string]: T`.
-    pub(crate) fn add_unnamed(&mut self, value: Notes) -> Result<(), AllocError> {
-        let mut notes = Notes::new(self.alloc);
-        notes.additional = Some(Box::new(self.alloc, value)?);
-        Ok(self.unnamed.push(notes)?)
-    }
-
-    /// The notes of a struct: under `properties` those under each name, and for each `[string]: T` one under `allOf`.
-    pub(crate) fn into_notes(self) -> Result<Notes, AllocError> {
-        let mut notes = Notes::new(self.alloc);
-        notes.all_of = self.unnamed;
-        for (name, declared) in self.names {
-            let under = declared.into_notes(self.alloc)?;
-            drop(notes.properties.insert(name, under)?);
-        }
-        Ok(notes)
-    }
-
-    /// The notes under each name, with those of these values.
-    pub(crate) fn with(mut self, values: Values) -> Result<BTreeMap<String, Notes>, AllocError> {
-        for (name, value) in values {
-            self.add_value(name.as_str(), value)?;
-        }
-        Ok(self.into_notes()?.properties)
-    }
 }
 
 /// The texts of fields, by the number of the source and the offset of the label.
@@ -246,14 +139,23 @@ pub(crate) type FieldTexts = BTreeMap<(usize, usize), String>;
 /// The texts of what sources declare.
 #[derive(Drop)]
 pub(crate) struct Texts {
-    pub(crate) definitions: Declarations,
+    /// Those of all declarations of a definition, by its name without `#`.
+    pub(crate) definitions: BTreeMap<String, String>,
     pub(crate) fields: FieldTexts,
+}
+
+/// Adds a text behind others.
+pub(crate) fn add_lines(texts: &mut String, text: &str) -> Made<()> {
+    if !texts.is_empty() {
+        texts.push('\n')?;
+    }
+    texts.push_str(text)
 }
 
 impl Texts {
     /// Adds the texts of a source. In one that spells a file a colon ends the label of a definition or a field and is nothing else. Of those
     /// whose labels begin on one line only the first has a text. It reads the source once.
-    fn add(&mut self, alloc: Global, source: &Source<'_>) -> Result<(), AllocError> {
+    fn add(&mut self, alloc: Global, source: &Source<'_>) -> Made<()> {
         let text = str::from_utf8(source.named.text).unwrap_or("");
         let lines = lines_of(alloc, text, &source.tokens)?;
         let mut positions = Positions::new(text.as_bytes());
@@ -264,15 +166,18 @@ impl Texts {
             }
             let label = source.token(source.label_before(place).unwrap_or(0));
             let line = positions.at(label.start).line - 1;
-            if before == Some(line) {
+            if before.replace(line) == Some(line) {
                 continue;
             }
-            before = Some(line);
             let Some(text) = text_at(alloc, &lines, line)? else {
                 continue;
             };
             match label.text.strip_prefix('#') {
-                Some(name) => self.definitions.add_text(name, Some(text))?,
+                Some(name) => {
+                    let name = String::from_str(alloc, name)?;
+                    let all = self.definitions.entry(name)?;
+                    add_lines(all.or_insert(String::new(alloc)), &text)?;
+                }
                 None => drop(self.fields.insert((source.file, label.start), text)?),
             }
         }
@@ -281,12 +186,9 @@ impl Texts {
 }
 
 /// The text of each definition and each field of sources, where it has one.
-///
-/// # Errors
-/// Memory ran out.
-pub(crate) fn texts_of(alloc: Global, sources: &[&[u8]]) -> Result<Texts, AllocError> {
+pub(crate) fn texts_of(alloc: Global, sources: &[&[u8]]) -> Made<Texts> {
     let mut texts = Texts {
-        definitions: Declarations::new(alloc),
+        definitions: BTreeMap::new(alloc),
         fields: BTreeMap::new(alloc),
     };
     let (name, line) = ("", 1);

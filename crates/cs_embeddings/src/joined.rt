@@ -27,7 +27,7 @@ use crate::found::Found;
 use crate::gathered::{Declared, Gathered, declared_of, gather};
 use crate::held::{Operand, first_place, holding, standing};
 use crate::joining::Joining;
-use cs_grammar::{Declaration, Expr, Field, FieldMark, ListEnd, Site, Wide};
+use cs_grammar::{Declaration, Expr, Field, FieldMark, ListEnd, Site, Wide, atom};
 use std::alloc::{AllocError, Global};
 
 /// Where an expression stands, and how high it may be with what it embeds.
@@ -145,12 +145,7 @@ impl<'b, 'a> Joiner<'b, 'a> {
             }
             Expr::List { front, end } => self.joined_list(front, end, room, nodes),
             Expr::Wide(form) => self.joined_form(form, room, nodes),
-            Expr::Top => self.leaf(Expr::Top, room, nodes),
-            Expr::Bottom => self.leaf(Expr::Bottom, room, nodes),
-            Expr::Null => self.leaf(Expr::Null, room, nodes),
-            Expr::Bool(truth) => self.leaf(Expr::Bool(*truth), room, nodes),
-            Expr::Int(integer) => self.leaf(Expr::Int(*integer), room, nodes),
-            Expr::Text(text) => self.leaf(Expr::Text(text.clone()?), room, nodes),
+            atom!() => self.leaf(expr.copy_atom()?, room, nodes),
             Expr::Name { text, at } => {
                 let (text, at) = (text.clone()?, room.place.unwrap_or(*at));
                 self.leaf(Expr::Name { text, at }, room, nodes)
@@ -159,13 +154,6 @@ impl<'b, 'a> Joiner<'b, 'a> {
                 let (text, at) = (text.clone()?, room.place.unwrap_or(*at));
                 self.leaf(Expr::Reference { text, at }, room, nodes)
             }
-            Expr::Bound { relation, limit } => {
-                let (relation, limit) = (*relation, *limit);
-                self.leaf(Expr::Bound { relation, limit }, room, nodes)
-            }
-            Expr::NotInt(integer) => self.leaf(Expr::NotInt(*integer), room, nodes),
-            Expr::NotText(text) => self.leaf(Expr::NotText(text.clone()?), room, nodes),
-            Expr::NotNull => self.leaf(Expr::NotNull, room, nodes),
         }
     }
 

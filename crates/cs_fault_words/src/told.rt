@@ -1,15 +1,14 @@
 // What is told of a refusal: of the form of CUE at its place, of texts that are refused, of schemas, and of documents with too many pairs.
-use cs_advice::{
-    Told, Written, put_advice, put_all, put_filled, put_grouped, put_loop, put_no_root,
-    put_too_large, tell_chain, tell_cycle, tell_package_name, tell_too_high,
-};
+use crate::advice::put_advice;
+use crate::lines::put_filled;
 use cs_forms::{
-    Form, Found, form_left_out_in, form_not_opened, form_out_of_place, form_stuck, form_unknown,
+    Form, Found, form_closed, form_left_out_in, form_out_of_place, form_stuck, form_unknown,
 };
 use cs_grammar::Profile;
 use cs_meanings::explanation;
 use cs_place::{Named, Step, ValuePath, places, pointer_at};
-use cs_sources::{Declared, Made, Near, Source, declared_in};
+use cs_sources::{Declared, Made, Near, Source, declared_in, end_of};
+use cs_text::{Written, put_all, put_grouped, put_line};
 use cs_tool::Fault;
 use json::{Reader, Scratch, Token};
 use simdutf8::compat::from_utf8;
@@ -37,185 +36,221 @@ pub struct About<'a> {
     pub sizes: &'a [(&'a str, u64)],
 }
 
-/// What is told of a fault. What isn't known is left out; where that is all, it is what the number means.
-pub(crate) fn told_of<'a>(
-    alloc: Global,
-    fault: &Fault,
-    about: About<'a>,
-    sources: &[Source<'a>],
-) -> Made<Told<'a>> {
-    let mut told = Told::new(alloc);
-    tell_by_kind(&mut told, fault, about, sources)?;
-    if told.hint.is_empty() && told.named.is_none() {
-        told.named = about.path.map(|name| Named {
-            name,
-            text: b"",
-            line: 1,
-        });
-        put_filled(&mut told.hint, "{}", &[about.cause])?;
-    }
-    if let Some(row) = explanation(fault.number())
-        && told.hint.is_empty()
-    {
-        put_all(&mut told.hint, &[row.meaning, " ", row.remedy])?;
-    }
-    Ok(told)
+/// What is told of a refusal, as far as it is known.
+#[derive(Drop)]
+pub struct Told<'a> {
+    /// The file at fault; its text is empty where it wasn't read.
+    pub named: Option<Named<'a>>,
+    /// Where the part of its text at fault begins, and what is behind that.
+    pub start: Option<usize>,
+    pub end: usize,
+    /// The form of CUE there.
+    pub form: Option<Form>,
+    /// The pointer of the value at fault, in a schema or a document.
+    pub pointer: Option<String>,
+    /// What is wrong, and what to do.
+    pub hint: String,
 }
 
-/// Tells the form of CUE at the place of a fault; nothing without its source, and where that has no token there or behind.
-fn tell_form<'s, 'a>(
-    told: &mut Told<'a>,
-    fault: &Fault,
-    about: About<'a>,
-    source: Option<&'s Source<'a>>,
-    declared: &Declared<'s, 'a>,
-) -> Written {
-    let (Some(source), Some(offset)) = (source, fault.offset()) else {
-        return Ok(());
-    };
-    let Some(near) = Near::at(source, offset) else {
-        return Ok(());
-    };
-    let profile = about.profile;
-    let found = match fault {
-        Fault::NoToken { .. } => form_stuck(profile, near, offset),
-        Fault::IntegerRange { .. } => Found::at(near, Form::LargeInteger),
-        Fault::Syntax { .. } => form_out_of_place(near),
-        Fault::LeftOut { .. } => form_left_out_in(profile, near, declared)?,
-        Fault::UnknownName { .. } => form_unknown(near),
-        Fault::FieldReference { .. } => Found::at(near, Form::FieldReference),
-        Fault::NotOpened { .. } => form_not_opened(profile, about.is_joined, near, declared)?,
-        _ => return Ok(()),
-    };
-    told.place(source.named, found.start, found.end);
-    told.form = Some(found.form);
-    put_advice(&mut told.hint, declared, found)
-}
-
-/// Tells what is known of a fault.
-fn tell_by_kind<'a>(
-    told: &mut Told<'a>,
-    fault: &Fault,
-    about: About<'a>,
-    sources: &[Source<'a>],
-) -> Written {
-    let declared = &declared_in(told.alloc(), sources)?;
-    let source = fault.file().and_then(|file| sources.get(file));
-    let (schema, document) = (about.schema, about.document);
-    match fault {
-        Fault::NotUtf8 { .. } => tell_not_utf8(told, source),
-        Fault::NoToken { .. }
-        | Fault::Syntax { .. }
-        | Fault::LeftOut { .. }
-        | Fault::IntegerRange { .. }
-        | Fault::UnknownName { .. }
-        | Fault::FieldReference { .. }
-        | Fault::NotOpened { .. } => tell_form(told, fault, about, source, declared),
-        Fault::TooHigh { .. } => tell_too_high(told, source),
-        Fault::PackageName { .. } => tell_package_name(told, source, sources),
-        Fault::Cycle { names } => tell_cycle(told, declared, names),
-        Fault::ChainTooLong { names } => tell_chain(told, declared, names),
-        Fault::UnknownRoot => put_no_root(&mut told.hint, declared, about.root),
-        Fault::TooLarge { definitions } => put_too_large(&mut told.hint, *definitions, sources),
-        Fault::TooManyPairs { .. } => tell_too_many_pairs(told, fault, about),
-        Fault::SchemaNotJson { offset, is_cut } => tell_not_json(told, schema, *offset, *is_cut),
-        Fault::NotJson { offset, is_cut } => tell_not_json(told, document, *offset, *is_cut),
-        Fault::NotInteger { offset, in_schema } => {
-            let named = if *in_schema { schema } else { document };
-            tell_not_integer(told, named, *offset)
+impl<'a> Told<'a> {
+    /// What is told of a fault. What isn't known is left out; where that is all, it is what the number means.
+    pub fn of(alloc: Global, fault: &Fault, about: About<'a>, cut: &[Source<'a>]) -> Made<Self> {
+        let mut told = Told {
+            named: None,
+            start: None,
+            end: 0,
+            form: None,
+            pointer: None,
+            hint: String::new(alloc),
+        };
+        told.tell(fault, about, &declared_in(alloc, cut)?)?;
+        if told.hint.is_empty() && told.named.is_none() {
+            let (text, line): (&[u8], usize) = (b"", 1);
+            told.named = about.path.map(|name| Named { name, text, line });
+            put_line(&mut told.hint, &[about.cause])?;
         }
-        Fault::Keyword { .. }
-        | Fault::Shape { .. }
-        | Fault::Reference { .. }
-        | Fault::Loop { .. } => tell_schema_fault(told, schema, fault),
-        // These have no place in a text.
-        Fault::SourcesTooLong
-        | Fault::OutOfMemory
-        | Fault::TooManyCases
-        | Fault::InputTooLong
-        | Fault::ReadFailed
-        | Fault::WriteFailed => Ok(()),
+        if let Some(row) = explanation(fault.number())
+            && told.hint.is_empty()
+        {
+            put_all(&mut told.hint, &[row.meaning, " ", row.remedy])?;
+        }
+        Ok(told)
     }
-}
 
-/// Tells where a source isn't UTF-8 (2).
-fn tell_not_utf8<'a>(told: &mut Told<'a>, source: Option<&Source<'a>>) -> Written {
-    let Some(source) = source else { return Ok(()) };
-    told.named = Some(source.named);
-    let Err(error) = from_utf8(source.named.text) else {
-        return Ok(());
-    };
-    let offset = error.valid_up_to();
-    told.place(source.named, offset, offset);
-    let said = "no UTF-8 from here: save the file as UTF-8, without a byte order mark";
-    told.hint.push_str(said)
-}
-
-/// Tells why a text isn't JSON (20, 25): it shows at an offset, and a text that is cut off ends there.
-fn tell_not_json<'a>(
-    told: &mut Told<'a>,
-    named: Option<Named<'a>>,
-    offset: usize,
-    is_cut: bool,
-) -> Written {
-    let Some(named) = named else { return Ok(()) };
-    let (start, end, said) = match named.text {
-        [0xef, 0xbb, 0xbf, ..] => (0, 3, "a byte order mark: save the file as UTF-8 without it"),
-        _ if is_cut => (offset, offset, "the JSON ends too early"),
-        _ => (
-            offset,
-            offset,
-            "this is no JSON here, or nests more than 127 levels deep",
-        ),
-    };
-    told.place(named, start, end);
-    told.hint.push_str(said)
-}
-
-/// Tells that the number at an offset isn't an integer of 64 signed bits (26), with its pointer.
-fn tell_not_integer<'a>(told: &mut Told<'a>, named: Option<Named<'a>>, offset: usize) -> Written {
-    let Some(named) = named else { return Ok(()) };
-    told.pointer = Some(pointer_at(told.alloc(), named.text, offset)?);
-    let rest = named.text.get(offset..).unwrap_or(&[]);
-    let digits = rest.iter().take_while(|byte| is_of_number(**byte));
-    let number = rest.get(..digits.count()).unwrap_or(&[]);
-    told.place(named, offset, offset.saturating_add(number.len()));
-    let said =
-        "`{}` isn't an integer of 64 signed bits: write one without a fraction or an exponent";
-    let shown = str::from_utf8(number).unwrap_or("");
-    put_filled(&mut told.hint, said, &[shown])
-}
-
-/// Whether a byte can be in a number of JSON.
-fn is_of_number(byte: u8) -> bool {
-    matches!(byte, b'0'..=b'9' | b'-' | b'+' | b'.' | b'e' | b'E')
-}
-
-/// Tells how many values the document has and how many rules judge it, which make too many pairs (27). A schema's rules are the schemas
-/// in it.
-fn tell_too_many_pairs<'a>(told: &mut Told<'a>, fault: &Fault, about: About<'a>) -> Written {
-    let Fault::TooManyPairs {
-        items,
-        rules,
-        by_schema,
-    } = fault
-    else {
-        return Ok(());
-    };
-    if about.document.is_none() {
-        return Ok(());
+    /// What its words grow by.
+    pub fn alloc(&self) -> Global {
+        *self.hint.allocator()
     }
-    told.named = about.document;
-    let text = &mut told.hint;
-    let noun = if *by_schema { " schemas" } else { " rules" };
-    let remedy = match about.schema {
-        Some(_) => "leave out definitions that nothing refers to",
-        None => "split the package by roots",
-    };
-    put_grouped(text, *items, &[" values and "])?;
-    put_grouped(text, *rules, &[noun, " make "])?;
-    let limit = " pairs, and 67,108,864 may be: judge the parts of the document one by one, or ";
-    put_grouped(text, items.saturating_mul(*rules), &[limit, remedy])
+
+    /// Places it at a part of a file.
+    fn place(&mut self, named: Named<'a>, start: usize, end: usize) {
+        self.named = Some(named);
+        self.start = Some(start);
+        self.end = end;
+    }
+
+    /// Places it at a token of a source.
+    pub fn place_at(&mut self, near: Near<'_, 'a>) {
+        let token = near.here();
+        self.place(near.source.named, token.start, end_of(token));
+    }
+
+    /// Tells what is known of a fault.
+    fn tell(&mut self, fault: &Fault, about: About<'a>, declared: &Declared<'_, 'a>) -> Written {
+        let source = fault.file().and_then(|file| declared.sources.get(file));
+        let (schema, document) = (about.schema, about.document);
+        match fault {
+            Fault::NotUtf8 { .. } => self.tell_not_utf8(source),
+            Fault::NoToken { .. }
+            | Fault::Syntax { .. }
+            | Fault::LeftOut { .. }
+            | Fault::IntegerRange { .. }
+            | Fault::UnknownName { .. }
+            | Fault::FieldReference { .. }
+            | Fault::NotOpened { .. } => self.put_form(fault, about.is_joined, declared),
+            Fault::TooHigh { .. } => self.tell_too_high(source),
+            Fault::PackageName { .. } => self.tell_clause(source, declared.sources),
+            Fault::Cycle { names } => self.tell_cycle(declared, names),
+            Fault::ChainTooLong { names } => self.tell_chain(declared, names),
+            Fault::UnknownRoot => self.tell_no_root(declared, about.root),
+            Fault::TooLarge { definitions } => self.tell_too_large(*definitions, declared.sources),
+            Fault::TooManyPairs { by_schema, .. } => self.tell_too_many_pairs(
+                fault, about, *by_schema,
+            ),
+            Fault::SchemaNotJson { offset, is_cut } => self.tell_not_json(schema, *offset, *is_cut),
+            Fault::NotJson { offset, is_cut } => self.tell_not_json(document, *offset, *is_cut),
+            Fault::NotInteger { offset, in_schema } => {
+                self.tell_not_integer(if *in_schema { schema } else { document }, *offset)
+            }
+            Fault::Keyword { .. } | Fault::Shape { .. } | Fault::Reference { .. } =>
+                self.tell_keyword(fault, schema),
+            Fault::Loop { names } => self.tell_loop(schema, names),
+            // These have no place in a text.
+            Fault::SourcesTooLong
+            | Fault::OutOfMemory
+            | Fault::TooManyCases
+            | Fault::InputTooLong
+            | Fault::ReadFailed
+            | Fault::WriteFailed => Ok(()),
+        }
+    }
+
+    /// Tells where a source isn't UTF-8 (2).
+    fn tell_not_utf8(&mut self, source: Option<&Source<'a>>) -> Written {
+        let Some(source) = source else { return Ok(()) };
+        let place = from_utf8(source.named.text).map_or_else(|error| error.valid_up_to(), |_| 0);
+        self.place(source.named, place, place);
+        let said = "no UTF-8 from here: save the file as UTF-8, without a byte order mark";
+        self.hint.push_str(said)
+    }
+
+    /// Puts what is said of the form of CUE at the place of a fault; nothing where its source has no token there or behind.
+    fn put_form(&mut self, fault: &Fault, is_joined: bool, declared: &Declared<'_, 'a>) -> Written {
+        let source = fault.file().and_then(|file| declared.sources.get(file));
+        let (Some(source), Some(offset)) = (source, fault.offset()) else {
+            return Ok(());
+        };
+        let Some(near) = Near::at(source, offset) else {
+            return Ok(());
+        };
+        let found = match fault {
+            Fault::NoToken { .. } => form_stuck(near, offset),
+            Fault::IntegerRange { .. } => Found::at(near, Form::LargeInteger),
+            Fault::Syntax { .. } => form_out_of_place(near),
+            Fault::LeftOut { .. } => form_left_out_in(near, declared)?,
+            Fault::UnknownName { .. } => form_unknown(near),
+            Fault::FieldReference { .. } => Found::at(near, Form::FieldReference),
+            Fault::NotOpened { .. } if is_joined => Found::at(near, Form::Joined),
+            Fault::NotOpened { .. } => form_closed(near, declared)?,
+            _ => return Ok(()),
+        };
+        self.place(source.named, found.start, found.end);
+        self.form = Some(found.form);
+        put_advice(&mut self.hint, declared, found)
+    }
+
+    /// Tells why a text isn't JSON (20, 25): it shows at an offset, and a text that is cut off ends there.
+    fn tell_not_json(&mut self, named: Option<Named<'a>>, offset: usize, is_cut: bool) -> Written {
+        let Some(named) = named else { return Ok(()) };
+        let has_mark = named.text.starts_with(b"\xef\xbb\xbf");
+        let (start, end) = if has_mark { (0, 3) } else { (offset, offset) };
+        self.place(named, start, end);
+        self.hint.push_str(match is_cut {
+            _ if has_mark => "a byte order mark: save the file as UTF-8 without it",
+            true => "the JSON ends too early",
+            false => "this is no JSON here, or nests more than 127 levels deep",
+        })
+    }
+
+    /// Tells that the number at an offset isn't an integer of 64 signed bits (26), with its pointer.
+    fn tell_not_integer(&mut self, named: Option<Named<'a>>, offset: usize) -> Written {
+        let Some(named) = named else { return Ok(()) };
+        self.pointer = Some(pointer_at(self.alloc(), named.text, offset)?);
+        let is_of_number = |byte: &&u8| b"+-.0123456789Ee".contains(*byte);
+        let rest = named.text.get(offset..).unwrap_or(&[]);
+        let len = rest.iter().take_while(is_of_number).count();
+        self.place(named, offset, offset.saturating_add(len));
+        let said =
+            "`{}` isn't an integer of 64 signed bits: write one without a fraction or an exponent";
+        let shown = str::from_utf8(rest.get(..len).unwrap_or(&[])).unwrap_or("");
+        put_filled(&mut self.hint, said, &[shown])
+    }
+
+    /// Tells how many values the document has and how many rules judge it, which make too many pairs (27). A schema's rules are those in it.
+    fn tell_too_many_pairs(&mut self, fault: &Fault, about: About<'a>, by_schema: bool) -> Written {
+        self.named = about.document;
+        let (Fault::TooManyPairs { items, rules, .. }, Some(_)) = (fault, self.named) else {
+            return Ok(());
+        };
+        let text = &mut self.hint;
+        let noun = if by_schema { " schemas" } else { " rules" };
+        let remedy = match about.schema {
+            Some(_) => "leave out definitions that nothing refers to",
+            None => "split the package by roots",
+        };
+        put_grouped(text, *items, &[" values and "])?;
+        put_grouped(text, *rules, &[noun, " make "])?;
+        let limit =
+            " pairs, and 67,108,864 may be: judge the parts of the document one by one, or ";
+        put_grouped(text, items.saturating_mul(*rules), &[limit, remedy])
+    }
+
+    /// Tells of a keyword of a schema, its value or a reference (21 to 23), at the keyword.
+    fn tell_keyword(&mut self, fault: &Fault, schema: Option<Named<'a>>) -> Written {
+        let (Fault::Keyword { place, name }
+        | Fault::Shape { place, name }
+        | Fault::Reference { place, name }) = fault
+        else {
+            return Ok(());
+        };
+        let (place, name) = (place.as_str(), name.as_str());
+        let said = match fault {
+            Fault::Keyword { .. } if name == "default" =>
+                "`--profile wide` takes `{}` as a note; without it take it out, since it says nothing of what is valid",
+            Fault::Keyword { .. } =>
+                "`{}` isn't in the profile: say it by other keywords, or take it out where it says nothing",
+            Fault::Shape { .. } if name.is_empty() => "a schema is `true`, `false` or an object",
+            Fault::Shape { .. } => "the value of `{}` has another form in the profile",
+            _ => "`$defs` doesn't have `{}`",
+        };
+        put_filled(&mut self.hint, said, &[name])?;
+        let is_reference = matches!(fault, Fault::Reference { .. });
+        self.place_key(schema, place, if is_reference { "$ref" } else { name })
+    }
+
+    /// Places it at a key behind a pointer into a schema; an empty one is none.
+    pub fn place_key(&mut self, schema: Option<Named<'a>>, pointer: &str, key: &str) -> Written {
+        let alloc = self.alloc();
+        self.pointer = Some(String::from_str(alloc, pointer)?);
+        self.named = schema;
+        let Some(schema) = schema else { return Ok(()) };
+        let keys = keys_of(alloc, pointer, key)?;
+        if let Some(offset) = offset_of(alloc, schema.text, &keys)? {
+            let end = text_end(alloc, schema.text, offset)?;
+            self.place(schema, offset, end);
+        }
+        Ok(())
+    }
 }
 
 /// What a step of a pointer into a schema leads to.
@@ -254,69 +289,17 @@ fn offset_of(alloc: Global, text: &[u8], keys: &[String]) -> Made<Option<usize>>
     let mut part = Part::Schema;
     for (at, key) in keys.iter().enumerate() {
         let key = key.as_str();
-        let element = key.parse::<usize>().unwrap_or(0);
         let (step, next) = match part {
             Part::Schema => (Step::Key(key), part_under(key)),
             Part::Names => (Step::Key(key), Part::Schema),
-            Part::Elements => (Step::Element(element), Part::Schema),
+            Part::Elements => (Step::Element(key.parse().unwrap_or(0)), Part::Schema),
         };
         let parent = at.checked_sub(1);
         paths.push(ValuePath { parent, step })?;
         part = next;
     }
-    let found = places(alloc, text, &paths)?;
-    let found = found.last().copied().flatten();
+    let found = places(alloc, text, &paths)?.last().copied().flatten();
     Ok(found.map(|place| place.key.unwrap_or(place.value)))
-}
-
-/// What is said of a keyword that the profile doesn't have, of one that the wide profile takes as a note, of what is no schema, of the value of
-/// a keyword, and of a reference.
-const UNKNOWN_KEYWORD: &str =
-    "`{}` isn't in the profile: say it by other keywords, or take it out where it says nothing";
-
-const NOTE: &str =
-    "`--profile wide` takes `{}` as a note; without it take it out, since it says nothing of what is valid";
-
-const NO_SCHEMA: &str = "a schema is `true`, `false` or an object";
-
-const OTHER_FORM: &str = "the value of `{}` has another form in the profile";
-
-const UNDECLARED: &str = "`$defs` doesn't have `{}`";
-
-/// Tells of a keyword, its value or a reference in a schema, or of definitions that refer to one another in a loop (21 to 24), at the keyword
-/// or the definition; at the schema where it is none.
-fn tell_schema_fault<'a>(told: &mut Told<'a>, schema: Option<Named<'a>>, fault: &Fault) -> Written {
-    let (pointer, name, said) = match fault {
-        Fault::Keyword { place, name } if name.as_str() == "default" => {
-            (place.as_str(), "default", NOTE)
-        }
-        Fault::Keyword { place, name } => (place.as_str(), name.as_str(), UNKNOWN_KEYWORD),
-        Fault::Shape { place, name } if name.is_empty() => (place.as_str(), "", NO_SCHEMA),
-        Fault::Shape { place, name } => (place.as_str(), name.as_str(), OTHER_FORM),
-        Fault::Reference { place, name } => (place.as_str(), name.as_str(), UNDECLARED),
-        Fault::Loop { names } => {
-            let Some(first) = names.first() else {
-                return Ok(());
-            };
-            put_loop(&mut told.hint, names, first.as_str())?;
-            ("/$defs", first.as_str(), "")
-        }
-        _ => return Ok(()),
-    };
-    put_filled(&mut told.hint, said, &[name])?;
-    told.pointer = Some(String::from_str(told.alloc(), pointer)?);
-    let Some(schema) = schema else { return Ok(()) };
-    told.named = Some(schema);
-    let keyword = match fault {
-        Fault::Reference { .. } => "$ref",
-        _ => name,
-    };
-    let keys = keys_of(told.alloc(), pointer, keyword)?;
-    if let Some(offset) = offset_of(told.alloc(), schema.text, &keys)? {
-        let end = text_end(told.alloc(), schema.text, offset)?;
-        told.place(schema, offset, end);
-    }
-    Ok(())
 }
 
 /// The place behind the text of JSON that begins at an offset; the offset itself where none does.

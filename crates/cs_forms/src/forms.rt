@@ -1,7 +1,7 @@
 // Forms of CUE that are refused, and the words for them: what programs call them, and what people are told.
 use cs_sources::Near;
 
-/// A form that is refused: one of CUE that the profile leaves out, or a mistake.
+/// A form that is refused: one of CUE that the profile leaves out, or a mistake. `FORMS` has the words for each.
 #[derive(Clone, Copy)]
 pub enum Form {
     // No token begins (3).
@@ -355,21 +355,18 @@ pub fn said_of_shown(form: Form, shown: &str) -> &'static str {
 
 /// What is said of a number that isn't spelled as an integer of the profile: of a decimal one by the first byte that is no digit of it.
 fn said_of_number(number: &str) -> &'static str {
-    let digits = number.as_bytes();
-    let first = digits
-        .iter()
-        .find(|byte| !byte.is_ascii_digit() && **byte != b'_');
-    match (digits, first) {
+    let behind = number.trim_start_matches(|digit| matches!(digit, '0'..='9' | '_'));
+    match (number.as_bytes(), behind.as_bytes()) {
         ([b'0', b'x' | b'X', ..], _) =>
             "behind `0x` stand hexadecimal digits alone, and the `x` is a small one",
         ([b'0', b'b' | b'o', ..], _) =>
             "binary and octal numbers are left out: write it in decimal or hexadecimal",
         ([b'0', b'0'..=b'9' | b'_', ..], _) =>
             "an integer doesn't begin with 0: leave the leading zeros out",
-        (_, None) => "in an integer `_` stands only between digits",
-        (_, Some(b'K' | b'M' | b'G' | b'T' | b'P')) =>
+        (_, []) => "in an integer `_` stands only between digits",
+        (_, [b'K' | b'M' | b'G' | b'T' | b'P', ..]) =>
             "multipliers such as `K`, `M` and `Gi` are left out: write the number out",
-        (_, Some(_)) => "neither a name nor a label begins with a digit: quote the label",
+        _ => "neither a name nor a label begins with a digit: quote the label",
     }
 }
 

@@ -5,6 +5,6 @@ mod embeddings;
 mod forms;
 mod syntax;
 
-pub use embeddings::{form_left_out_in, form_not_opened};
+pub use embeddings::{form_closed, form_left_out_in};
 pub use forms::{Form, Found, form_name, kind_meant, said_of_form, said_of_shown};
 pub use syntax::{form_out_of_place, form_stuck, form_unknown};

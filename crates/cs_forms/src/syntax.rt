@@ -3,86 +3,69 @@
 use crate::forms::{Form, Found, said_of_shown};
 use cs_grammar::{Profile, Sort, Token};
 use cs_sources::{Inside, Near, begins_value, ends_value, follows_label, separates};
-use std::str;
 
-/// The form at an offset of a source where no token of a profile begins; another one stands there in its place.
-pub fn form_stuck<'s, 'a>(profile: Profile, near: Near<'s, 'a>, offset: usize) -> Found<'s, 'a> {
-    let named = near.source.named;
-    let rest = named.text.get(offset..).unwrap_or(&[]);
-    let (form, len) = form_at(profile, rest);
+/// The packages that come with CUE.
+const PACKAGES: [&str; 18] = [
+    "base64", "bool", "csv", "hex", "json", "list", "math", "bits", "net", "path", "regexp",
+    "strconv", "strings", "struct", "template", "time", "uuid", "yaml",
+];
+
+/// The form at an offset of a source where no token of its profile begins; another one stands there in its place.
+pub fn form_stuck<'s, 'a>(near: Near<'s, 'a>, offset: usize) -> Found<'s, 'a> {
+    let source = near.source;
+    let rest = source.text(offset, source.named.text.len());
+    let (form, len) = form_at(source.profile, rest);
     Found {
         form,
         near,
         start: offset,
         end: offset.saturating_add(len),
-        shown: str::from_utf8(rest.get(..len).unwrap_or(&[])).unwrap_or(""),
+        shown: rest.get(..len).unwrap_or(""),
     }
 }
 
-/// The form at the front of the bytes, and how many of them show it.
-fn form_at(profile: Profile, bytes: &[u8]) -> (Form, usize) {
+/// The form at the front of a text, and how many of its bytes show it.
+fn form_at(profile: Profile, text: &str) -> (Form, usize) {
+    let line = text.split('\n').next().unwrap_or("").trim_ascii_end();
+    let behind_marks = text.trim_start_matches('#');
+    let is_raw = behind_marks.starts_with(|next| matches!(next, '"' | '\''));
+    let first_len = text.chars().next().map_or(0, |first| first.len_utf8());
+    let bytes = text.as_bytes();
     match bytes {
         [0xef, 0xbb, 0xbf, ..] => (Form::ByteOrderMark, 3),
         [b'@', ..] if profile == Profile::Wide => (Form::BrokenAttribute, 1),
-        [b'@', ..] => (Form::Attribute, attribute_len(bytes)),
+        // It goes up to its first closing parenthesis, or the end of its line.
+        [b'@', ..] => match line.find(')') {
+            Some(last) => (Form::Attribute, last.saturating_add(1)),
+            None => (Form::Attribute, line.len()),
+        },
         [b'\'', ..] => (Form::Bytes, text_at(bytes).1),
         [b'"', b'"', b'"', ..] => (Form::MultiLineText, 3),
         [b'"', ..] => match text_at(bytes) {
-            (Form::UnclosedText, _) => (Form::UnclosedText, line_len(bytes)),
+            (Form::UnclosedText, _) => (Form::UnclosedText, line.len()),
             found => found,
         },
-        [b'#', ..] if is_raw(bytes) => (Form::RawText, 2),
+        [b'#', ..] if is_raw => (Form::RawText, 2),
         [b'0'..=b'9', ..] => form_of_number(bytes),
-        _ => (Form::StrayCharacter, character_len(bytes)),
+        _ => (Form::StrayCharacter, first_len),
     }
 }
 
-/// Whether a quote is behind the `#`s at the front.
-fn is_raw(bytes: &[u8]) -> bool {
-    let behind = bytes.iter().find(|byte| **byte != b'#');
-    matches!(behind, Some(b'"' | b'\''))
-}
-
-/// The form of a number that isn't an integer of the profile.
+/// The form of a number that isn't an integer of the profile, and its length.
 fn form_of_number(bytes: &[u8]) -> (Form, usize) {
     let is_inside = |byte: &&u8| byte.is_ascii_alphanumeric() || matches!(**byte, b'_' | b'.');
     let len = bytes.iter().take_while(is_inside).count();
     let number = bytes.get(..len).unwrap_or(&[]);
+    let is_digit = |byte: &u8| matches!(*byte, b'0'..=b'9' | b'_');
+    let is_part = |byte: &u8| matches!(*byte, b'0'..=b'9' | b'_' | b'.' | b'e' | b'E');
+    let is_float = number.iter().all(is_part) && !number.iter().all(is_digit);
     let form = match number {
         [b'0', b'x' | b'X' | b'b' | b'B' | b'o' | b'O', ..] => Form::NumberSpelling,
         [.., b'.', b'.'] => Form::MissingComma,
-        _ if is_float(number) => Form::Float,
+        _ if is_float => Form::Float,
         _ => Form::NumberSpelling,
     };
     (form, len)
-}
-
-/// Whether a number has a fraction or an exponent, and only digits and `_` beside.
-fn is_float(number: &[u8]) -> bool {
-    let is_digit = |byte: &u8| matches!(*byte, b'0'..=b'9' | b'_');
-    let is_part = |byte: &u8| matches!(*byte, b'0'..=b'9' | b'_' | b'.' | b'e' | b'E');
-    number.iter().all(is_part) && !number.iter().all(is_digit)
-}
-
-/// The length of the first character.
-fn character_len(bytes: &[u8]) -> usize {
-    let behind = bytes.iter().skip(1);
-    let behind = behind.take_while(|byte| matches!(**byte, 128..=191));
-    behind.count().saturating_add(1).min(bytes.len())
-}
-
-/// The length of what is left of the line, without blanks at its end.
-fn line_len(bytes: &[u8]) -> usize {
-    let len = bytes.iter().take_while(|byte| **byte != b'\n').count();
-    let line = bytes.get(..len).unwrap_or(&[]);
-    line.trim_ascii_end().len()
-}
-
-/// The length of an attribute up to its first closing parenthesis, or of what is left of its line.
-fn attribute_len(bytes: &[u8]) -> usize {
-    let len = line_len(bytes);
-    let before = bytes.iter().take_while(|byte| **byte != b')').count();
-    before.saturating_add(1).min(len)
 }
 
 /// The form of a text, as one in double quotes, and its length with its quotes, or that of what is left of its line.
@@ -117,12 +100,19 @@ pub fn form_unknown<'s, 'a>(near: Near<'s, 'a>) -> Found<'s, 'a> {
 /// The form at a token that the default profile leaves out, wherever it stands.
 pub(crate) fn form_left_out<'s, 'a>(near: Near<'s, 'a>) -> Found<'s, 'a> {
     let here = near.here();
-    let form = match here.sort {
-        Sort::Hidden => Form::HiddenName,
-        Sort::Name if here.text == "import" => Form::Import,
-        Sort::Name => form_of_clause(here.text).unwrap_or(Form::Misplaced),
-        _ if here.text == "." => return form_of_dot(near),
-        _ => form_of_mark(near),
+    let is_in_label = near.inside() == Inside::Label;
+    let form = match here.text {
+        _ if here.sort == Sort::Hidden => Form::HiddenName,
+        "import" => Form::Import,
+        word if here.sort == Sort::Name => form_of_clause(word).unwrap_or(Form::Misplaced),
+        "." => return form_of_dot(near),
+        "*" if !ends_value(near.before(1)) => Form::DefaultMark,
+        "=" if is_in_label => Form::AliasLabel,
+        "=" => Form::Alias,
+        "=~" | "!~" if is_in_label => Form::Pattern,
+        "=~" | "!~" => Form::RegularExpression,
+        "==" | "&&" | "||" => Form::Comparison,
+        _ => Form::Arithmetic,
     };
     Found::at(near, form)
 }
@@ -137,41 +127,19 @@ fn form_of_clause(word: &str) -> Option<Form> {
     }
 }
 
-fn form_of_mark(near: Near<'_, '_>) -> Form {
-    let is_in_label = near.inside() == Inside::Label;
-    match near.here().text {
-        "*" if !ends_value(near.before(1)) => Form::DefaultMark,
-        "=" if is_in_label => Form::AliasLabel,
-        "=" => Form::Alias,
-        "=~" | "!~" if is_in_label => Form::Pattern,
-        "=~" | "!~" => Form::RegularExpression,
-        "==" | "&&" | "||" => Form::Comparison,
-        _ => Form::Arithmetic,
-    }
-}
-
 fn form_of_dot<'s, 'a>(near: Near<'s, 'a>) -> Found<'s, 'a> {
     let (before, behind) = (near.before(1), near.behind(1));
     let form = match before.sort {
         _ if !ends_value(before) => return Found::at(near, Form::Float),
         _ if behind.sort != Sort::Name => return Found::at(near, Form::Selector),
         Sort::Name if near.behind(2).text == "(" => Form::PackageCall,
-        Sort::Name if is_package(before.text) => Form::PackageValue,
+        Sort::Name if PACKAGES.contains(&before.text) => Form::PackageValue,
         // What packages give begins with a capital letter.
         Sort::Name if matches!(behind.text.as_bytes(), [b'A'..=b'Z', ..]) => Form::PackageValue,
         _ => Form::Selector,
     };
     let place = near.place.saturating_sub(1);
     Found::between(form, Near { place, ..near }, near.place.saturating_add(2))
-}
-
-/// Whether a name is that of a package which comes with CUE.
-fn is_package(name: &str) -> bool {
-    [
-        "base64", "bool", "csv", "hex", "json", "list", "math", "bits", "net", "path", "regexp",
-        "strconv", "strings", "struct", "template", "time", "uuid", "yaml",
-    ]
-    .contains(&name)
 }
 
 /// The form at a token that is out of place, though the profile has it elsewhere.
@@ -194,9 +162,12 @@ fn after_word<'s, 'a>(near: Near<'s, 'a>) -> Option<Found<'s, 'a>> {
     if let Some(form) = form_of_clause(before.text) {
         return Some(Found::before(near, form));
     }
+    let is_text = here.sort == Sort::Text;
+    let is_other = is_text || ["true", "false", "null", "{", "["].contains(&here.text);
     let (relation, form) = match before.text {
         "-" => (near.before(2), Form::Limit),
-        _ => (before, form_of_limit(here)),
+        _ if is_other => (before, Form::LimitKind),
+        _ => (before, Form::Limit),
     };
     let found = Found::at(near, form).showing(relation.text);
     (begins_value(here) && is_relation(relation)).then_some(found)
@@ -206,49 +177,28 @@ fn is_relation(token: Token<'_>) -> bool {
     ["<", "<=", ">", ">=", "!="].contains(&token.text)
 }
 
-fn form_of_limit(token: Token<'_>) -> Form {
-    let is_other = ["true", "false", "null", "{", "["].contains(&token.text);
-    if is_other || token.sort == Sort::Text {
-        Form::LimitKind
-    } else {
-        Form::Limit
-    }
-}
-
 /// The form at the first token of a declaration.
 fn form_of_declaration<'s, 'a>(near: Near<'s, 'a>) -> Found<'s, 'a> {
-    match near.here().text.as_bytes() {
-        _ if near.before(2).text == "..." => Found::at(near, Form::EarlyEllipsis),
-        [b'&' | b'|'] if near.before(1).sort == Sort::Inserted => Found::at(near, Form::BrokenLine),
-        [b'}' | b']' | b')'] => closing(near),
-        [] | [b',' | b'&' | b'|' | b':' | b'?' | b'!'] => plain(near),
-        _ if near.inside() == Inside::File => Found::at(near, form_at_top(near)),
-        _ => Found::at(near, form_in_struct(near)),
-    }
-}
-
-fn form_at_top(near: Near<'_, '_>) -> Form {
-    let here = near.here();
-    match here.sort {
-        _ if here.text == "package" => Form::LatePackage,
-        Sort::Name | Sort::Text if follows_label(near.behind(1)) => Form::TopLevelField,
-        _ => Form::TopLevelValue,
-    }
-}
-
-fn form_in_struct(near: Near<'_, '_>) -> Form {
     let (here, behind) = (near.here(), near.behind(1));
-    match here.sort {
-        Sort::Definition if follows_label(behind) => Form::NestedDefinition,
-        Sort::Definition => Form::EmbeddedDefinition,
-        Sort::Integer if behind.text == ":" => Form::DigitLabel,
-        _ if here.text == "{" => Form::EmbeddedStruct,
+    let is_at_top = near.inside() == Inside::File;
+    let form = match (here.sort, here.text.as_bytes()) {
+        _ if near.before(2).text == "..." => Form::EarlyEllipsis,
+        (_, [b'&' | b'|']) if near.before(1).sort == Sort::Inserted => Form::BrokenLine,
+        (_, [b'}' | b']' | b')']) => return closing(near),
+        (_, [] | [b',' | b'&' | b'|' | b':' | b'?' | b'!']) => return plain(near),
+        (_, b"package") if is_at_top => Form::LatePackage,
+        (Sort::Name | Sort::Text, _) if is_at_top && follows_label(behind) => Form::TopLevelField,
+        _ if is_at_top => Form::TopLevelValue,
+        (Sort::Definition, _) if follows_label(behind) => Form::NestedDefinition,
+        (Sort::Definition, _) => Form::EmbeddedDefinition,
+        (Sort::Integer, _) if behind.text == ":" => Form::DigitLabel,
+        (_, [b'{']) => Form::EmbeddedStruct,
         // What parentheses hold is embedded, or a label.
-        _ if here.text == "(" && near.closing().and(near.embedding()).is_some() =>
-            Form::EmbeddedStruct,
-        _ if here.text == "(" => Form::DynamicLabel,
+        (_, [b'(']) if near.closing().and(near.embedding()).is_some() => Form::EmbeddedStruct,
+        (_, [b'(']) => Form::DynamicLabel,
         _ => Form::EmbeddedValue,
-    }
+    };
+    Found::at(near, form)
 }
 
 /// The form inside of an expression, behind the end of a value.

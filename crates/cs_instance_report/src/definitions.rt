@@ -3,31 +3,40 @@ ghost use Rattle.std.specs.Prelude.{◌≡◌, ◌++◌, true, OnOk, OnErr, is_n
 ghost use Rattle.cs_reason_words.specs.Formats.{asks_standard};
 ghost use Rattle.cs_reason_words.specs.Valid.{flag_text, HasLines, Reports};
 
-use crate::walk::{Node, name_of, put_label};
-use crate::written::Written;
+use crate::written::{Spelled, Written};
 use cs_flat::{Flat, Item};
 use cs_instance::RootRules;
-use cs_instance_reasons::{InstanceCause, Want, Wanted, wanted_by};
-use cs_package::{FieldMark, Inside, Kind, Literal, Package, Part, Relation, Shape, Simple};
+use cs_instance_reasons::{InstanceCause, Want, wanted_by};
+use cs_package::{FieldMark, Inside, Kind, Literal, Part, Relation, Shape, ShapeEnd, Simple};
 use cs_place::{Named, Step, put_quoted};
 use cs_reason_words::{
-    Choice, Finding, Form, Found, Kinds, MOST_COMPARISONS, MOST_WANTED, Words, item_at,
-    put_between, put_integer, put_more, put_told, report_verdict, told_apart, told_by,
+    Finding, Form, Found, Kinds, MOST_COMPARISONS, Made, Way, Words, item_at, put_integer,
+    put_told, report_verdict, told_apart, told_by,
 };
 use cs_reasons::{Reasons, Telling};
-use std::alloc::{AllocError, Global};
+use std::alloc::Global;
 
 /// A document and the definitions that refuse it, with their sources.
 #[derive(Drop)]
-pub(crate) struct Definitions<'t> {
+struct Definitions<'t> {
     alloc: Global,
     rules: &'t RootRules<'t>,
     flat: &'t Flat<'t>,
-    package: &'t Package,
-    root: usize,
     written: &'t Written<'t>,
     /// How many more labels are compared with keys that aren't allowed.
     comparisons: usize,
+}
+
+/// What a rule is.
+#[derive(Clone, Copy, Drop)]
+struct Node<'t> {
+    /// The name of the last definition on the way, and its bodies.
+    name: &'t str,
+    bodies: &'t [Shape],
+    /// The expression in it; none for the definition itself.
+    shape: Option<&'t Shape>,
+    /// The same in the sources, if it is known there.
+    spelled: Option<Spelled<'t>>,
 }
 
 /// The key of the member at a place of a map.
@@ -38,8 +47,29 @@ fn key_at<'t>(flat: &'t Flat<'t>, item: usize, member: usize) -> Option<&'t str>
     }
 }
 
+/// Whether a label needs no quotes.
+fn is_plain(label: &str) -> bool {
+    let begins_with_digit = matches!(label.as_bytes(), [b'0'..=b'9', ..]);
+    let mut bytes = label.bytes();
+    let are_plain = bytes.all(|byte| byte.is_ascii_alphanumeric() || matches!(byte, b'_' | b'$'));
+    are_plain && !begins_with_digit && !label.is_empty()
+}
+
+/// Puts the step of a path to what a declaration declares.
+fn put_label(path: &mut String, part: &Part) -> Made<()> {
+    if matches!(part.mark, FieldMark::Every { .. }) {
+        return path.push_str("[string]");
+    }
+    path.push('.')?;
+    if is_plain(part.label.as_str()) {
+        path.push_str(part.label.as_str())
+    } else {
+        put_quoted(path, part.label.as_str())
+    }
+}
+
 /// That a value isn't what an expression admits.
-fn unmet<'t>(alloc: Global, item: Item<'_>, shape: Option<&Shape>) -> Found<'t> {
+fn unmet<'t>(alloc: Global, item: Item<'_>, shape: Option<&Shape>) -> Made<Finding<'t>> {
     let mut text = String::new(alloc);
     let Some(shape) = shape else {
         KINDS.put_found(&mut text, item)?;
@@ -55,59 +85,86 @@ fn unmet<'t>(alloc: Global, item: Item<'_>, shape: Option<&Shape>) -> Found<'t> 
 }
 
 impl<'t> Definitions<'t> {
-    /// What is told of a document by the rules of a root.
-    pub(crate) fn new(
-        alloc: Global,
-        rules: &'t RootRules<'t>,
-        flat: &'t Flat<'t>,
-        written: &'t Written<'t>,
-    ) -> Definitions<'t> {
-        let (guarded, root) = rules.root();
-        Definitions {
-            alloc,
-            rules,
-            flat,
-            package: guarded.package(),
-            root,
-            written,
-            comparisons: MOST_COMPARISONS,
-        }
+    /// A definition, where the path begins anew.
+    fn definition(&self, number: usize, path: &mut String) -> Made<Node<'t>> {
+        let package = self.rules.root().0.package();
+        let (name, bodies): (&str, &[Shape]) = if number < package.count() {
+            (package.name(number), package.bodies(number))
+        } else {
+            ("", &[])
+        };
+        path.truncate(0);
+        path.push_str(name)?;
+        Ok(Node {
+            name,
+            bodies,
+            shape: None,
+            spelled: None,
+        })
     }
 
-    /// That the label of a declaration is no key. The path then ends with the label.
-    fn missing(&self, part: Option<&'t Part>, path: &mut String) -> Found<'t> {
-        let Some(part) = part else {
-            return Finding::missing(self.alloc, "");
+    /// What is at a place in a rule: a body of a definition, the definition that a reference names, an operand, what a declaration declares,
+    /// or what is asked of an element.
+    fn part(&self, mut node: Node<'t>, place: usize, way: &mut Way) -> Made<Node<'t>> {
+        node.spelled = node.spelled.and_then(|whole| whole.inside(place));
+        node.shape = match node.shape {
+            None => {
+                node.spelled = Spelled::body(self.written, node.name, place);
+                node.bodies.get(place)
+            }
+            Some(Shape::Definition(number)) => return self.definition(*number, &mut way.path),
+            Some(Shape::And(operands)) => operands.get(place),
+            Some(Shape::Or(operands)) => {
+                way.follow(place, operands.len())?;
+                operands.get(place)
+            }
+            Some(Shape::Struct { parts, .. }) => {
+                let part = parts.get(place);
+                if let Some(part) = part {
+                    put_label(&mut way.path, part)?;
+                }
+                part.map(|part| &part.value)
+            }
+            Some(Shape::List { front, end }) => match (front.get(place), end) {
+                (Some(fixed), _) => {
+                    write!(way.path, "[{place}]")?;
+                    Some(fixed)
+                }
+                (None, ShapeEnd::Each(each)) => {
+                    way.path.push_str("[]")?;
+                    Some(&**each)
+                }
+                (None, ShapeEnd::Closed | ShapeEnd::Any) => None,
+            },
+            Some(_) => None,
         };
-        put_label(path, part)?;
-        Finding::missing(self.alloc, part.label.as_str())
+        Ok(node)
     }
 
     /// That a key isn't allowed.
-    fn extra(&mut self, parts: &'t [Part], item: usize, member: usize) -> Found<'t> {
-        let mut labels = Vec::new(self.alloc);
-        for part in parts.iter().take(self.comparisons) {
-            self.comparisons = self.comparisons.saturating_sub(1);
-            if !matches!(part.mark, FieldMark::Every { .. }) {
-                labels.push(part.label.as_str())?;
-            }
-        }
+    fn extra(&mut self, parts: &[Part], item: usize, member: usize) -> Made<Finding<'t>> {
+        let compared = parts.iter().take(self.comparisons);
+        let labelled = compared.filter(|part| !matches!(part.mark, FieldMark::Every { .. }));
+        let labels = labelled.map(|part| part.label.as_str());
+        let labels: Vec<&str> = labels.collect(self.alloc)?;
+        self.comparisons = self.comparisons.saturating_sub(parts.len());
         let key = key_at(self.flat, item, member).unwrap_or("");
         let finding = Finding::extra(self.alloc, item_at(self.flat, item), key, &labels)?;
         Ok(finding.at(Some(Step::Key(key))))
     }
 
-    /// That none of the alternatives takes a value, or the one under the key that tells them apart.
-    fn none_taken(&self, item: usize, rule: usize) -> Found<'t> {
-        let wanted = wanted_by(self.rules, self.alloc, self.flat, item, rule)?;
-        let (value, step) = told_apart(item, wanted.key);
-        let mut text = String::new(self.alloc);
-        KINDS.put_mismatch(&mut text, item_at(self.flat, value))?;
-        let reason = put_alternatives(&mut text, &wanted)?;
-        if reason == "never" {
+    /// That none of the alternatives takes a value, or the one under the key that tells them apart. One that asks for `_|_` takes none.
+    fn none_taken(&self, item: usize, rule: usize) -> Made<Finding<'t>> {
+        let mut wanted = wanted_by(self.rules, self.alloc, self.flat, item, rule)?;
+        let alternatives = &mut wanted.alternatives;
+        alternatives.retain(|wants| !wants.iter().any(is_never));
+        let (item, step) = told_apart(item, wanted.key);
+        if wanted.alternatives.is_empty() {
             return Ok(Finding::never(self.alloc)?.at(step));
         }
-        Ok(Finding::here(reason, text).at(step))
+        let value = item_at(self.flat, item);
+        let finding = Finding::untaken(self.alloc, KINDS, value, &wanted.alternatives, put_want)?;
+        Ok(finding.at(step))
     }
 }
 
@@ -116,44 +173,26 @@ impl<'t> Words<'t> for Definitions<'t> {
 
     type Node = Node<'t>;
 
-    fn root(&self, path: &mut String) -> Result<Node<'t>, AllocError> {
-        Node::of(self.package, self.root, path)
+    fn root(&self, path: &mut String) -> Made<Node<'t>> {
+        self.definition(self.rules.root().1, path)
     }
 
     fn step_of(&self, item: usize, cause: &InstanceCause) -> Option<Step<'t>> {
-        if let InstanceCause::Member { member, .. } = cause {
-            Some(Step::Key(key_at(self.flat, item, *member)?))
-        } else if let InstanceCause::Element { place, .. } = cause {
-            Some(Step::Element(*place))
-        } else {
-            None
-        }
-    }
-
-    fn choice_of(&self, node: Node<'t>, cause: &InstanceCause) -> Option<Choice> {
-        if let InstanceCause::Alternative { place, .. } = cause {
-            Some((*place, node.operands().len()))
-        } else {
-            None
-        }
-    }
-
-    fn inside(
-        &mut self,
-        node: Node<'t>,
-        _item: usize,
-        cause: &InstanceCause,
-        path: &mut String,
-    ) -> Result<Node<'t>, AllocError> {
         match cause {
-            InstanceCause::Part { place, .. } => {
-                node.part(self.package, self.written, *place, path)
+            InstanceCause::Member { member, .. } => {
+                Some(Step::Key(key_at(self.flat, item, *member)?))
             }
-            InstanceCause::Alternative { place, .. } => Ok(node.operand(*place)),
-            InstanceCause::Member { declaration, .. } => {
-                node.member(self.written, *declaration, path)
-            }
-            InstanceCause::Element { place, .. } => node.element(*place, path),
+            InstanceCause::Element { place, .. } => Some(Step::Element(*place)),
+            _ => None,
+        }
+    }
+
+    fn inside(&self, node: Node<'t>, cause: &InstanceCause, way: &mut Way) -> Made<Node<'t>> {
+        match cause {
+            InstanceCause::Part { place, .. }
+            | InstanceCause::Alternative { place, .. }
+            | InstanceCause::Element { place, .. } => self.part(node, *place, way),
+            InstanceCause::Member { declaration, .. } => self.part(node, *declaration, way),
             InstanceCause::Unmet
             | InstanceCause::Missing { .. }
             | InstanceCause::Extra { .. }
@@ -163,38 +202,40 @@ impl<'t> Words<'t> for Definitions<'t> {
         }
     }
 
-    fn finding(
-        &mut self,
-        node: Node<'t>,
-        item: usize,
-        rule: usize,
-        cause: &InstanceCause,
-        path: &mut String,
-    ) -> Result<Option<Finding<'t>>, AllocError> {
+    fn finding(&mut self, node: Node<'t>, cause: &InstanceCause, way: &mut Way) -> Found<'t> {
+        let (alloc, item) = (self.alloc, way.item);
         let value = item_at(self.flat, item);
-        let fixed = node.fixed_count();
+        let (parts, fixed): (&[Part], usize) = match node.shape {
+            Some(Shape::Struct { parts, .. }) => (parts, 0),
+            Some(Shape::List { front, .. }) => (&[], front.len()),
+            _ => (&[], 0),
+        };
         let mut source = node.spelled.and_then(|spelled| spelled.place());
         let mut by = node.spelled.and_then(|spelled| spelled.by);
         let mut finding = match cause {
             InstanceCause::Missing { declaration, .. } => {
-                let site = node.field(*declaration).map(|field| &field.site);
-                source = site.and_then(|site| self.written.place_at(site.at));
-                by = site.and_then(|site| site.by);
-                self.missing(node.parts().get(*declaration), path)?
+                let Some(part) = parts.get(*declaration) else {
+                    return Ok(None);
+                };
+                put_label(&mut way.path, part)?;
+                let field = node.spelled.and_then(|literal| literal.field(*declaration));
+                source = field.and_then(|field| self.written.place_at(field.site.at));
+                by = field.and_then(|field| field.site.by);
+                Finding::missing(alloc, part.label.as_str())?
             }
-            InstanceCause::Extra { member, .. } => self.extra(node.parts(), item, *member)?,
-            InstanceCause::Few => Finding::few(self.alloc, value, fixed)?,
+            InstanceCause::Extra { member, .. } => self.extra(parts, item, *member)?,
+            InstanceCause::Few => Finding::few(alloc, value, fixed)?,
             InstanceCause::Many => {
-                Finding::many(self.alloc, value, fixed)?.at(Some(Step::Element(fixed)))
+                Finding::many(alloc, value, fixed)?.at(Some(Step::Element(fixed)))
             }
-            InstanceCause::NoAlternative => self.none_taken(item, rule)?,
+            InstanceCause::NoAlternative => self.none_taken(item, way.rule)?,
             InstanceCause::Unmet
             | InstanceCause::Part { .. }
             | InstanceCause::Alternative { .. }
             | InstanceCause::Member { .. }
-            | InstanceCause::Element { .. } => unmet(self.alloc, value, node.shape)?,
+            | InstanceCause::Element { .. } => unmet(alloc, value, node.shape)?,
         };
-        finding.definition = name_of(self.package, node.definition);
+        finding.definition = node.name;
         finding.source = source;
         finding.embedded = by.and_then(|by| self.written.place_at(by));
         Ok(Some(finding))
@@ -202,7 +243,7 @@ impl<'t> Words<'t> for Definitions<'t> {
 }
 
 /// What values with parts are called in CUE.
-pub(crate) const KINDS: Kinds = Kinds {
+const KINDS: Kinds = Kinds {
     list: "a list",
     map: "a struct",
 };
@@ -237,7 +278,7 @@ const RANGES: [(&str, i64, Option<i64>); 8] = [
     ("int64", i64::MIN, Some(i64::MAX)),
 ];
 
-fn put_range(text: &mut String, least: i64, greatest: Option<i64>) -> Result<(), AllocError> {
+fn put_range(text: &mut String, least: i64, greatest: Option<i64>) -> Made<()> {
     for (name, from, to) in RANGES {
         if from == least && to == greatest {
             return text.push_str(name);
@@ -251,7 +292,7 @@ fn put_range(text: &mut String, least: i64, greatest: Option<i64>) -> Result<(),
 }
 
 /// Puts a literal behind a mark.
-fn put_literal(text: &mut String, mark: &str, literal: Literal<'_>) -> Result<(), AllocError> {
+fn put_literal(text: &mut String, mark: &str, literal: Literal<'_>) -> Made<()> {
     text.push_str(mark)?;
     match literal {
         Literal::Null => text.push_str("null"),
@@ -262,7 +303,7 @@ fn put_literal(text: &mut String, mark: &str, literal: Literal<'_>) -> Result<()
 }
 
 /// Puts an expression as CUE spells it; of one with parts of what kind its values are.
-pub(crate) fn put_shape(text: &mut String, shape: &Shape) -> Result<(), AllocError> {
+fn put_shape(text: &mut String, shape: &Shape) -> Made<()> {
     match shape.inside() {
         Inside::Simple(simple) => put_simple(text, simple),
         Inside::Struct { .. } => text.push_str(KINDS.map),
@@ -271,7 +312,7 @@ pub(crate) fn put_shape(text: &mut String, shape: &Shape) -> Result<(), AllocErr
     }
 }
 
-fn put_simple(text: &mut String, simple: Simple<'_>) -> Result<(), AllocError> {
+fn put_simple(text: &mut String, simple: Simple<'_>) -> Made<()> {
     match simple {
         Simple::Top => text.push('_'),
         Simple::Bottom => text.push_str("_|_"),
@@ -285,73 +326,24 @@ fn put_simple(text: &mut String, simple: Simple<'_>) -> Result<(), AllocError> {
     }
 }
 
-/// Puts what one alternative asks for.
-fn put_wants(text: &mut String, wants: &Vec<Want<'_>>) -> Result<(), AllocError> {
-    for (place, want) in wants.iter().enumerate() {
-        put_between(text, place, " & ")?;
-        match want {
-            Want::Expression(shape) => put_shape(text, shape)?,
-            Want::Struct => text.push_str(KINDS.map)?,
-            Want::List => text.push_str(KINDS.list)?,
-        }
+/// Puts what is asked for, and answers whether it is a literal.
+fn put_want(text: &mut String, want: &Want<'_>) -> Made<bool> {
+    match want {
+        Want::Expression(shape) => put_shape(text, shape)?,
+        Want::Struct => text.push_str(KINDS.map)?,
+        Want::List => text.push_str(KINDS.list)?,
     }
-    Ok(())
+    Ok(matches!(want, Want::Expression(shape) if shape.literal().is_some()))
 }
 
-/// Whether an alternative takes no value: it asks for `_|_`.
-fn is_never(wants: &Vec<Want<'_>>) -> bool {
-    wants
-        .iter()
-        .any(|want| matches!(want, Want::Expression(Shape::Bottom)))
-}
-
-/// Whether an alternative asks for a literal.
-fn is_literal(wants: &Vec<Want<'_>>) -> bool {
-    wants.iter().any(|want| match want {
-        Want::Expression(shape) => shape.literal().is_some(),
-        Want::Struct | Want::List => false,
-    })
-}
-
-/// Puts what alternatives ask for that take some value: the first ones, and how many more there are. Which kind of reason it is that none of
-/// these takes a value, in a word.
-pub(crate) fn put_alternatives(
-    text: &mut String,
-    wanted: &Wanted<'_>,
-) -> Result<&'static str, AllocError> {
-    let mut count = 0usize;
-    let mut are_values = true;
-    for wants in &wanted.alternatives {
-        if is_never(wants) {
-            continue;
-        }
-        if count < MOST_WANTED {
-            put_between(text, count, " | ")?;
-            put_wants(text, wants)?;
-        }
-        are_values = are_values && is_literal(wants);
-        count = count.saturating_add(1);
-    }
-    put_more(text, count)?;
-    Ok(match (count, are_values) {
-        (0, _) => "never",
-        (_, true) => "value",
-        (_, false) => "alternatives",
-    })
-}
-
-/// Of which kind a value is: a number, a text, or something else, which has no name here.
-fn kind_of(item: Item<'_>) -> &'static str {
-    match item {
-        Item::Int(_) => "number",
-        Item::Text(_) => "text",
-        Item::Null | Item::Bool(_) | Item::List(_) | Item::Object(_) => "",
-    }
+/// Whether `_|_` is asked for.
+fn is_never(want: &Want<'_>) -> bool {
+    matches!(want, Want::Expression(Shape::Bottom))
 }
 
 /// Which kind of reason it is that a value isn't what an expression admits, in a word, and of which kind the value isn't, where that is all
 /// that is wrong with it.
-pub(crate) fn mismatch_words(item: Item<'_>, shape: &Shape) -> (&'static str, &'static str) {
+fn mismatch_words(item: Item<'_>, shape: &Shape) -> (&'static str, &'static str) {
     // The kind of all values that the expression admits or leaves out, and the word for a value of that kind.
     let (kind, reason) = match shape.simple() {
         Some(Simple::Literal(_)) => return ("value", ""),
@@ -363,53 +355,31 @@ pub(crate) fn mismatch_words(item: Item<'_>, shape: &Shape) -> (&'static str, &'
         Some(Simple::Excluded(_)) => ("", "excluded"),
         Some(Simple::Top | Simple::Bottom | Simple::Kind(Kind::Bool)) | None => ("", "kind"),
     };
-    if kind == kind_of(item) {
+    let found = match item {
+        Item::Int(_) => "number",
+        Item::Text(_) => "text",
+        Item::Null | Item::Bool(_) | Item::List(_) | Item::Object(_) => "",
+    };
+    if kind == found {
         (reason, "")
     } else {
         ("kind", kind)
     }
 }
 
-/// Puts what is told of the reasons, if there are any: in the output formats of JSON Schema nothing.
-fn put_reasons(
-    alloc: Global,
-    form: Form,
-    telling: Telling,
-    rules: &RootRules<'_>,
-    written: &Written<'_>,
-    document: Named<'_>,
-    flat: &Flat<'_>,
-    reasons: Option<&Reasons<InstanceCause>>,
-    text: &mut String,
-) -> Result<(), AllocError>
-    ensures flag { asks_standard form ≡ true
-        → OnOk result (string_bytes text.new ≡ string_bytes text.old) }
-    ensures told { OnOk result (HasLines (is_none reasons.entry) form (string_bytes text.new)) }
-{
-    let Some(reasons) = reasons else {
-        return Ok(());
-    };
-    if form.is_standard() {
-        return Ok(()); // the verdict alone
-    }
-    let mut words = Definitions::new(alloc, rules, flat, written);
-    let told = told_by(alloc, &mut words, telling, document, written.named, reasons)?;
-    put_told(text, form, document, &told)
-}
-
 /// Writes why a document is no instance of a root behind `output`, or in the forms of JSON that it is one, where there are no
 /// reasons. Each line, and the object, ends with a newline. Only memory can run out.
-pub fn report_instance(
+pub fn report_instance<'t>(
     alloc: Global,
     form: Form,
     telling: Telling,
-    rules: &RootRules<'_>,
-    written: &Written<'_>,
+    rules: &'t RootRules<'t>,
+    written: &'t Written<'t>,
     document: Named<'_>,
-    flat: &Flat<'_>,
+    flat: &'t Flat<'t>,
     reasons: Option<&Reasons<InstanceCause>>,
     output: &mut Vec<u8>,
-) -> Result<(), AllocError>
+) -> Made<()>
     ensures flag { asks_standard form ≡ true
         → OnOk result (output.new.items ≡ output.old.items ++ flag_text (is_none reasons.entry)) }
     ensures says { OnOk result
@@ -417,8 +387,18 @@ pub fn report_instance(
     ensures kept { OnErr result (output.new.items ≡ output.old.items) }
 {
     let mut text = String::new(alloc);
-    put_reasons(
-        alloc, form, telling, rules, written, document, flat, reasons, &mut text,
-    )?;
+    if let Some(reasons) = reasons
+        && !form.is_standard()
+    {
+        let mut words = Definitions {
+            alloc,
+            rules,
+            flat,
+            written,
+            comparisons: MOST_COMPARISONS,
+        };
+        let told = told_by(alloc, &mut words, telling, document, reasons)?;
+        put_told(&mut text, form, document, &told)?;
+    }
     report_verdict(alloc, form, reasons.is_none(), text.as_str(), output)
 }

@@ -2,7 +2,6 @@
 #![tactic(auto)]
 
 mod definitions;
-mod walk;
 mod written;
 
 pub use definitions::report_instance;

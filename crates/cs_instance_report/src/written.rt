@@ -1,24 +1,28 @@
 // Sources, and where they write what the definitions of their package are made of.
 use cs_grammar::{Definition, Expr, Field, ListEnd, Profile, Site, Wide};
-use cs_place::{Named, Position};
+use cs_place::{Named, Position, Positions};
 use cs_placed::{Placed, placed_files};
-use cs_reason_words::{Form, SourcePlace};
+use cs_reason_words::{Form, Made, SourcePlace};
 use cs_sources::{Near, Part, Separator, Source, sources_of};
-use std::alloc::{AllocError, Global};
+use std::alloc::Global;
 
 /// Sources with their tokens and the files that they stand for. It is made once, whatever is told by it.
 #[derive(Drop)]
 pub struct Written<'a> {
-    pub(crate) named: &'a [Named<'a>],
     cut: Vec<Source<'a>>,
+    /// The lines and columns of the tokens of each source.
+    positions: Vec<Vec<Position>>,
     placed: Option<Placed>,
     /// The names of definitions, each with its file and its place there, in their order.
     by_name: Vec<(String, usize, usize)>,
 }
 
 /// The names of the definitions of files, each with its file and its place there, in their order.
-fn names_of(alloc: Global, placed: &Placed) -> Result<Vec<(String, usize, usize)>, AllocError> {
+fn names_of(alloc: Global, placed: Option<&Placed>) -> Made<Vec<(String, usize, usize)>> {
     let mut names = Vec::new(alloc);
+    let Some(placed) = placed else {
+        return Ok(names)
+    };
     for (file, parsed) in placed.files.iter().enumerate() {
         for (place, definition) in parsed.definitions.iter().enumerate() {
             names.push((definition.name.clone()?, file, place))?;
@@ -28,87 +32,86 @@ fn names_of(alloc: Global, placed: &Placed) -> Result<Vec<(String, usize, usize)
     Ok(names)
 }
 
+/// The lines and columns of the tokens of a source, by one walk over its text.
+fn positions_of(alloc: Global, source: &Source<'_>) -> Made<Vec<Position>> {
+    let mut positions = Positions::new(source.named.text);
+    let mut found = Vec::with_capacity(alloc, source.tokens.len())?;
+    for token in &source.tokens {
+        found.push(positions.at(token.start))?;
+    }
+    Ok(found)
+}
+
 impl<'a> Written<'a> {
     /// The sources from which reasons are told in a form: in the output formats of JSON Schema nothing is told of them.
     ///
     /// # Errors
     /// Memory ran out.
-    pub fn of(
-        alloc: Global,
-        form: Form,
-        sources: &'a [Named<'a>],
-    ) -> Result<Written<'a>, AllocError> {
-        let named = if form.is_standard() { &[] } else { sources };
-        let mut texts = Vec::with_capacity(alloc, named.len())?;
-        for source in named {
-            texts.push(source.text)?;
-        }
+    pub fn of(alloc: Global, form: Form, sources: &'a [Named<'a>]) -> Made<Written<'a>> {
+        let named: &'a [Named<'a>] = if form.is_standard() { &[] } else { sources };
         let cut = sources_of(alloc, Profile::Wide, named)?;
+        let texts = cut.iter().map(|source| source.named.text);
+        let texts: Vec<&[u8]> = texts.collect(alloc)?;
+        let mut positions = Vec::with_capacity(alloc, cut.len())?;
+        for source in &cut {
+            positions.push(positions_of(alloc, source)?)?;
+        }
         let placed = placed_files(alloc, &texts)?;
-        let by_name = match &placed {
-            Some(placed) => names_of(alloc, placed)?,
-            None => Vec::new(alloc),
-        };
+        let by_name = names_of(alloc, placed.as_ref())?;
         Ok(Written {
-            named,
             cut,
+            positions,
             placed,
             by_name,
         })
     }
 
     /// The definition of a name with its `#` that so many of the same name are before.
-    pub(crate) fn definition(&self, name: &str, before: usize) -> Option<&Definition> {
+    fn definition(&self, name: &str, before: usize) -> Option<&Definition> {
         let name = name.strip_prefix('#')?;
-        let rank = self
-            .by_name
-            .partition_point(|(other, _, _)| other.as_str() < name);
-        let (other, file, place) = self.by_name.get(rank.checked_add(before)?)?;
-        if other.as_str() != name {
-            return None;
-        }
-        self.placed
-            .as_ref()?
-            .files
-            .get(*file)?
-            .definitions
-            .get(*place)
+        let names = &self.by_name;
+        let first = names.partition_point(|named| named.0.as_str() < name);
+        let (found, file, place) = names.get(first.checked_add(before)?)?;
+        let file = self.placed.as_ref()?.files.get(*file)?;
+        let definition = file.definitions.get(*place)?;
+        (found.as_str() == name).then_some(definition)
     }
 
-    /// The source with an offset of the files, and the offset in it.
-    fn source_at(&self, offset: usize) -> Option<(&Source<'a>, usize)> {
+    /// The token at an offset of the files.
+    fn token_at(&self, offset: usize) -> Option<Near<'_, 'a>> {
         let (file, offset) = self.placed.as_ref()?.place(offset);
-        Some((self.cut.get(file)?, offset))
+        Near::at(self.cut.get(file)?, offset)
     }
 
-    /// The place of an offset of the files.
+    /// The place of a token.
+    fn place_of(&self, token: Near<'_, 'a>) -> Option<SourcePlace<'a>> {
+        let source = token.source;
+        let position = self.positions.get(source.file)?.get(token.place)?;
+        Some(SourcePlace {
+            number: source.file,
+            line: position.line,
+            column: position.column,
+            file: source.named.name,
+        })
+    }
+
+    /// The place of the token at an offset of the files.
     pub(crate) fn place_at(&self, offset: usize) -> Option<SourcePlace<'a>> {
-        let (source, offset) = self.source_at(offset)?;
-        Some(place_in(source, offset))
+        self.place_of(self.token_at(offset)?)
     }
 
     /// What is declared behind the label at an offset of the files.
-    pub(crate) fn declared_at(&self, offset: usize) -> Option<Part<'_, 'a>> {
-        let (source, offset) = self.source_at(offset)?;
-        let label = Near::at(source, offset)?;
+    fn declared_at(&self, offset: usize) -> Option<Part<'_, 'a>> {
+        let label = self.token_at(offset)?;
         let declaration = label.part();
         declaration.between(label.place, declaration.to).declared()
-    }
-}
-
-/// The place of an offset in a source. The line and the column aren't looked for yet.
-pub(crate) fn place_in<'a>(source: &Source<'a>, offset: usize) -> SourcePlace<'a> {
-    SourcePlace {
-        file: source.named.name,
-        number: source.file,
-        offset,
-        position: Position { line: 1, column: 1 },
     }
 }
 
 /// An expression in the sources.
 #[derive(Clone, Copy, Drop)]
 pub(crate) struct Spelled<'t> {
+    written: &'t Written<'t>,
     /// What it stands for, without embeddings.
     tree: &'t Expr,
     /// Where it is written: where several are put together the first of them, and of what one stands for the whole of it.
@@ -130,11 +133,11 @@ fn bare(expr: &Expr) -> &Expr {
 
 /// Whether an expression is the alternatives of one literal that is put together.
 fn is_of_one(expr: &Expr) -> bool {
-    let Expr::Or(operands) = expr else {
-        return false;
-    };
-    match operands.as_slice() {
-        [Expr::Struct { at, .. }, Expr::Struct { at: other, .. }, ..] => at == other,
+    match expr {
+        Expr::Or(operands) => match operands.as_slice() {
+            [Expr::Struct { at, .. }, Expr::Struct { at: other, .. }, ..] => at == other,
+            _ => false,
+        },
         _ => false,
     }
 }
@@ -152,29 +155,15 @@ fn first_field(expr: &Expr) -> Option<&Field> {
 }
 
 impl<'t> Spelled<'t> {
-    /// The body of a definition.
-    pub(crate) fn body(written: &'t Written<'t>, body: &'t Definition) -> Option<Spelled<'t>> {
+    /// The body of a definition of a name that so many of the same name are before.
+    pub(crate) fn body(written: &'t Written<'t>, name: &str, before: usize) -> Option<Spelled<'t>> {
+        let definition = written.definition(name, before)?;
         Some(Spelled {
-            tree: &body.body,
-            part: written.declared_at(body.at)?,
+            written,
+            tree: &definition.body,
+            part: written.declared_at(definition.at)?,
             by: None,
-            is_together: is_of_one(&body.body),
-        })
-    }
-
-    /// The value of a field. Of several that are put together the first one stands for all, which has the first field.
-    pub(crate) fn value(written: &'t Written<'t>, field: &'t Field) -> Option<Spelled<'t>> {
-        let Site { at, by, all } = &field.site;
-        let tree = &field.value;
-        let (first, by) = match all.first() {
-            Some(first) if first != at => (first, first_field(tree).and_then(|own| own.site.by)),
-            Some(_) | None => (at, *by),
-        };
-        Some(Spelled {
-            tree,
-            part: written.declared_at(*first)?,
-            by,
-            is_together: !all.is_empty(),
+            is_together: is_of_one(&definition.body),
         })
     }
 
@@ -188,61 +177,69 @@ impl<'t> Spelled<'t> {
         }
     }
 
-    /// Its operand at a place, of `&` or of `|`.
-    pub(crate) fn operand(self, place: usize) -> Option<Spelled<'t>> {
+    /// What is at a place in it: an operand, the value of a field, or what is asked of an element.
+    pub(crate) fn inside(self, place: usize) -> Option<Spelled<'t>> {
         match bare(self.tree) {
-            Expr::And(operands) => self.united(operands, place),
-            Expr::Or(operands) => self.alternative(operands, place),
+            Expr::And(operands) => self.operand(Separator::Amp, operands, place),
+            Expr::Or(operands) => self.operand(Separator::Bar, operands, place),
+            Expr::Struct { .. } => self.value(place),
+            Expr::List { front, end } => {
+                let tree = match (front.get(place), end) {
+                    (Some(fixed), _) => fixed,
+                    (None, ListEnd::Each(each)) => &**each,
+                    (None, ListEnd::Closed | ListEnd::Any) => return None,
+                };
+                Some(self.inner(tree, self.part.element(place.min(front.len()))?))
+            }
             _ => None,
         }
     }
 
-    /// Its operand of `&` at a place. Where there are fewer than in the source, those that aren't plain are put together.
-    fn united(self, operands: &'t [Expr], place: usize) -> Option<Spelled<'t>> {
+    /// Its operand at a place. Where there are fewer of `&` than in the source, those that aren't plain are put together. All alternatives
+    /// of what is put together are that whole expression.
+    fn operand(self, by: Separator, operands: &'t [Expr], place: usize) -> Option<Spelled<'t>> {
         let tree = operands.get(place)?;
-        if self.part.operands(Separator::Amp) == operands.len() {
-            return Some(self.inner(tree, self.part.operand(Separator::Amp, place)?));
+        let is_united = by == Separator::Amp;
+        if self.part.operands(by) == operands.len() && (is_united || !self.is_together) {
+            return Some(self.inner(tree, self.part.operand(by, place)?));
         }
-        let part = self.part.standing_operand(place)?;
-        let is_together = !part.is_plain();
-        Some(Spelled {
-            is_together,
-            ..self.inner(tree, part)
-        })
-    }
-
-    /// Its alternative at a place. All those of what is put together are that whole expression.
-    fn alternative(self, operands: &'t [Expr], place: usize) -> Option<Spelled<'t>> {
-        let tree = operands.get(place)?;
-        if self.is_together || self.part.operands(Separator::Bar) != operands.len() {
+        if !is_united {
             return Some(Spelled { tree, ..self });
         }
-        Some(self.inner(tree, self.part.operand(Separator::Bar, place)?))
+        let mut operand = self.inner(tree, self.part.standing_operand(place)?);
+        operand.is_together = !operand.part.is_plain();
+        Some(operand)
     }
 
     /// Its field at a place.
     pub(crate) fn field(self, place: usize) -> Option<&'t Field> {
-        let Expr::Struct { fields, .. } = bare(self.tree) else {
-            return None;
-        };
-        fields.get(place)
+        match bare(self.tree) {
+            Expr::Struct { fields, .. } => fields.get(place),
+            _ => None,
+        }
     }
 
-    /// What is asked of its element at a place.
-    pub(crate) fn element(self, place: usize) -> Option<Spelled<'t>> {
-        let Expr::List { front, end } = bare(self.tree) else {
-            return None;
+    /// The value of its field at a place. Of several that are put together the first one stands for all, which has the first field.
+    fn value(self, place: usize) -> Option<Spelled<'t>> {
+        let field = self.field(place)?;
+        let Site { at, by, all } = &field.site;
+        let tree = &field.value;
+        let (first, by) = match all.first() {
+            Some(first) if first != at => (first, first_field(tree).and_then(|own| own.site.by)),
+            Some(_) | None => (at, *by),
         };
-        let tree = match (front.get(place), end) {
-            (Some(fixed), _) => fixed,
-            (None, ListEnd::Each(each)) => &**each,
-            (None, ListEnd::Closed | ListEnd::Any) => return None,
-        };
-        Some(self.inner(tree, self.part.element(place.min(front.len()))?))
+        Some(Spelled {
+            tree,
+            part: self.written.declared_at(*first)?,
+            by,
+            is_together: !all.is_empty(),
+            ..self
+        })
     }
 
     /// Where it begins.
     pub(crate) fn place(self) -> Option<SourcePlace<'t>> {
-        Some(place_in(self.part.source, self.part.offset()?))
+        let first = Near::at(self.part.source, self.part.offset()?)?;
+        self.written.place_of(first)
     }
 }

@@ -1,14 +1,16 @@
 -- Where a run over lines stands between two steps.
-use Rattle.std.specs.Prelude.{◌≡◌, ℕ, List, ◌++◌, Option}
+use Rattle.std.specs.Prelude.{◌≡◌, ℕ, List, [], ◌∷◌, ◌++◌, Option, Some, Result, Err, OnOk, OnErr}
 use Rattle.std.specs.List.{All, flat_map}
 use Rattle.cs_judge.specs.declared.lines.LineRun.{LineRun}
 use Rattle.cs_tool.specs.declared.rules.Rules.{Rules}
 use Rattle.cs_judge.specs.Begun.{HoldsFront}
-use Rattle.cs_judge.specs.Explained.{AreToldTo}
-use Rattle.cs_judge.specs.Lines.{Answer, IsLine, Splits, AreAnswers, outcome_of, Hands}
+use Rattle.cs_judge.specs.Explained.{AreTold, AreToldTo}
+use Rattle.cs_judge.specs.Lines.{Answer, IsLine, Splits, AreAnswers, outcome_of, IsDone, IsCutOff, Hands}
 use Rattle.cs_tool.specs.Runs.{line_of}
 use Rattle.cs_reason_words.specs.declared.form.Form.{Form}
 use Rattle.cs_tool.specs.Streams.{AppendsFront}
+use Rattle.cs_tool.specs.declared.fault.Fault.{Fault}
+use Rattle.cs_tool.specs.declared.fault.Fault.TheVariants.{WriteFailed}
 
 -- the lines are answered, and what is written of the answers was taken by the writer or is held
 pub record AreAnswered (IsTextOf : List Answer → List ℕ → Type 0) (rules : Rules) (start now : Option (List ℕ)) (lines : List (List ℕ)) (run : LineRun) : Type 0 where
@@ -49,3 +51,25 @@ BeginsWith bytes lines = (more : List ℕ) × (bytes ≡ flat_map line_of lines 
 -- the writer took a front of what is written of the first lines
 abbrev pub IsCutOffIn : (List Answer → List ℕ → Type 0) → Rules → List ℕ → Option (List ℕ) → Option (List ℕ) → Type 0
 IsCutOffIn IsTextOf rules bytes start now = (lines : List (List ℕ)) × BeginsWith bytes lines × AreCutOff IsTextOf rules lines start now
+
+-- ---- what the steps of a run do, wherever it stood; where one fails, a write failed, and the writer took a front
+
+-- the lines that end in the chunk are answered too
+pub record GoesOver {T : Type 0} (result : Result T Fault) (form : Option Form) (rules : Rules) (chunk : List ℕ) (old new : Option (List ℕ)) (before after : LineRun) : Type 0 where
+  pub all : (start : Option (List ℕ)) (bytes : List ℕ) → Stands form rules start old bytes before → OnOk result (Stands form rules start new (bytes ++ chunk) after)
+  pub front : (start : Option (List ℕ)) (bytes : List ℕ) → Stands form rules start old bytes before → OnErr result (IsCutOffIn (AreTold form) rules (bytes ++ chunk) start new)
+  pub kind : OnErr result (result ≡ Err WriteFailed)
+
+-- the line that ends with the piece is answered too
+pub record AnswersLine {T : Type 0} (result : Result T Fault) (form : Option Form) (rules : Rules) (piece : List ℕ) (old new : Option (List ℕ)) (before after : LineRun) : Type 0 where
+  pub all : (start : Option (List ℕ)) (lines : List (List ℕ)) (front : List ℕ) → StandsAt form rules start old lines before → HoldsFront before.begun front
+      → OnOk result (StandsAt form rules start new (lines ++ (front ++ piece) ∷ []) after)
+  pub front : (start : Option (List ℕ)) (lines : List (List ℕ)) (front : List ℕ) → StandsAt form rules start old lines before → HoldsFront before.begun front
+      → OnErr result (AreCutOff (AreTold form) rules (lines ++ (front ++ piece) ∷ []) start new)
+  pub kind : OnErr result (result ≡ Err WriteFailed)
+
+-- the input ends there
+pub record Finishes {T : Type 0} (result : Result T Fault) (form : Option Form) (rules : Rules) (old new : Option (List ℕ)) (before after : LineRun) : Type 0 where
+  pub all : (start : Option (List ℕ)) (bytes : List ℕ) → Stands form rules start old bytes before → OnOk result (IsDone (AreTold form) rules (Some bytes) start new after.outcome)
+  pub front : (start : Option (List ℕ)) (bytes : List ℕ) → Stands form rules start old bytes before → OnErr result (IsCutOff (AreTold form) rules (Some bytes) start new)
+  pub kind : OnErr result (result ≡ Err WriteFailed)

@@ -7,7 +7,7 @@ ghost use Rattle.cs_judge.specs.Lines.{Answer, IsTextAnswer, answer_line, worse,
 ghost use Rattle.cs_judge.specs.Writing.{Writes, WritesSome, Holds};
 ghost use Rattle.cs_tool.specs.Runs.{IsReadyCall};
 
-use crate::text_judge::{TextJudge, Why, form_of, verdict_line};
+use crate::text_judge::{Judged, TextJudge, Why, form_of, verdict_line};
 use cs_place::{Label, Named};
 use cs_reason_words::Form;
 use cs_tool::{Fault, MEMBER_ROOM, put, put_error, write_part, write_text};
@@ -48,7 +48,7 @@ impl LinesOutcome {
 }
 
 /// The outcome of one text.
-pub(crate) fn outcome_of(answer: &Result<bool, Fault>) -> LinesOutcome
+pub(crate) fn outcome_of(answer: &Judged) -> LinesOutcome
     ensures { result ≡ outcome_of_answer answer.now }
 {
     match answer {
@@ -59,7 +59,7 @@ pub(crate) fn outcome_of(answer: &Result<bool, Fault>) -> LinesOutcome
 }
 
 /// The line of an answer. That of a refusal is put in the room.
-fn line_of<'a>(answer: &Result<bool, Fault>, room: &'a mut [u8]) -> &'a [u8]
+fn line_of<'a>(answer: &Judged, room: &'a mut [u8]) -> &'a [u8]
     requires { ANSWER_ROOM ≤ length room.old }
     ensures { result.now ≡ answer_line answer.now }
 {
@@ -84,11 +84,9 @@ pub fn run_document<W: Write>(
     why: Option<Why<'_>>,
     output: &mut W,
 ) -> Result<bool, Fault>
-    ensures done { IfOk result (λ truth. (told : List ℕ)
-        × IsToldAnswer judge.old document.entry.text.now (asked_form why.entry) truth told
+    ensures done { IfOk result (λ truth. (told : List ℕ) × IsToldAnswer judge.old document.entry.text.now (asked_form why.entry) truth told
         × Appends (W.contents output.old) (W.contents output.new) told) }
-    ensures refused { IfErr result (λ e.
-        LeavesTold judge.old document.entry.text.now (asked_form why.entry) e
+    ensures refused { IfErr result (λ e. LeavesTold judge.old document.entry.text.now (asked_form why.entry) e
         (W.contents output.old) (W.contents output.new)) }
     ensures only { IsReadyCall (call_on judge.old document.entry.text.now)
         → IfErr result (λ e. (e ≡ Fault.OutOfMemory) ⊎ (e ≡ Fault.WriteFailed)) }
@@ -113,23 +111,15 @@ pub fn write_document<W: Write>(
     why: Option<Why<'_>>,
     output: &mut W,
 ) -> Result<LinesOutcome, Fault>
-    ensures done { IfOk result (λ outcome. (answer : Answer)
-        × IsTextAnswer judge.old text.now answer × (outcome ≡ outcome_of_answer answer)
-        × WritesLabelled (asked_form why.entry) label.now answer
-        (W.contents output.old) (W.contents output.new)) }
-    ensures refused { IfErr result (λ e. (e ≡ Fault.WriteFailed) × (answer : Answer)
-        × IsTextAnswer judge.old text.now answer
-        × LeavesLabelled (asked_form why.entry) label.now answer
-        (W.contents output.old) (W.contents output.new)) }
+    ensures done { IfOk result (λ outcome. (answer : Answer) × IsTextAnswer judge.old text.now answer × (outcome ≡ outcome_of_answer answer)
+        × WritesLabelled (asked_form why.entry) label.now answer (W.contents output.old) (W.contents output.new)) }
+    ensures refused { IfErr result (λ e. (e ≡ Fault.WriteFailed) × (answer : Answer) × IsTextAnswer judge.old text.now answer
+        × LeavesLabelled (asked_form why.entry) label.now answer (W.contents output.old) (W.contents output.new)) }
     ensures same { judge.new ≡ judge.old }
 {
-    let document = Named {
-        name: label.name(),
-        text,
-        line: 1,
-    };
+    let (name, line) = (label.name(), 1);
     let mut told = Vec::new(alloc);
-    let answer = judge.explain(document, why, &mut told);
+    let answer = judge.explain(Named { name, text, line }, why, &mut told);
     write_told(alloc, form_of(why), &answer, label, &told, output)?;
     Ok(outcome_of(&answer))
 }
@@ -145,10 +135,8 @@ pub fn write_unread<W: Write>(
     output: &mut W,
 ) -> Result<LinesOutcome, Fault>
     ensures done { IfOk result (λ outcome. (outcome ≡ LinesOutcome.SomeRefused)
-        × WritesLabelled (asked_form why.entry) label.now (Err fault)
-        (W.contents output.old) (W.contents output.new)) }
-    ensures refused { IfErr result (λ e. (e ≡ Fault.WriteFailed)
-        × LeavesLabelled (asked_form why.entry) label.now (Err fault)
+        × WritesLabelled (asked_form why.entry) label.now (Err fault) (W.contents output.old) (W.contents output.new)) }
+    ensures refused { IfErr result (λ e. (e ≡ Fault.WriteFailed) × LeavesLabelled (asked_form why.entry) label.now (Err fault)
         (W.contents output.old) (W.contents output.new)) }
 {
     write_told(alloc, form_of(why), &Err(fault), label, b"", output)?;
@@ -159,13 +147,12 @@ pub fn write_unread<W: Write>(
 fn write_told<W: Write>(
     alloc: Global,
     form: Option<Form>,
-    answer: &Result<bool, Fault>,
+    answer: &Judged,
     label: &Label<'_>,
     told: &[u8],
     output: &mut W,
 ) -> Result<(), Fault>
-    ensures { IfOk answer.now (λ b. IsTold form b told.now)
-        → WritesSome result (W.contents output.old) (W.contents output.new)
+    ensures { IfOk answer.now (λ b. IsTold form b told.now) → WritesSome result (W.contents output.old) (W.contents output.new)
         (IsWrittenOf form label.now answer.now) }
 {
     match form {
@@ -177,13 +164,12 @@ fn write_told<W: Write>(
 
 /// Writes what is told of an answer behind a label, or of a refusal the line; then flushes.
 fn write_line<W: Write>(
-    answer: &Result<bool, Fault>,
+    answer: &Judged,
     label: &Label<'_>,
     told: &[u8],
     output: &mut W,
 ) -> Result<(), Fault>
-    ensures { Writes result (W.contents output.old) (W.contents output.new)
-        (behind label.now (told_line answer.now told.now)) }
+    ensures { Writes result (W.contents output.old) (W.contents output.new) (behind label.now (told_line answer.now told.now)) }
 {
     match answer {
         Ok(_) => write_behind(label, told, output),
@@ -196,8 +182,7 @@ fn write_line<W: Write>(
 
 /// Writes a text behind a label; then flushes.
 fn write_behind<W: Write>(label: &Label<'_>, told: &[u8], output: &mut W) -> Result<(), Fault>
-    ensures { Writes result (W.contents output.old) (W.contents output.new)
-        (behind label.now told.now) }
+    ensures { Writes result (W.contents output.old) (W.contents output.new) (behind label.now told.now) }
 {
     write_part(output, label.shown().as_bytes())?;
     write_part(output, b": ")?;
@@ -207,7 +192,7 @@ fn write_behind<W: Write>(label: &Label<'_>, told: &[u8], output: &mut W) -> Res
 /// Writes the object of an answer, whose name is its first member; then flushes.
 fn write_object<W: Write>(
     alloc: Global,
-    answer: &Result<bool, Fault>,
+    answer: &Judged,
     name: &str,
     told: &[u8],
     output: &mut W,
@@ -222,8 +207,7 @@ fn write_object<W: Write>(
 
 /// Writes what the object of a document of that name begins with. The name is left out where memory runs out.
 fn write_front<W: Write>(alloc: Global, name: &str, output: &mut W) -> Result<(), Fault>
-    ensures { WritesSome result (W.contents output.old) (W.contents output.new)
-        (IsDocumentFront name.now) }
+    ensures { WritesSome result (W.contents output.old) (W.contents output.new) (IsDocumentFront name.now) }
 {
     match document_front(alloc, name) {
         Ok(front) => write_part(output, &front),
@@ -245,11 +229,7 @@ fn document_front(alloc: Global, name: &str) -> Result<Vec<u8>, AllocError>
 }
 
 /// What follows the front of an object that tells an answer: what is told behind its first byte, or a refusal, which is put in the room.
-pub(crate) fn members_of<'a>(
-    answer: &Result<bool, Fault>,
-    told: &'a [u8],
-    room: &'a mut [u8],
-) -> &'a [u8]
+pub(crate) fn members_of<'a>(answer: &Judged, told: &'a [u8], room: &'a mut [u8]) -> &'a [u8]
     requires { MEMBER_ROOM ≤ length room.old }
     ensures { result.now ≡ members_text answer.now told.now }
 {
@@ -294,13 +274,8 @@ impl HeldAnswers {
     }
 
     /// Holds the line of one more answer.
-    pub(crate) fn hold<W: Write>(
-        &mut self,
-        answer: &Result<bool, Fault>,
-        output: &mut W,
-    ) -> Result<(), Fault>
-        ensures { Holds result (W.contents output.old) (W.contents output.new)
-            (self.old ++ answer_line answer.now) self.new }
+    pub(crate) fn hold<W: Write>(&mut self, answer: &Judged, output: &mut W) -> Result<(), Fault>
+        ensures { Holds result (W.contents output.old) (W.contents output.new) (self.old ++ answer_line answer.now) self.new }
     {
         let mut room = [0u8; ANSWER_ROOM];
         self.hold_text(line_of(answer, &mut room), output)
@@ -313,8 +288,7 @@ impl HeldAnswers {
         second: &[u8],
         output: &mut W,
     ) -> Result<(), Fault>
-        ensures { Holds result (W.contents output.old) (W.contents output.new)
-            (self.old ++ first.now ++ second.now) self.new }
+        ensures { Holds result (W.contents output.old) (W.contents output.new) (self.old ++ first.now ++ second.now) self.new }
     {
         self.hold_text(first, output)?;
         self.hold_text(second, output)
@@ -322,8 +296,7 @@ impl HeldAnswers {
 
     /// Holds one more text. Writes what is held where there is no room, and the text too where it is longer than what may be held.
     pub(crate) fn hold_text<W: Write>(&mut self, text: &[u8], output: &mut W) -> Result<(), Fault>
-        ensures { Holds result (W.contents output.old) (W.contents output.new)
-            (self.old ++ text.now) self.new }
+        ensures { Holds result (W.contents output.old) (W.contents output.new) (self.old ++ text.now) self.new }
     {
         if text.len() > HELD - self.end {
             write_part(output, &self.bytes[..self.end])?;

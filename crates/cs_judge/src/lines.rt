@@ -1,13 +1,13 @@
 // A run over the lines of an input, which is read in pieces.
 ghost use Rattle.std.specs.Prelude.{◌≡◌, ◌↔◌, ◌⊎◌, ◌+◌, ◌-◌, ◌^◌, ◌<◌, ◌≤◌, ◌++◌, ◌∷◌, [], ℕ, List, Option, Some, min, length, take, Err, OnOk, OnErr, IfOk, IfErr, IsTrue};
-ghost use Rattle.cs_judge.specs.Answering.{Stands, StandsAt, AreCutOff, IsCutOffIn};
+ghost use Rattle.cs_judge.specs.Answering.{Stands, GoesOver, AnswersLine, Finishes};
 ghost use Rattle.cs_judge.specs.Begun.{HoldsFront};
-ghost use Rattle.cs_judge.specs.Explained.{asked_form, IsTold, Tells, input_member, members_text, AreTold, IsWritten};
+ghost use Rattle.cs_judge.specs.Explained.{asked_form, IsTold, Tells, input_member, AreTold, IsWritten};
 ghost use Rattle.cs_judge.specs.Lines.{IsDone, IsCutOff, LeavesLines, IsOfRules, IsLineAnswer};
-ghost use Rattle.cs_judge.specs.Writing.{Holds, HoldsSome};
+ghost use Rattle.cs_judge.specs.Writing.{HoldsSome};
 
 use crate::answers::{HeldAnswers, LinesOutcome, members_of, outcome_of};
-use crate::text_judge::{TextJudge, Why, form_of, verdict_line};
+use crate::text_judge::{Judged, TextJudge, Why, form_of, verdict_line};
 use cs_place::Named;
 use cs_reason_words::Form;
 use cs_tool::{Fault, MEMBER_ROOM, MOST_INPUT_BYTES, put};
@@ -57,12 +57,9 @@ pub fn run_lines<R: Read, W: Write, E: Write>(
     ensures done { IfOk result (IsDone (AreTold (asked_form why.entry)) judge.entry
         (R.remaining input.old) (W.contents output.old) (W.contents output.new)) }
     ensures refused { IfErr result (λ e. LeavesLines (AreTold (asked_form why.entry)) judge.entry e
-        (R.remaining input.old) (R.remaining input.new)
-        (W.contents output.old) (W.contents output.new)) }
-    ensures unread { IfErr result (λ e. IsOfRules e
-        → (input.new ≡ input.old) × (output.new ≡ output.old)) }
-    ensures only { IfErr result (λ e. (e ≡ Fault.OutOfMemory)
-        ⊎ (e ≡ Fault.ReadFailed) ⊎ (e ≡ Fault.WriteFailed)) }
+        (R.remaining input.old) (R.remaining input.new) (W.contents output.old) (W.contents output.new)) }
+    ensures unread { IfErr result (λ e. IsOfRules e → (input.new ≡ input.old) × (output.new ≡ output.old)) }
+    ensures only { IfErr result (λ e. (e ≡ Fault.OutOfMemory) ⊎ (e ≡ Fault.ReadFailed) ⊎ (e ≡ Fault.WriteFailed)) }
 {
     let mut run = LineRun::new(alloc, name)?;
     let mut chunk = vec![in alloc; 0u8; CHUNK]?;
@@ -80,14 +77,12 @@ fn answer_chunks<R: Read, W: Write, E: Write>(
     notes: &mut E,
 ) -> Result<LinesOutcome, Fault>
     requires room { 0 < length chunk.old }
-    requires start { Stands (asked_form why) judge.old
-        (W.contents output.old) (W.contents output.old) [] run.old }
+    requires start { Stands (asked_form why) judge.old (W.contents output.old) (W.contents output.old) [] run.old }
     requires none { run.old.held ≡ [] }
     ensures done { IfOk result (IsDone (AreTold (asked_form why.entry)) judge.old
         (R.remaining input.old) (W.contents output.old) (W.contents output.new)) }
     ensures refused { IfErr result (λ e. LeavesLines (AreTold (asked_form why.entry)) judge.old e
-        (R.remaining input.old) (R.remaining input.new)
-        (W.contents output.old) (W.contents output.new)) }
+        (R.remaining input.old) (R.remaining input.new) (W.contents output.old) (W.contents output.new)) }
     ensures kind { IfErr result (λ e. (e ≡ Fault.ReadFailed) ⊎ (e ≡ Fault.WriteFailed)) }
 {
     for _ in 0..u64::MAX {
@@ -113,24 +108,15 @@ impl<'a> LineRun<'a> {
         ensures outcome { IfOk result (λ r. r.outcome ≡ LinesOutcome.AllValid) }
         ensures first { IfOk result (λ r. r.line.line ≡ 1) }
     {
-        let held = HeldAnswers::new(alloc)?;
-        let notes = HeldAnswers::new(alloc)?;
-        let begun = BegunLine {
-            bytes: Vec::new(alloc),
-            kept: Kept::All,
-        };
-        let line = Named {
-            name,
-            text: b"",
-            line: 1,
-        };
+        let (bytes, kept) = (Vec::new(alloc), Kept::All);
+        let (text, line) = (b"", 1);
         Ok(LineRun {
-            begun,
-            held,
+            begun: BegunLine { bytes, kept },
+            held: HeldAnswers::new(alloc)?,
             outcome: LinesOutcome::AllValid,
-            line,
+            line: Named { name, text, line },
             told: Vec::new(alloc),
-            notes,
+            notes: HeldAnswers::new(alloc)?,
         })
     }
 
@@ -143,15 +129,8 @@ impl<'a> LineRun<'a> {
         output: &mut W,
         notes: &mut E,
     ) -> Result<(), Fault>
-        ensures all { (start : Option (List ℕ)) (bytes : List ℕ)
-            → Stands (asked_form why.entry) judge.old start (W.contents output.old) bytes self.old
-            → OnOk result (Stands (asked_form why.entry) judge.old
-            start (W.contents output.new) (bytes ++ chunk.now) self.new) }
-        ensures front { (start : Option (List ℕ)) (bytes : List ℕ)
-            → Stands (asked_form why.entry) judge.old start (W.contents output.old) bytes self.old
-            → OnErr result (IsCutOffIn (AreTold (asked_form why.entry)) judge.old
-            (bytes ++ chunk.now) start (W.contents output.new)) }
-        ensures kind { OnErr result (result ≡ Err Fault.WriteFailed) }
+        ensures over { GoesOver result (asked_form why.entry) judge.old chunk.now
+            (W.contents output.old) (W.contents output.new) self.old self.new }
         ensures same { judge.new ≡ judge.old }
     {
         let mut at = 0;
@@ -172,17 +151,9 @@ impl<'a> LineRun<'a> {
         output: &mut W,
         notes: &mut E,
     ) -> Result<(), Fault>
-        ensures all { (start : Option (List ℕ)) (lines : List (List ℕ)) (front : List ℕ)
-            → StandsAt (asked_form why.entry) judge.old start (W.contents output.old) lines self.old
-            → HoldsFront self.old.begun front → OnOk result (StandsAt (asked_form why.entry) judge.old
-            start (W.contents output.new) (lines ++ (front ++ piece.now) ∷ []) self.new) }
+        ensures line { AnswersLine result (asked_form why.entry) judge.old piece.now
+            (W.contents output.old) (W.contents output.new) self.old self.new }
         ensures begun { HoldsFront self.new.begun [] }
-        ensures front { (start : Option (List ℕ)) (lines : List (List ℕ)) (front : List ℕ)
-            → StandsAt (asked_form why.entry) judge.old start (W.contents output.old) lines self.old
-            → HoldsFront self.old.begun front
-            → OnErr result (AreCutOff (AreTold (asked_form why.entry)) judge.old
-            (lines ++ (front ++ piece.now) ∷ []) start (W.contents output.new)) }
-        ensures kind { OnErr result (result ≡ Err Fault.WriteFailed) }
         ensures same { judge.new ≡ judge.old }
     {
         self.told.clear();
@@ -206,15 +177,8 @@ impl<'a> LineRun<'a> {
         output: &mut W,
         notes: &mut E,
     ) -> Result<(), Fault>
-        ensures all { (start : Option (List ℕ)) (bytes : List ℕ)
-            → Stands (asked_form why.entry) judge.old start (W.contents output.old) bytes self.old
-            → OnOk result (IsDone (AreTold (asked_form why.entry)) judge.old (Some bytes)
-            start (W.contents output.new) self.new.outcome) }
-        ensures front { (start : Option (List ℕ)) (bytes : List ℕ)
-            → Stands (asked_form why.entry) judge.old start (W.contents output.old) bytes self.old
-            → OnErr result (IsCutOff (AreTold (asked_form why.entry)) judge.old (Some bytes)
-            start (W.contents output.new)) }
-        ensures kind { OnErr result (result ≡ Err Fault.WriteFailed) }
+        ensures { Finishes result (asked_form why.entry) judge.old
+            (W.contents output.old) (W.contents output.new) self.old self.new }
     {
         if !self.begun.is_empty() {
             self.answer_line(judge, why, &[], output, notes)?;
@@ -247,36 +211,23 @@ fn hold_told<W: Write>(
     held: &mut HeldAnswers,
     form: Option<Form>,
     number: usize,
-    answer: &Result<bool, Fault>,
+    answer: &Judged,
     told: &[u8],
     output: &mut W,
 ) -> Result<(), Fault>
-    ensures { IfOk answer.now (λ b. IsTold form b told.now)
-        → HoldsSome result (W.contents output.old) (W.contents output.new)
+    ensures { IfOk answer.now (λ b. IsTold form b told.now) → HoldsSome result (W.contents output.old) (W.contents output.new)
         held.old held.new (IsWritten form number answer.now) }
 {
     match form {
         None => held.hold(answer, output),
         Some(Form::Lines) => held.hold(answer, output),
-        Some(Form::Object(_)) => hold_object(held, number, answer, told, output),
+        Some(Form::Object(_)) => {
+            let mut front = [0u8; MEMBER_ROOM];
+            let mut room = [0u8; MEMBER_ROOM];
+            let members = members_of(answer, told, &mut room);
+            held.hold_both(front_of(number, &mut front), members, output)
+        }
     }
-}
-
-/// Holds the object of the answer to a line of that number.
-fn hold_object<W: Write>(
-    held: &mut HeldAnswers,
-    number: usize,
-    answer: &Result<bool, Fault>,
-    told: &[u8],
-    output: &mut W,
-) -> Result<(), Fault>
-    ensures { Holds result (W.contents output.old) (W.contents output.new)
-        (held.old ++ (input_member number ++ members_text answer.now told.now)) held.new }
-{
-    let mut front = [0u8; MEMBER_ROOM];
-    let mut room = [0u8; MEMBER_ROOM];
-    let members = members_of(answer, told, &mut room);
-    held.hold_both(front_of(number, &mut front), members, output)
 }
 
 /// What the object of a line of that number begins with, its first member, which is put in the room.
@@ -311,8 +262,7 @@ struct BegunLine {
 impl BegunLine {
     /// Whether the line has no byte yet.
     fn is_empty(&self) -> bool
-        ensures tells { (front : List ℕ) → HoldsFront self.now front
-            → IsTrue result ↔ (front ≡ []) }
+        ensures tells { (front : List ℕ) → HoldsFront self.now front → IsTrue result ↔ (front ≡ []) }
         ensures begun { IsTrue result → HoldsFront self.now [] }
     {
         match self.kept {
@@ -323,8 +273,7 @@ impl BegunLine {
 
     /// Takes the next piece of the line. Where it can't be kept, no more is.
     fn add(&mut self, piece: &[u8])
-        ensures { (front : List ℕ) → HoldsFront self.old front
-            → HoldsFront self.new (front ++ piece.now) }
+        ensures { (front : List ℕ) → HoldsFront self.old front → HoldsFront self.new (front ++ piece.now) }
     {
         if let Kept::All = self.kept {
             if piece.len() > MOST_INPUT_BYTES.saturating_sub(self.bytes.len()) {
@@ -345,11 +294,9 @@ impl BegunLine {
         why: Option<Why<'_>>,
         told: &mut Vec<u8>,
     ) -> Result<bool, Fault>
-        ensures answer { (front : List ℕ) → HoldsFront self.old front
-            → IsLineAnswer judge.old (front ++ piece.now) result }
+        ensures answer { (front : List ℕ) → HoldsFront self.old front → IsLineAnswer judge.old (front ++ piece.now) result }
         ensures empty { HoldsFront self.new [] }
-        ensures told { IfOk result
-            (λ b. Tells (asked_form why.entry) b told.old.items told.new.items) }
+        ensures told { IfOk result (λ b. Tells (asked_form why.entry) b told.old.items told.new.items) }
         ensures same { judge.new ≡ judge.old }
     {
         if self.is_empty() && piece.len() <= MOST_INPUT_BYTES {
@@ -370,10 +317,8 @@ impl BegunLine {
         why: Option<Why<'_>>,
         told: &mut Vec<u8>,
     ) -> Result<bool, Fault>
-        ensures answer { (line : List ℕ) → HoldsFront self.now line
-            → IsLineAnswer judge.old line result }
-        ensures told { IfOk result
-            (λ b. Tells (asked_form why.entry) b told.old.items told.new.items) }
+        ensures answer { (line : List ℕ) → HoldsFront self.now line → IsLineAnswer judge.old line result }
+        ensures told { IfOk result (λ b. Tells (asked_form why.entry) b told.old.items told.new.items) }
         ensures same { judge.new ≡ judge.old }
     {
         match self.kept {

@@ -15,6 +15,11 @@ use cs_tool::{
 use std::alloc::{AllocError, Global};
 use std::marker::Model;
 
+/// What is made where memory doesn't run out.
+pub(crate) type Made<T> = Result<T, AllocError>;
+/// A verdict, or the refusal of a text.
+pub(crate) type Judged = Result<bool, Fault>;
+
 /// How documents are explained.
 #[derive(Clone, Copy)]
 pub struct Why<'a> {
@@ -156,20 +161,14 @@ impl TextJudge<'_> {
     /// # Errors
     /// Those of that call. The next text is judged all the same.
     pub fn judge(&mut self, text: &[u8]) -> Result<bool, Fault>
-        ensures found { IfOk result
-            (λ b. IsCallAnswer (call_on self.old text.now) b (verdict_text b)) }
+        ensures found { IfOk result (λ b. IsCallAnswer (call_on self.old text.now) b (verdict_text b)) }
         ensures refused { IfErr result (IsCallRefusal (call_on self.old text.now)) }
-        ensures only { IsReadyCall (call_on self.old text.now)
-            → IsOkUnless result Fault.OutOfMemory }
+        ensures only { IsReadyCall (call_on self.old text.now) → IsOkUnless result Fault.OutOfMemory }
         ensures same { self.new ≡ self.old }
     {
-        let document = Named {
-            name: "",
-            text,
-            line: 1,
-        };
+        let (name, line) = ("", 1);
         let mut report = Vec::new(self.alloc);
-        self.answer(document, None, &mut report)
+        self.answer(Named { name, text, line }, None, &mut report)
     }
 
     /// What the call on the document's text answers: `vet`, `validate` or `agree`. Adds the verdict's line, where no reasons are asked for.
@@ -185,14 +184,11 @@ impl TextJudge<'_> {
         why: Option<Why<'_>>,
         output: &mut Vec<u8>,
     ) -> Result<bool, Fault>
-        ensures found { IfOk result
-            (λ b. IsCallAnswer (call_on self.old document.entry.text.now) b (verdict_text b)) }
+        ensures found { IfOk result (λ b. IsCallAnswer (call_on self.old document.entry.text.now) b (verdict_text b)) }
         ensures refused { IfErr result (IsCallRefusal (call_on self.old document.entry.text.now)) }
-        ensures only { IsReadyCall (call_on self.old document.entry.text.now)
-            → IsOkUnless result Fault.OutOfMemory }
+        ensures only { IsReadyCall (call_on self.old document.entry.text.now) → IsOkUnless result Fault.OutOfMemory }
         ensures same { self.new ≡ self.old }
-        ensures told { IfOk result
-            (λ b. Tells (asked_form why.entry) b output.old.items output.new.items) }
+        ensures told { IfOk result (λ b. Tells (asked_form why.entry) b output.old.items output.new.items) }
         ensures kept { OnErr result (output.new.items ≡ output.old.items) }
     {
         let mut report = Vec::new(self.alloc);
@@ -210,8 +206,7 @@ impl TextJudge<'_> {
     ) -> Result<bool, Fault>
         ensures of { IsOf (call_on self.old document.entry.text.now) result }
         ensures same { self.new ≡ self.old }
-        ensures told { IfOk result
-            (λ b. ReportsAsked (asked_form why.entry) b report.old.items report.new.items) }
+        ensures told { IfOk result (λ b. ReportsAsked (asked_form why.entry) b report.old.items report.new.items) }
     {
         let (alloc, rules, table) = (self.alloc, &self.numbered, &mut self.table);
         match read_document(alloc, document.text, &mut self.scratch)? {
@@ -264,14 +259,8 @@ pub(crate) fn verdict_line(truth: bool) -> &'static [u8]
 
 /// Adds what is told of a verdict: its line where no reasons are asked for; in lines the same, and the report behind `invalid`; in the
 /// other forms the report.
-fn tell(
-    form: Option<Form>,
-    truth: bool,
-    report: &[u8],
-    output: &mut Vec<u8>,
-) -> Result<(), AllocError>
-    ensures told { IsReport form truth report.now
-        → OnOk result (Tells form truth output.old.items output.new.items) }
+fn tell(form: Option<Form>, truth: bool, report: &[u8], output: &mut Vec<u8>) -> Made<()>
+    ensures told { IsReport form truth report.now → OnOk result (Tells form truth output.old.items output.new.items) }
     ensures kept { OnErr result (output.new.items ≡ output.old.items) }
 {
     match form {
@@ -283,7 +272,7 @@ fn tell(
 }
 
 /// Adds both texts, or nothing.
-fn add_both(first: &[u8], second: &[u8], output: &mut Vec<u8>) -> Result<(), AllocError>
+fn add_both(first: &[u8], second: &[u8], output: &mut Vec<u8>) -> Made<()>
     ensures all { OnOk result (output.new.items ≡ output.old.items ++ first.now ++ second.now) }
     ensures kept { OnErr result (output.new.items ≡ output.old.items) }
 {

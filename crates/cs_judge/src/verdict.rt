@@ -10,7 +10,7 @@ ghost use Rattle.cs_tool.specs.Runs.{agree};
 ghost use Rattle.cs_tool.specs.Sides.{AreSidesOf};
 ghost use Rattle.cs_tool.specs.declared.rules.Rules.{Rules};
 
-use crate::text_judge::Why;
+use crate::text_judge::{Made, Why};
 use cs_flat::{Flat, Item};
 use cs_instance::RootRules;
 use cs_instance_reasons::{InstanceCause, explain_instance};
@@ -71,8 +71,7 @@ pub(crate) fn verdict(
     table: &mut Verdicts,
     report: &mut Vec<u8>,
 ) -> Result<bool, Fault>
-    ensures { (R : Rules) (text : List ℕ) → AreNumbersOf R rules.now
-        → IsReadAs text (document_in case.entry.flat.now)
+    ensures { (R : Rules) (text : List ℕ) → AreNumbersOf R rules.now → IsReadAs text (document_in case.entry.flat.now)
         → IsCallVerdict (call_on R text) case.entry report.old.items report.new.items result }
 {
     match rules {
@@ -92,23 +91,14 @@ fn both_verdicts(
     table: &mut Verdicts,
     report: &mut Vec<u8>,
 ) -> Result<bool, Fault>
-    ensures { (sources : List (List ℕ)) (root text : List ℕ)
-        → AreSidesOf sources root root_side.now.0 root_side.now.1 schema_side.now
+    ensures { (sources : List (List ℕ)) (root text : List ℕ) → AreSidesOf sources root root_side.now.0 root_side.now.1 schema_side.now
         → IsReadAs text (document_in case.entry.flat.now)
         → IsCallVerdict (agree sources root text) case.entry report.old.items report.new.items result }
 {
-    let of_root = asked_of_root(case.why);
-    let of_schema = asked_of_schema(case.why);
-    let by_root = Case {
-        why: of_root,
-        ..case
-    };
-    let by_schema = Case {
-        why: of_schema,
-        ..case
-    };
-    let is_instance = Side::Root(root_side).verdict(by_root, table, report)?;
-    let is_valid = Side::Schema(schema_side).verdict(by_schema, table, report)?;
+    let why = asked_of_root(case.why);
+    let is_instance = Side::Root(root_side).verdict(Case { why, ..case }, table, report)?;
+    let why = asked_of_schema(case.why);
+    let is_valid = Side::Schema(schema_side).verdict(Case { why, ..case }, table, report)?;
     Ok(is_instance && is_valid)
 }
 
@@ -134,8 +124,7 @@ impl<'a> Side<'a> {
     /// The verdict by the side. The reasons that are asked for are added to the report.
     fn verdict(self, case: Case<'_>, table: &mut Verdicts, out: &mut Vec<u8>) -> Result<bool, Fault>
         ensures verdict { IsVerdict self.entry (document_in case.entry.flat.now) result (λ b. b) }
-        ensures says { IfOk result
-            (λ b. ReportsAsked (asked_form case.entry.why) b out.old.items out.new.items) }
+        ensures says { IfOk result (λ b. ReportsAsked (asked_form case.entry.why) b out.old.items out.new.items) }
     {
         let Some(why) = case.why else {
             return self.truth(case.flat, table);
@@ -206,8 +195,7 @@ impl Told<'_> {
 
     /// Adds the reasons to the report, or in the forms of JSON that there are none.
     fn report(&self, case: Case<'_>, why: Why<'_>, out: &mut Vec<u8>) -> Result<(), AllocError>
-        ensures { OnOk result
-            (Reports why.entry.form (accepts self.now) out.old.items out.new.items) }
+        ensures { OnOk result (Reports why.entry.form (accepts self.now) out.old.items out.new.items) }
     {
         let (alloc, document, flat) = (case.alloc, case.document, case.flat);
         let (form, telling, sources) = (why.form, why.telling, why.sources);
@@ -225,23 +213,14 @@ impl Told<'_> {
     }
 
     /// What is asked again by so many rules: more reasons than are told, where these are looked at.
-    fn further(
-        &self,
-        case: Case<'_>,
-        why: Why<'_>,
-        rules: usize,
-    ) -> Result<Option<Telling>, AllocError> {
+    fn further(&self, case: Case<'_>, why: Why<'_>, rules: usize) -> Made<Option<Telling>> {
         let (count, told) = self.counts();
         if !why.form.has_reasons() || count <= told {
             return Ok(None);
         }
         let most = looked_at(case, rules, count)?;
         let all = why.telling.all;
-        Ok(if most > told {
-            Some(Telling { most, all })
-        } else {
-            None
-        })
+        Ok((most > told).then_some(Telling { most, all }))
     }
 
     /// How many reasons there are, and how many of them are told.
@@ -273,16 +252,13 @@ fn looked_at(case: Case<'_>, rules: usize, count: usize) -> Result<usize, AllocE
 fn levels_of(alloc: Global, flat: &Flat<'_>) -> Result<usize, AllocError> {
     let mut levels: Vec<u8> = Vec::with_capacity(alloc, flat.len())?;
     for item in 0..flat.len() {
+        let level_at = |place: usize| levels.get(place).copied().unwrap_or(0);
         let inside = match flat.item(item) {
-            Item::List(elements) => elements.iter().fold(0u8, |most, place| {
-                most.max(levels.get(*place).copied().unwrap_or(0))
-            }),
-            Item::Object(members) => members.iter().fold(0u8, |most, member| {
-                most.max(levels.get(member.1).copied().unwrap_or(0))
-            }),
-            Item::Null | Item::Bool(_) | Item::Int(_) | Item::Text(_) => 0,
+            Item::List(elements) => elements.iter().map(|place| level_at(*place)).max(),
+            Item::Object(members) => members.iter().map(|member| level_at(member.1)).max(),
+            Item::Null | Item::Bool(_) | Item::Int(_) | Item::Text(_) => None,
         };
-        levels.push(inside.saturating_add(1))?;
+        levels.push(inside.unwrap_or(0).saturating_add(1))?;
     }
     Ok(levels.last().copied().unwrap_or(1) as usize)
 }

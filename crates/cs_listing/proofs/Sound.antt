@@ -19,7 +19,6 @@ use Rattle.cs_instance.proofs.Ready.{at_of_some}
 use Rattle.cs_instance.proofs.Satisfied.{named, at_documents}
 use Rattle.cs_listing.specs.ByKind.{AreByKind, AreLeftOpen}
 use Rattle.cs_listing.specs.Kinds.{has_kind, HasKindsAt}
-use Rattle.cs_listing.specs.declared.kinds.Kinds.{Kinds}
 use Rattle.cs_listing.proofs.Items.{item_of}
 
 -- what is among the first n
@@ -35,7 +34,7 @@ decided_in_front ks x n q b e =
     option_and_then_some (λ k. verdict_of k x) (slice_get (take n ks) q) b e
     (λ k found is. let h = in_front ks n q k found in (h.0, ap (option_and_then (λ j. verdict_of j x)) h.1 ∙ is))
 
-same_kind : (k : Kinds) (f : ℕ → Document) (x : Opened ℕ) → has_kind k (map_opened f x) ≡ has_kind k x
+same_kind : (k : ByKind) (f : ℕ → Document) (x : Opened ℕ) → has_kind k (map_opened f x) ≡ has_kind k x
 same_kind k f a_null = refl
 same_kind k f (a_boolean b) = refl
 same_kind k f (an_integer z) = refl
@@ -87,7 +86,7 @@ module _ (E : Environment) (rules : List Coded) (inner numbers : List ℕ) (whol
       step_is r c.0 c.1 ∙ told.each r c.0 k.0 c.1 k.1 d x (f, is) here inside earlier b (ap (option_and_then (λ k. verdict_of k x)) (sym k.1) ∙ e)
 
 pub kinds_hold : (E : Environment) (rules : List Coded) (inner numbers : List ℕ) → IsNumberedWhole E rules inner numbers → (ks : List ByKind) → AreByKind rules ks
-    → (kinds : List Kinds) → AreLeftOpen ks numbers kinds → (i : ℕ) (k : Kinds) → slice_get kinds i ≡ Some k → HasKindsAt E i k
+    → (kinds : List ByKind) → AreLeftOpen ks numbers kinds → (i : ℕ) (k : ByKind) → slice_get kinds i ≡ Some k → HasKindsAt E i k
 kinds_hold E rules inner numbers whole ks told kinds left i k there n name I instance d holds =
     let v = item_of d in
     let r = slice_index numbers i in

@@ -1,7 +1,176 @@
-// The files that sources stand for, also in the wide profile, with the offsets of all sources in one space.
+// The files that sources stand for, also in the wide profile, with the offsets of all sources in one space, and the source of such an offset.
 #![tactic(auto)]
 
-mod files;
-mod shifting;
+use cs_embeddings::{EmbeddingFault, without_embeddings};
+use cs_grammar::{
+    Declaration, Expr, Field, FieldMark, File, ListEnd, Profile, SyntaxFault, Wide, atom,
+};
+use cs_syntax::parse_file_in;
+use std::alloc::{AllocError, Global};
+use std::str;
 
-pub use files::{Placed, placed_files, spelled_files};
+/// The files that sources stand for. Their offsets count the bytes of all sources, one behind the other: what is brought from one source into
+/// another keeps its place.
+#[derive(Drop)]
+pub struct Placed {
+    /// The file of each source, at its place: without embeddings, and with the marks of defaults.
+    pub files: Vec<File>,
+    /// The offset at which each source begins, in their order.
+    bases: Vec<usize>,
+}
+
+impl Placed {
+    /// The number of the source that an offset in the files is in, and the offset there.
+    pub fn place(&self, offset: usize) -> (usize, usize) {
+        let behind = self.bases.partition_point(|base| *base <= offset);
+        let file = behind.saturating_sub(1);
+        let base = self.bases.get(file).copied().unwrap_or(0);
+        (file, offset.saturating_sub(base))
+    }
+}
+
+/// The files that sources stand for, in either profile: what the default one accepts stands for itself. None where one of the sources spells no file.
+///
+/// # Errors
+/// Memory ran out.
+pub fn placed_files(alloc: Global, sources: &[&[u8]]) -> Result<Option<Placed>, AllocError> {
+    let Some(Placed { files, bases }) = spelled_files(alloc, sources)? else {
+        return Ok(None);
+    };
+    match without_embeddings(alloc, &files) {
+        Ok(files) => Ok(Some(Placed { files, bases })),
+        Err(EmbeddingFault::OutOfMemory) => Err(AllocError),
+        // They stand for none: these themselves, in which each literal has its own fields alone.
+        Err(
+            EmbeddingFault::UnknownName { .. }
+            | EmbeddingFault::NoStruct { .. }
+            | EmbeddingFault::Reopened { .. }
+            | EmbeddingFault::TooHigh { .. }
+            | EmbeddingFault::TooLarge,
+        ) => Ok(Some(Placed { files, bases })),
+    }
+}
+
+/// The files that sources spell, in either profile. None where one of the sources spells no file.
+///
+/// # Errors
+/// Memory ran out.
+pub fn spelled_files(alloc: Global, sources: &[&[u8]]) -> Result<Option<Placed>, AllocError> {
+    let mut files = Vec::with_capacity(alloc, sources.len())?;
+    let mut bases = Vec::with_capacity(alloc, sources.len())?;
+    let mut base = 0usize;
+    for source in sources {
+        let Some(file) = file_of(alloc, source, base)? else {
+            return Ok(None);
+        };
+        files.push(file)?;
+        bases.push(base)?;
+        base = base.saturating_add(source.len());
+    }
+    Ok(Some(Placed { files, bases }))
+}
+
+/// The file that a source spells, in either profile, since the wide one reads what the default one reads, with offsets that count from further
+/// before; none where it is refused.
+fn file_of(alloc: Global, source: &[u8], base: usize) -> Result<Option<File>, AllocError> {
+    let Ok(text) = str::from_utf8(source) else {
+        return Ok(None);
+    };
+    let mut file = match parse_file_in(alloc, Profile::Wide, text) {
+        Ok(file) => file,
+        Err(SyntaxFault::OutOfMemory) => return Err(AllocError),
+        Err(
+            SyntaxFault::NoToken { .. }
+            | SyntaxFault::Syntax { .. }
+            | SyntaxFault::LeftOut { .. }
+            | SyntaxFault::IntegerRange { .. }
+            | SyntaxFault::TooHigh,
+        ) => return Ok(None),
+    };
+    for definition in file.definitions.iter_mut() {
+        add(&mut definition.at, base);
+        shift(&mut definition.body, base);
+    }
+    Ok(Some(file))
+}
+
+/// Adds a number to an offset.
+fn add(at: &mut usize, base: usize) {
+    *at = at.saturating_add(base);
+}
+
+/// Adds a number to each offset of an expression.
+#[cycle(shift)]
+fn shift(expr: &mut Expr, base: usize) {
+    match expr {
+        Expr::Name { at, .. } | Expr::Reference { at, .. } => add(at, base),
+        Expr::And(operands) | Expr::Or(operands) => shift_each(operands, base),
+        Expr::Paren(inside) => shift(inside, base),
+        Expr::Struct { at, fields, .. } => {
+            add(at, base);
+            for field in fields.iter_mut() {
+                shift_field(field, base);
+            }
+        }
+        Expr::List { front, end } => {
+            shift_each(front, base);
+            match end {
+                ListEnd::Closed | ListEnd::Any => {}
+                ListEnd::Each(each) => shift(each, base),
+            }
+        }
+        Expr::Wide(form) => shift_form(form, base),
+        atom!() => {}
+    }
+}
+
+#[cycle(shift)]
+fn shift_each(exprs: &mut Vec<Expr>, base: usize) {
+    for expr in exprs.iter_mut() {
+        shift(expr, base);
+    }
+}
+
+#[cycle(shift)]
+fn shift_field(field: &mut Field, base: usize) {
+    add(&mut field.site.at, base);
+    if let FieldMark::Every { at } = &mut field.mark {
+        add(at, base);
+    }
+    shift(&mut field.value, base);
+}
+
+#[cycle(shift)]
+fn shift_form(form: &mut Wide, base: usize) {
+    match form {
+        Wide::Marked { at, value } => {
+            add(at, base);
+            shift(value, base);
+        }
+        Wide::Shut { at, value } => {
+            add(at, base);
+            shift(value, base);
+        }
+        Wide::Merged {
+            at,
+            declarations,
+            ..
+        } => {
+            add(at, base);
+            for declaration in declarations.iter_mut() {
+                shift_declaration(declaration, base);
+            }
+        }
+    }
+}
+
+#[cycle(shift)]
+fn shift_declaration(declaration: &mut Declaration, base: usize) {
+    match declaration {
+        Declaration::Field(field) => shift_field(field, base),
+        Declaration::Embedded { at, value } => {
+            add(at, base);
+            shift(value, base);
+        }
+    }
+}

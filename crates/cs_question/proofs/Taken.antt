@@ -23,6 +23,12 @@ behind_or_not (Present k o) = inr (λ b. b)
 behind_or_not (Optional k l) = inr (λ b. b)
 behind_or_not (Behind o) = inl tt
 
+pub not_behind : (w : Way) → ((o : Option Literal) → w ≡ Behind o → ⊥) → IsBehind w → ⊥
+not_behind (Absent k) f b = b
+not_behind (Present k o) f b = b
+not_behind (Optional k l) f b = b
+not_behind (Behind o) f b = f o refl
+
 -- all that is asked of the first is asked of the other, with one literal more
 abbrev pub AsksMore : Option Literal → List Literal → List Literal → Type 0
 AsksMore o ls ms = (f : Literal → Bool) → list_all f ls ≡ true → IfSome o (λ l. f l ≡ true) → list_all f ms ≡ true
@@ -76,6 +82,18 @@ module _ (J : Judgement) (n : ℕ) where
   barred_further f Q e [] h s = s
   barred_further f Q e (y ∷ ys) h (inl s) = true≢false (sym e ∙ h.0.0)
   barred_further f Q e (y ∷ ys) h (inr s) = barred_further f Q e ys h.1 s
+
+-- nothing is behind all places where no further part is as some way asks
+pub none_behind : (J : Judgement) (s : Spread) (ws : List Way) → ((o : Option Literal) → SomeOf (IsSuch J o) s.further → ⊥) → SomeOf (λ way. IsBehind way × IsTaken J s way) ws → ⊥
+none_behind J s [] h k = k
+none_behind J s (w ∷ ws) h (inl k) = one w k.0 k.1
+  where
+    one : (w : Way) → IsBehind w → IsTaken J s w → ⊥
+    one (Absent key) b taken = b
+    one (Present key o) b taken = b
+    one (Optional key l) b taken = b
+    one (Behind o) b taken = h o taken
+none_behind J s (w ∷ ws) h (inr k) = none_behind J s ws h k
 
 -- a value at a place that is as asked
 pub held_here : (J : Judgement) (n : ℕ) (o : Option Document) (p : Place) (y : Document) → o ≡ Some y → p.is_barred ≡ false → IsInner n y → meets_all J y p.asked.items ≡ true → HoldsAt J n o p

@@ -1,5 +1,5 @@
 -- What a list literal asks of a place.
-use Rattle.std.specs.Prelude.{◌≡◌, ◌≤◌, ℕ, zero, suc, Bool, true, false, List, [], ◌∷◌, length}
+use Rattle.std.specs.Prelude.{◌≡◌, ◌<◌, ◌≤◌, ℕ, zero, suc, Bool, true, false, List, [], ◌∷◌, length}
 use Rattle.cs_document.specs.Document.{Document, Documents, list, elements, IsDocument, depth}
 use Rattle.cs_instance.specs.Constraint.{Rest, nothing, anything, each}
 use Rattle.cs_question.specs.declared.nodes.Literal.{Literal}
@@ -24,6 +24,11 @@ fits inside (each e) y = inside y e
 abbrev pub IsFrom : ℕ → Bool → ℕ → Type 0
 IsFrom place false i = i ≡ place
 IsFrom place true i = place ≤ i
+
+-- the length that is meant, or also a longer one
+abbrev pub IsOfLength : Bool → ℕ → ℕ → Type 0
+IsOfLength false count n = n ≡ count
+IsOfLength true count n = count < n
 
 -- no list of such a length is all that is asked
 abbrev pub NoLength : Nodes → Table → List Literal → (ℕ → Type 0) → Type 0

@@ -11,7 +11,7 @@ use Rattle.cs_question.specs.declared.places.Place.{Place}
 use Rattle.cs_question.specs.declared.places.Further as further
 use Rattle.cs_question.specs.declared.places.Way.{Way}
 use Rattle.cs_question.specs.declared.places.Way.TheVariants.{Absent, Present, Optional, Behind}
-use Rattle.cs_question.specs.declared.choice.State.{State}
+use Rattle.cs_question.specs.declared.places.State.{State}
 use Rattle.cs_question.specs.declared.table.Table.{Table}
 use Rattle.cs_question.specs.Nodes.{Judgement}
 use Rattle.cs_question.specs.Asked.{meets, meets_all}

@@ -8,7 +8,7 @@ ghost use Rattle.cs_question.specs.Outlines.{NoScalar};
 ghost use Rattle.cs_question.specs.Truth.{NoDocument};
 ghost use Rattle.cs_question.specs.Cases.{IsCovered, Continues, Covers};
 
-use crate::fault::{Effort, MOST_STEPS, SearchFault};
+use crate::fault::{Effort, MOST_STEPS, Made, SearchFault, Searched};
 use crate::lists::list_of;
 use crate::maps::map_of;
 use crate::nodes::{Literal, Node, Nodes, add, are_same, part_of, without};
@@ -17,7 +17,6 @@ use crate::sides::{Sign, are_alike, sign_of};
 use crate::table::{Found, Table};
 use cs_document::Doc;
 use cs_flat::Item;
-use std::alloc::AllocError;
 use std::collections::{BTreeMap, BTreeSet};
 
 /// The places of the constants and ranges that aren't to be met.
@@ -28,7 +27,7 @@ pub(crate) struct Refused<'n> {
 
 impl<'n> Refused<'n> {
     /// Those among what is asked.
-    pub(crate) fn of(nodes: &Nodes<'n>, asked: &[Literal]) -> Result<Refused<'n>, AllocError> {
+    pub(crate) fn of(nodes: &Nodes<'n>, asked: &[Literal]) -> Made<Refused<'n>> {
         let mut places = BTreeMap::new(nodes.alloc);
         for (place, literal) in asked.iter().enumerate() {
             if !literal.holds {
@@ -40,49 +39,36 @@ impl<'n> Refused<'n> {
         Ok(Refused { places })
     }
 
-    /// Whether one of them is what is to be met: both are the same constant, or the same range.
-    pub(crate) fn has(&self, nodes: &Nodes<'n>, asked: &[Literal], literal: Literal) -> bool
-        ensures { IsTrue result → (J : Judgement) (x : Document) → IsMeaning nodes.now J → meets_all J x asked.now ≡ true → meets J x literal ≡ true → ⊥ }
+    /// That one of them which is what is to be met: both are the same constant, or the same range.
+    fn alike(&self, nodes: &Nodes<'n>, asked: &[Literal], literal: Literal) -> Option<Literal>
+        ensures { IfSome result (λ _. (J : Judgement) (x : Document) → IsMeaning nodes.now J → meets_all J x asked.now ≡ true
+            → meets J x literal ≡ true → ⊥) }
     {
-        let Some(node) = nodes.of(literal) else {
-            return false;
-        };
-        let Some(sign) = sign_of(node) else {
-            return false;
-        };
-        let Some(place) = self.places.get(&sign) else {
-            return false;
-        };
-        let Some(other) = asked.get(*place) else {
-            return false;
-        };
-        match nodes.of(*other) {
-            Some(rule) => other.holds != literal.holds && are_alike(node, rule),
-            None => false,
-        }
+        let node = nodes.of(literal)?;
+        let place = self.places.get(&sign_of(node)?)?;
+        let other = asked.get(*place)?;
+        let rule = nodes.of(*other)?;
+        (other.holds != literal.holds && are_alike(node, rule)).then_some(*other)
     }
 }
 
 /// A scalar that is all that is asked.
-fn scalar_of<'a>(nodes: &Nodes<'_>, asked: &[Literal]) -> Result<Option<Found<'a>>, AllocError>
+fn scalar_of(nodes: &Nodes<'_>, asked: &[Literal]) -> Made<Option<Doc>>
     ensures { IfOk result (λ o. IsNone o → NoScalar nodes.now asked.now) }
 {
     if may_meet_all(nodes, asked, &Item::Null) {
-        return Ok(Some(Found::Scalar(Doc::Null)));
+        return Ok(Some(Doc::Null));
     }
     if may_meet_all(nodes, asked, &Item::Bool(false)) {
-        return Ok(Some(Found::Scalar(Doc::Bool(false))));
+        return Ok(Some(Doc::Bool(false)));
     }
     if may_meet_all(nodes, asked, &Item::Bool(true)) {
-        return Ok(Some(Found::Scalar(Doc::Bool(true))));
+        return Ok(Some(Doc::Bool(true)));
     }
     if let Some(integer) = integer_of(nodes, asked)? {
-        return Ok(Some(Found::Scalar(Doc::Int(integer))));
+        return Ok(Some(Doc::Int(integer)));
     }
-    match text_of(nodes, asked)? {
-        Some(text) => Ok(Some(Found::Scalar(Doc::Text(text)))),
-        None => Ok(None),
-    }
+    Ok(text_of(nodes, asked)?.map(|text| Doc::Text(text)))
 }
 
 /// A document that is all that is asked, where no rule asks others of the same document.
@@ -91,16 +77,14 @@ fn document_of<'a>(
     table: &Table<'_>,
     asked: &[Literal],
     effort: &mut Effort,
-) -> Result<Option<Found<'a>>, SearchFault>
+) -> Searched<Option<Found<'a>>>
     ensures { IfOk result (λ o. IsNone o → NoDocument nodes.now table.now asked.now) }
 {
-    let scalar = scalar_of(nodes, asked)?;
-    if scalar.is_some() {
-        return Ok(scalar);
+    if let Some(doc) = scalar_of(nodes, asked)? {
+        return Ok(Some(Found::Scalar(doc)));
     }
-    let list = list_of(nodes, table, asked, effort)?;
-    if list.is_some() {
-        return Ok(list);
+    if let Some(list) = list_of(nodes, table, asked, effort)? {
+        return Ok(Some(list));
     }
     map_of(nodes, table, asked, effort)
 }
@@ -149,11 +133,7 @@ fn is_contrary(asked: &[Literal]) -> bool
 ///
 /// # Errors
 /// `TooManyCases` where another case has its place in the order, which none has.
-fn put(
-    nodes: &Nodes<'_>,
-    cases: &mut BTreeSet<Case>,
-    asked: Vec<Literal>,
-) -> Result<(), SearchFault>
+fn put(nodes: &Nodes<'_>, cases: &mut BTreeSet<Case>, asked: Vec<Literal>) -> Searched<()>
     ensures kept { OnOk result (Continues cases.old.keys cases.new.keys) }
     ensures there { OnOk result (Covers asked.items cases.new.keys) }
 {
@@ -176,7 +156,7 @@ fn put_all(
     mut asked: Vec<Literal>,
     literal: Literal,
     parts: &[usize],
-) -> Result<(), SearchFault>
+) -> Searched<()>
     ensures kept { OnOk result (Continues cases.old.keys cases.new.keys) }
     ensures there { OnOk result ((J : Judgement) (x : Document) → meets_all J x asked.items ≡ true
         → list_all (λ p. meets J x (record literal { rule = p })) parts.now ≡ true → IsCovered J x cases.new.keys) }
@@ -198,7 +178,7 @@ fn put_each<'n>(
     literal: Literal,
     parts: &[usize],
     effort: &mut Effort,
-) -> Result<(), SearchFault>
+) -> Searched<()>
     ensures kept { OnOk result (Continues cases.old.keys cases.new.keys) }
     ensures there { OnOk result ((J : Judgement) (x : Document) → IsMeaning nodes.now J → meets_all J x asked.now ≡ true
         → list_any (λ p. meets J x (record literal { rule = p })) parts.now ≡ true → IsCovered J x cases.new.keys) }
@@ -219,12 +199,12 @@ fn put_with<'n>(
     asked: &[Literal],
     literal: Literal,
     effort: &mut Effort,
-) -> Result<(), SearchFault>
+) -> Searched<()>
     ensures kept { OnOk result (Continues cases.old.keys cases.new.keys) }
     ensures there { OnOk result ((J : Judgement) (x : Document) → IsMeaning nodes.now J → meets_all J x asked.now ≡ true → meets J x literal ≡ true
         → IsCovered J x cases.new.keys) }
 {
-    if refused.has(nodes, asked, literal) {
+    if refused.alike(nodes, asked, literal).is_some() {
         return Ok(());
     }
     effort.take(cost_of_copying(asked.len()))?;
@@ -244,7 +224,7 @@ fn open(
     place: usize,
     literal: Literal,
     effort: &mut Effort,
-) -> Result<(), SearchFault>
+) -> Searched<()>
     requires { slice_get asked.now place ≡ Some literal }
     ensures kept { OnOk result (Continues cases.old.keys cases.new.keys) }
     ensures there { OnOk result ((J : Judgement) (x : Document) → IsMeaning nodes.now J → meets_all J x asked.now ≡ true → IsCovered J x cases.new.keys) }
@@ -303,7 +283,7 @@ pub(crate) fn found_for<'a>(
     table: &Table<'_>,
     asked: &[Literal],
     effort: &mut Effort,
-) -> Result<Option<Found<'a>>, SearchFault>
+) -> Searched<Option<Found<'a>>>
     ensures { IfOk result (λ o. IsNone o → NoDocument nodes.now table.now asked.now) }
 {
     let mut cases = BTreeSet::new(effort.alloc);
@@ -320,9 +300,8 @@ pub(crate) fn found_for<'a>(
             }
             None => {
                 effort.take(cost_of(nodes, &case.asked))?;
-                let found = document_of(nodes, table, &case.asked, effort)?;
-                if found.is_some() {
-                    return Ok(found);
+                if let Some(found) = document_of(nodes, table, &case.asked, effort)? {
+                    return Ok(Some(found));
                 }
             }
         }

@@ -35,6 +35,15 @@ impl fmt::Display for QuestionFault {
 
 impl Error for QuestionFault {}
 
+/// What a question answers, or why it doesn't.
+pub type Answered<T> = Result<T, QuestionFault>;
+
+/// What takes memory alone.
+pub(crate) type Made<T> = Result<T, AllocError>;
+
+/// What a search has, unless it ends without an answer.
+pub(crate) type Searched<T> = Result<T, SearchFault>;
+
 /// Why a search ends without an answer.
 #[derive(Drop)]
 pub(crate) enum SearchFault {
@@ -172,7 +181,7 @@ impl Effort {
     ///
     /// # Errors
     /// `TooManyCases` where the limit is met.
-    pub(crate) fn take(&mut self, count: usize) -> Result<(), SearchFault> {
+    pub(crate) fn take(&mut self, count: usize) -> Searched<()> {
         self.steps = self.steps.saturating_add(count);
         if self.steps > self.most {
             self.steps = self.most;

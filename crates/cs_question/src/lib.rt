@@ -2,7 +2,6 @@
 #![tactic(auto)]
 
 mod cases;
-mod choice;
 mod fault;
 mod lists;
 mod maps;
@@ -12,7 +11,6 @@ mod questions;
 mod scalars;
 mod sides;
 mod table;
-mod witness;
 
-pub use fault::{Budget, QuestionFault};
+pub use fault::{Answered, Budget, QuestionFault};
 pub use questions::{instance_of, separating, without_instance};

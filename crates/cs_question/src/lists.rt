@@ -4,19 +4,21 @@ ghost use Rattle.std.specs.List.{AllByRecursion};
 ghost use Rattle.cs_document.specs.Document.{Document, Documents, list, elements};
 ghost use Rattle.cs_instance.specs.Constraint.{elements_hold};
 ghost use Rattle.cs_question.specs.Asked.{meets, meets_all};
-ghost use Rattle.cs_question.specs.Elements.{element_at, fits, IsFrom, NoLength};
+ghost use Rattle.cs_question.specs.Elements.{element_at, fits, IsFrom, IsOfLength, NoLength};
 ghost use Rattle.cs_question.specs.Nodes.{Judgement, IsMeaning, end_of};
-ghost use Rattle.cs_question.specs.Spread.{HoldsPlace, HoldsPlaces, IsFurther, AreTaken, AddsWays, spread_list};
+ghost use Rattle.cs_question.specs.Spread.{HoldsPlaces, IsFurther, AreTaken, AddsWays, spread_list};
 ghost use Rattle.cs_question.specs.Truth.{NoList, IsInner};
 
-use crate::choice::choice;
-use crate::fault::{Effort, SearchFault};
+use crate::fault::{Effort, Made, Searched};
 use crate::nodes::{Literal, Node, NodeEnd, Nodes, add, part_of};
-use crate::places::{Further, Key, Place, Way};
+use crate::places::{Demands, Further, Key, Place, Way, choice};
 use crate::scalars::may_meet_all;
 use crate::table::{Found, Table};
 use cs_flat::Item;
-use std::alloc::{AllocError, Global};
+use std::alloc::Global;
+
+/// How many looks of a rule at a place are a step.
+const LOOKS_OF_STEP: usize = 16;
 
 /// What a list literal asks of a place: behind its front what it asks of each one there.
 fn element_in(front: &[usize], end: NodeEnd, place: usize) -> NodeEnd
@@ -54,16 +56,11 @@ fn some_ask_for_more(nodes: &Nodes<'_>, asked: &[Literal], count: usize) -> bool
     ensures { IsTrue result → (J : Judgement) (ds : Documents) → IsMeaning nodes.now J
         → meets_all J (list ds) asked.now ≡ true → count < length (elements ds) }
 {
-    for literal in asked {
-        if asks_for_more(nodes, *literal, count) {
-            return true;
-        }
-    }
-    false
+    asked.iter().any(|rule| asks_for_more(nodes, *rule, count))
 }
 
 /// Adds what is asked of an element.
-fn ask_element(further: &mut Further, literal: Literal, element: NodeEnd) -> Result<(), AllocError>
+fn ask_element(further: &mut Further, literal: Literal, element: NodeEnd) -> Made<()>
     requires { literal.holds ≡ true }
     ensures { OnOk result ((J : Judgement) (n : ℕ) (y : Document) → fits (λ z p. J literal.side p z) (end_of element) y ≡ true
         → IsFurther J n further.old y → IsFurther J n further.new y) }
@@ -85,30 +82,20 @@ fn ask_place(
     literal: Literal,
     place: usize,
     is_behind: bool,
-) -> Result<(), AllocError>
+) -> Made<()>
     ensures { OnOk result ((J : Judgement) (n i : ℕ) (ds : Documents) (y : Document) → IsMeaning nodes.now J
         → meets J (list ds) literal ≡ true → IsFrom place is_behind i → slice_get (elements ds) i ≡ Some y
         → IsFurther J n further.old y → IsFurther J n further.new y) }
 {
-    if !literal.holds {
-        return Ok(());
+    match nodes.of(literal) {
+        Some(Node::List { front, end }) if literal.holds && (!is_behind || front.len() <= place) =>
+            { ask_element(further, literal, element_in(front, *end, place)) }
+        _ => Ok(()),
     }
-    let Some(Node::List { front, end }) = nodes.of(literal) else {
-        return Ok(());
-    };
-    if is_behind && front.len() > place {
-        return Ok(());
-    }
-    ask_element(further, literal, element_in(front, *end, place))
 }
 
 /// What the rules that are met ask of the element at a place, or of each one from there on.
-fn asked_at(
-    nodes: &Nodes<'_>,
-    asked: &[Literal],
-    place: usize,
-    is_behind: bool,
-) -> Result<Further, AllocError>
+fn asked_at(nodes: &Nodes<'_>, asked: &[Literal], place: usize, is_behind: bool) -> Made<Further>
     ensures { IfOk result (λ f. (J : Judgement) (n i : ℕ) (ds : Documents) (y : Document) → IsMeaning nodes.now J
         → meets_all J (list ds) asked.now ≡ true → IsFrom place is_behind i → slice_get (elements ds) i ≡ Some y → IsInner n y → IsFurther J n f y) }
 {
@@ -122,32 +109,20 @@ fn asked_at(
     Ok(further)
 }
 
-fn place_of<'a>(nodes: &Nodes<'_>, asked: &[Literal], place: usize) -> Result<Place<'a>, AllocError>
-    ensures { IfOk result (λ p. (J : Judgement) (n : ℕ) (ds : Documents) (count : ℕ) → IsMeaning nodes.now J
-        → meets_all J (list ds) asked.now ≡ true → AllByRecursion (IsInner n) (elements ds) → place < count → count ≤ length (elements ds)
-        → HoldsPlace J n (spread_list count (elements ds)) p) }
-{
-    let Further { is_barred, asked } = asked_at(nodes, asked, place, false)?;
-    Ok(Place {
-        key: Key::Index(place),
-        is_needed: true,
-        is_barred,
-        asked,
-    })
-}
-
-fn places_of<'a>(
-    nodes: &Nodes<'_>,
-    asked: &[Literal],
-    count: usize,
-) -> Result<Vec<Place<'a>>, AllocError>
+fn places_of<'a>(nodes: &Nodes<'_>, asked: &[Literal], count: usize) -> Made<Vec<Place<'a>>>
     ensures { IfOk result (λ v. (J : Judgement) (n : ℕ) (ds : Documents) → IsMeaning nodes.now J
         → meets_all J (list ds) asked.now ≡ true → AllByRecursion (IsInner n) (elements ds)
         → count ≤ length (elements ds) → HoldsPlaces J n (spread_list count (elements ds)) v.items) }
 {
     let mut places = Vec::with_capacity(nodes.alloc, count)?;
     for place in 0..count {
-        places.push(place_of(nodes, asked, place)?)?;
+        let Further { is_barred, asked } = asked_at(nodes, asked, place, false)?;
+        places.push(Place {
+            key: Key::Index(place),
+            is_needed: true,
+            is_barred,
+            asked,
+        })?;
     }
     Ok(places)
 }
@@ -159,7 +134,7 @@ fn add_way<'a>(
     element: NodeEnd,
     place: usize,
     count: usize,
-) -> Result<(), AllocError>
+) -> Made<()>
     requires { literal.holds ≡ false }
     ensures kept { OnOk result (AddsWays ways.old.items ways.new.items) }
     ensures all { OnOk result ((J : Judgement) (ys : List Document) (i : ℕ) (y : Document)
@@ -186,7 +161,7 @@ fn list_ways<'a>(
     front: &[usize],
     end: NodeEnd,
     count: usize,
-) -> Result<Vec<Way<'a>>, AllocError>
+) -> Made<Vec<Way<'a>>>
     requires holds { literal.holds ≡ false }
     requires front { length front.now ≤ count }
     ensures { IfOk result (λ v. (J : Judgement) (ys : List Document) → count ≤ length ys
@@ -207,29 +182,21 @@ fn add_rule<'a>(
     nodes: &Nodes<'_>,
     literal: Literal,
     count: usize,
-) -> Result<(), AllocError>
+) -> Made<()>
     ensures { OnOk result ((J : Judgement) (ds : Documents) → IsMeaning nodes.now J → meets J (list ds) literal ≡ true → count ≤ length (elements ds)
         → AllByRecursion (λ w. AreTaken J (spread_list count (elements ds)) w.items) rules.old.items
         → AllByRecursion (λ w. AreTaken J (spread_list count (elements ds)) w.items) rules.new.items) }
 {
-    if literal.holds {
-        return Ok(());
+    match nodes.of(literal) {
+        Some(Node::List { front, end }) if !literal.holds && front.len() <= count => {
+            Ok(rules.push(list_ways(nodes.alloc, literal, front, *end, count)?)?)
+        }
+        _ => Ok(()),
     }
-    let Some(Node::List { front, end }) = nodes.of(literal) else {
-        return Ok(());
-    };
-    if front.len() > count {
-        return Ok(());
-    }
-    Ok(rules.push(list_ways(nodes.alloc, literal, front, *end, count)?)?)
 }
 
 /// The ways to fail of each rule that isn't met, but for those that ask for more elements.
-fn rules_of<'a>(
-    nodes: &Nodes<'_>,
-    asked: &[Literal],
-    count: usize,
-) -> Result<Vec<Vec<Way<'a>>>, AllocError>
+fn rules_of<'a>(nodes: &Nodes<'_>, asked: &[Literal], count: usize) -> Made<Vec<Vec<Way<'a>>>>
     ensures { IfOk result (λ v. (J : Judgement) (ds : Documents) → IsMeaning nodes.now J
         → meets_all J (list ds) asked.now ≡ true → count ≤ length (elements ds)
         → AllByRecursion (λ w. AreTaken J (spread_list count (elements ds)) w.items) v.items) }
@@ -241,81 +208,34 @@ fn rules_of<'a>(
     Ok(rules)
 }
 
-/// The steps for what so many rules ask of so many places.
-fn cost_of_places(asked: &[Literal], count: usize) -> usize {
-    const LOOKS: usize = 16;
-    asked.len().saturating_mul(count) / LOOKS
-}
-
-/// A list of that length that is all that is asked.
+/// A list of that length, or a longer one than that, as many as the longest front has, that is all that is asked.
 fn list_of_length<'a>(
     nodes: &Nodes<'a>,
     table: &Table<'_>,
     asked: &[Literal],
     count: usize,
+    is_longer: bool,
     effort: &mut Effort,
-) -> Result<Option<Found<'a>>, SearchFault>
-    ensures { IfOk result (λ o. IsNone o → NoLength nodes.now table.now asked.now (λ m. m ≡ count)) }
+) -> Searched<Option<Found<'a>>>
+    ensures { IfOk result (λ o. IsNone o → NoLength nodes.now table.now asked.now (IsOfLength is_longer count)) }
 {
-    if some_ask_for_more(nodes, asked, count) {
+    if !is_longer && some_ask_for_more(nodes, asked, count) {
         return Ok(None);
     }
-    effort.take(cost_of_places(asked, count))?;
-    let places = places_of(nodes, asked, count)?;
-    let further = Further {
-        is_barred: true,
-        asked: Vec::new(effort.alloc),
+    effort.take(asked.len().saturating_mul(count) / LOOKS_OF_STEP)?;
+    let mut demands = Demands {
+        places: places_of(nodes, asked, count)?,
+        further: asked_at(nodes, asked, count, true)?,
+        rules: rules_of(nodes, asked, count)?,
     };
-    let rules = rules_of(nodes, asked, count)?;
-    let chosen = choice(table, &places, &further, &rules, effort)?;
-    Ok(chosen.map(|chosen| Found::List(chosen.parts)))
-}
-
-/// A list that is longer than so many elements, as many as the longest front has, that is all that is asked.
-fn longer_list<'a>(
-    nodes: &Nodes<'a>,
-    table: &Table<'_>,
-    asked: &[Literal],
-    count: usize,
-    effort: &mut Effort,
-) -> Result<Option<Found<'a>>, SearchFault>
-    ensures { IfOk result (λ o. IsNone o → NoLength nodes.now table.now asked.now (λ m. count < m)) }
-{
-    effort.take(cost_of_places(asked, count))?;
-    let places = places_of(nodes, asked, count)?;
-    let further = asked_at(nodes, asked, count, true)?;
-    let mut rules = rules_of(nodes, asked, count)?;
-    rules.push(any_behind(effort.alloc)?)?;
-    let chosen = choice(table, &places, &further, &rules, effort)?;
-    Ok(chosen.map(|chosen| Found::List(chosen.parts)))
-}
-
-/// The way of a list that has an element behind all places.
-fn any_behind<'a>(alloc: Global) -> Result<Vec<Way<'a>>, AllocError>
-    ensures { IfOk result (λ v. (J : Judgement) (ys : List Document) (count : ℕ) → count < length ys → AreTaken J (spread_list count ys) v.items) }
-{
-    let mut ways = Vec::with_capacity(alloc, 1)?;
-    ways.push(Way::Behind(None))?;
-    Ok(ways)
-}
-
-/// A list of that length or a shorter one that is all that is asked.
-fn shorter_list<'a>(
-    nodes: &Nodes<'a>,
-    table: &Table<'_>,
-    asked: &[Literal],
-    count: usize,
-    effort: &mut Effort,
-) -> Result<Option<Found<'a>>, SearchFault>
-    ensures { IfOk result (λ o. IsNone o → NoLength nodes.now table.now asked.now (λ m. m ≤ count)) }
-{
-    for length in 0..count {
-        let found = list_of_length(nodes, table, asked, length, effort)?;
-        if found.is_some() {
-            return Ok(found);
-        }
+    if is_longer {
+        let ways = vec![in nodes.alloc; Way::Behind(None)]?;
+        demands.rules.push(ways)?;
+    } else {
+        demands.further.is_barred = true;
     }
-    list_of_length(nodes, table, asked, count, effort)
+    let chosen = choice(table, &demands, effort)?;
+    Ok(chosen.map(|chosen| Found::List(chosen.parts)))
 }
 
 /// A list that is all that is asked.
@@ -324,16 +244,20 @@ pub(crate) fn list_of<'a>(
     table: &Table<'_>,
     asked: &[Literal],
     effort: &mut Effort,
-) -> Result<Option<Found<'a>>, SearchFault>
+) -> Searched<Option<Found<'a>>>
     ensures { IfOk result (λ o. IsNone o → NoList nodes.now table.now asked.now) }
 {
     if !may_meet_all(nodes, asked, &Item::List(&[])) {
         return Ok(None);
     }
     let front = longest_front(nodes, asked);
-    let found = shorter_list(nodes, table, asked, front, effort)?;
-    if found.is_some() {
-        return Ok(found);
+    for length in 0..front {
+        if let Some(list) = list_of_length(nodes, table, asked, length, false, effort)? {
+            return Ok(Some(list));
+        }
     }
-    longer_list(nodes, table, asked, front, effort)
+    if let Some(list) = list_of_length(nodes, table, asked, front, false, effort)? {
+        return Ok(Some(list));
+    }
+    list_of_length(nodes, table, asked, front, true, effort)
 }

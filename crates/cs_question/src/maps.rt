@@ -11,15 +11,14 @@ ghost use Rattle.cs_question.specs.Spread.{KeepsPlaces, FailsBy, IsSuch, IsFurth
 ghost use Rattle.cs_question.specs.Asked.{meets, meets_all};
 ghost use Rattle.cs_question.specs.Truth.{NoMap};
 
-use crate::choice::choice;
-use crate::fault::{Effort, SearchFault};
+use crate::fault::{Effort, Made, Searched};
 use crate::nodes::{Literal, Node, Nodes, add, part_of};
-use crate::places::{Further, Key, Place, Way, take};
+use crate::places::{Demands, Further, Key, Place, Way, choice, take};
 use crate::scalars::may_meet_all;
 use crate::table::{Found, Table};
 use cs_flat::Item;
 use cs_instance::{Field, Fields, is_for_every_key, may_be_absent};
-use std::alloc::{AllocError, Global};
+use std::alloc::Global;
 
 /// Whether some declaration allows a key.
 fn is_allowed(fields: &Fields<'_>, key: &str) -> bool
@@ -67,11 +66,7 @@ fn are_all_among(labels: &[&str], fields: &[Field<'_>]) -> bool
 }
 
 /// Bars the places of the labels that no declaration allows.
-fn bar_others<'a>(
-    places: &mut Vec<Place<'a>>,
-    labels: &[&'a str],
-    fields: &Fields<'a>,
-) -> Result<(), AllocError>
+fn bar_others<'a>(places: &mut Vec<Place<'a>>, labels: &[&'a str], fields: &Fields<'a>) -> Made<()>
     ensures { OnOk result (KeepsPlaces places.old.items places.new.items (λ J ms.
         list_all (λ m. list_any (λ d. constraint.allows d m.0) (map field_of fields.now.all.items)) ms ≡ true)) }
 {
@@ -84,11 +79,7 @@ fn bar_others<'a>(
 }
 
 /// Asks the same of what is at each of the places of the labels.
-fn ask_each<'a>(
-    places: &mut Vec<Place<'a>>,
-    labels: &[&'a str],
-    value: Literal,
-) -> Result<(), AllocError>
+fn ask_each<'a>(places: &mut Vec<Place<'a>>, labels: &[&'a str], value: Literal) -> Made<()>
     ensures { OnOk result (KeepsPlaces places.old.items places.new.items (λ J ms. (k : List ℕ) → IfSome (under k ms) (IsSuch J (Some value)))) }
 {
     for label in labels {
@@ -103,7 +94,7 @@ fn ask_field<'a>(
     labels: &[&'a str],
     literal: Literal,
     field: &Field<'a>,
-) -> Result<(), AllocError>
+) -> Made<()>
     requires { literal.holds ≡ true }
     ensures { OnOk result (KeepsPlaces places.old.items places.new.items (λ J ms.
         constraint.declaration_holds (λ y p. J literal.side p y) (field_of field.now) ms ≡ true)) }
@@ -125,7 +116,7 @@ fn ask_fields<'a>(
     labels: &[&'a str],
     literal: Literal,
     fields: &[Field<'a>],
-) -> Result<(), AllocError>
+) -> Made<()>
     requires { literal.holds ≡ true }
     ensures { OnOk result (KeepsPlaces places.old.items places.new.items (λ J ms.
         list_all (λ d. constraint.declaration_holds (λ y p. J literal.side p y) d ms) (map field_of fields.now) ≡ true)) }
@@ -137,11 +128,7 @@ fn ask_fields<'a>(
 }
 
 /// Adds what declarations ask of the values under further keys.
-fn ask_further(
-    further: &mut Further,
-    literal: Literal,
-    fields: &[Field<'_>],
-) -> Result<(), AllocError>
+fn ask_further(further: &mut Further, literal: Literal, fields: &[Field<'_>]) -> Made<()>
     requires { literal.holds ≡ true }
     ensures barred { further.new.is_barred ≡ further.old.is_barred }
     ensures asked { OnOk result ((J : Judgement) (n : ℕ) (ms : List (Entry Document)) (m : Entry Document)
@@ -157,11 +144,7 @@ fn ask_further(
 }
 
 /// Adds the ways in which a map fails to have each value as `[string]` asks.
-fn every_ways<'a>(
-    labels: &[&'a str],
-    value: Literal,
-    ways: &mut Vec<Way<'a>>,
-) -> Result<(), AllocError>
+fn every_ways<'a>(labels: &[&'a str], value: Literal, ways: &mut Vec<Way<'a>>) -> Made<()>
     requires { value.holds ≡ false }
     ensures kept { OnOk result (AddsWays ways.old.items ways.new.items) }
     ensures all { OnOk result (FailsBy labels.now ways.new.items (λ J ms. list_all (λ m. J value.side value.rule m.1) ms ≡ false)) }
@@ -178,7 +161,7 @@ fn field_ways<'a>(
     literal: Literal,
     field: &Field<'a>,
     ways: &mut Vec<Way<'a>>,
-) -> Result<(), AllocError>
+) -> Made<()>
     requires { literal.holds ≡ false }
     ensures kept { OnOk result (AddsWays ways.old.items ways.new.items) }
     ensures all { OnOk result (FailsBy labels.now ways.new.items (λ J ms.
@@ -195,11 +178,7 @@ fn field_ways<'a>(
 }
 
 /// Adds the ways in which a map has a key that isn't allowed.
-fn extra_ways<'a>(
-    labels: &[&'a str],
-    fields: &Fields<'a>,
-    ways: &mut Vec<Way<'a>>,
-) -> Result<(), AllocError>
+fn extra_ways<'a>(labels: &[&'a str], fields: &Fields<'a>, ways: &mut Vec<Way<'a>>) -> Made<()>
     ensures kept { OnOk result (AddsWays ways.old.items ways.new.items) }
     ensures all { OnOk result (FailsBy labels.now ways.new.items (λ J ms.
         list_all (λ m. list_any (λ d. constraint.allows d m.0) (map field_of fields.now.all.items)) ms ≡ false)) }
@@ -216,7 +195,7 @@ fn extra_ways<'a>(
 }
 
 /// The labels that the rules declare, in order, each once.
-fn labels_of<'a>(nodes: &Nodes<'a>, asked: &[Literal]) -> Result<Vec<&'a str>, AllocError> {
+fn labels_of<'a>(nodes: &Nodes<'a>, asked: &[Literal]) -> Made<Vec<&'a str>> {
     let mut labels = Vec::new(nodes.alloc);
     for literal in asked {
         if let Some(Node::Struct { fields, .. }) = nodes.of(*literal) {
@@ -229,7 +208,7 @@ fn labels_of<'a>(nodes: &Nodes<'a>, asked: &[Literal]) -> Result<Vec<&'a str>, A
 }
 
 /// Places of which nothing is asked.
-fn empty_places<'a>(alloc: Global, labels: &[&'a str]) -> Result<Vec<Place<'a>>, AllocError>
+fn empty_places<'a>(alloc: Global, labels: &[&'a str]) -> Made<Vec<Place<'a>>>
     ensures { IfOk result (λ v. (J : Judgement) (n : ℕ) (ms : Members) → AreMembers ms → depth (object ms) ≤ n
         → HoldsPlaces J n (spread_map [] (entries ms)) v.items) }
 {
@@ -245,83 +224,6 @@ fn empty_places<'a>(alloc: Global, labels: &[&'a str]) -> Result<Vec<Place<'a>>,
     Ok(places)
 }
 
-/// Adds what one rule asks of the places of the labels.
-fn ask_places<'a>(
-    places: &mut Vec<Place<'a>>,
-    nodes: &Nodes<'a>,
-    labels: &[&'a str],
-    literal: Literal,
-) -> Result<(), AllocError>
-    ensures { OnOk result ((J : Judgement) (n : ℕ) (ms : Members) → IsMeaning nodes.now J
-        → meets J (object ms) literal ≡ true → HoldsPlaces J n (spread_map [] (entries ms)) places.old.items
-        → HoldsPlaces J n (spread_map [] (entries ms)) places.new.items) }
-{
-    if !literal.holds {
-        return Ok(());
-    }
-    let Some(Node::Struct { fields, opened }) = nodes.of(literal) else {
-        return Ok(());
-    };
-    if !opened {
-        bar_others(places, labels, fields)?;
-    }
-    ask_fields(places, labels, literal, &fields.all)
-}
-
-/// What the rules that are met ask of the places of the labels.
-fn places_of<'a>(
-    nodes: &Nodes<'a>,
-    asked: &[Literal],
-    labels: &[&'a str],
-) -> Result<Vec<Place<'a>>, AllocError>
-    ensures { IfOk result (λ v. (J : Judgement) (n : ℕ) (ms : Members) → IsMeaning nodes.now J
-        → AreMembers ms → depth (object ms) ≤ n → meets_all J (object ms) asked.now ≡ true → HoldsPlaces J n (spread_map labels.now (entries ms)) v.items) }
-{
-    let mut places = empty_places(nodes.alloc, labels)?;
-    for literal in asked {
-        ask_places(&mut places, nodes, labels, *literal)?;
-    }
-    Ok(places)
-}
-
-/// Adds what one rule asks of further keys.
-fn ask_rest(
-    further: &mut Further,
-    nodes: &Nodes<'_>,
-    labels: &[&str],
-    literal: Literal,
-) -> Result<(), AllocError>
-    ensures { OnOk result ((J : Judgement) (n : ℕ) (ms : Members) (m : Entry Document) → IsMeaning nodes.now J
-        → meets J (object ms) literal ≡ true → Contains (entries ms) m → is_among labels.now m.0 ≡ false
-        → IsFurther J n further.old m.1 → IsFurther J n further.new m.1) }
-{
-    if !literal.holds {
-        return Ok(());
-    }
-    let Some(Node::Struct { fields, opened }) = nodes.of(literal) else {
-        return Ok(());
-    };
-    if !opened && are_all_among(labels, &fields.all) {
-        further.is_barred = true;
-    }
-    ask_further(further, literal, &fields.all)
-}
-
-/// What the rules that are met ask of keys that are none of their labels.
-fn further_of(nodes: &Nodes<'_>, labels: &[&str], asked: &[Literal]) -> Result<Further, AllocError>
-    ensures { IfOk result (λ f. (J : Judgement) (n : ℕ) (ms : Members) → IsMeaning nodes.now J
-        → AreMembers ms → depth (object ms) ≤ n → meets_all J (object ms) asked.now ≡ true → HoldsFurther J n (spread_map labels.now (entries ms)) f) }
-{
-    let mut further = Further {
-        is_barred: false,
-        asked: Vec::new(nodes.alloc),
-    };
-    for literal in asked {
-        ask_rest(&mut further, nodes, labels, *literal)?;
-    }
-    Ok(further)
-}
-
 /// The ways in which a map fails to meet a struct literal.
 fn struct_ways<'a>(
     alloc: Global,
@@ -329,7 +231,7 @@ fn struct_ways<'a>(
     literal: Literal,
     fields: &Fields<'a>,
     opened: bool,
-) -> Result<Vec<Way<'a>>, AllocError>
+) -> Made<Vec<Way<'a>>>
     requires { literal.holds ≡ false }
     ensures { IfOk result (λ v. FailsBy labels.now v.items (λ J ms.
         fields_hold (λ y p. J literal.side p y) (map field_of fields.now.all.items) opened ms ≡ false)) }
@@ -344,40 +246,61 @@ fn struct_ways<'a>(
     Ok(ways)
 }
 
-/// Adds the ways to fail of one rule that isn't met.
-fn add_rule<'a>(
-    rules: &mut Vec<Vec<Way<'a>>>,
+/// Adds what one rule asks: of the places of the labels and of further keys, where it is met, or else a way to fail.
+fn ask_rule<'a>(
+    demands: &mut Demands<'a>,
     nodes: &Nodes<'a>,
     labels: &[&'a str],
     literal: Literal,
-) -> Result<(), AllocError>
-    ensures { OnOk result ((J : Judgement) (ms : Members) → IsMeaning nodes.now J → AreMembers ms → meets J (object ms) literal ≡ true
-        → AllByRecursion (λ w. AreTaken J (spread_map labels.now (entries ms)) w.items) rules.old.items
-        → AllByRecursion (λ w. AreTaken J (spread_map labels.now (entries ms)) w.items) rules.new.items) }
+) -> Made<()>
+    ensures places { OnOk result ((J : Judgement) (n : ℕ) (ms : Members) → IsMeaning nodes.now J
+        → meets J (object ms) literal ≡ true → HoldsPlaces J n (spread_map [] (entries ms)) demands.old.places.items
+        → HoldsPlaces J n (spread_map [] (entries ms)) demands.new.places.items) }
+    ensures further { OnOk result ((J : Judgement) (n : ℕ) (ms : Members) (m : Entry Document) → IsMeaning nodes.now J
+        → meets J (object ms) literal ≡ true → Contains (entries ms) m → is_among labels.now m.0 ≡ false
+        → IsFurther J n demands.old.further m.1 → IsFurther J n demands.new.further m.1) }
+    ensures rules { OnOk result ((J : Judgement) (ms : Members) → IsMeaning nodes.now J → AreMembers ms → meets J (object ms) literal ≡ true
+        → AllByRecursion (λ w. AreTaken J (spread_map labels.now (entries ms)) w.items) demands.old.rules.items
+        → AllByRecursion (λ w. AreTaken J (spread_map labels.now (entries ms)) w.items) demands.new.rules.items) }
 {
-    if literal.holds {
-        return Ok(());
-    }
     let Some(Node::Struct { fields, opened }) = nodes.of(literal) else {
         return Ok(());
     };
-    Ok(rules.push(struct_ways(nodes.alloc, labels, literal, fields, *opened)?)?)
+    if !literal.holds {
+        let ways = struct_ways(nodes.alloc, labels, literal, fields, *opened)?;
+        return Ok(demands.rules.push(ways)?);
+    }
+    if !opened {
+        bar_others(&mut demands.places, labels, fields)?;
+        if are_all_among(labels, &fields.all) {
+            demands.further.is_barred = true;
+        }
+    }
+    ask_fields(&mut demands.places, labels, literal, &fields.all)?;
+    ask_further(&mut demands.further, literal, &fields.all)
 }
 
-/// The ways to fail of each rule that isn't met.
-fn rules_of<'a>(
-    nodes: &Nodes<'a>,
-    asked: &[Literal],
-    labels: &[&'a str],
-) -> Result<Vec<Vec<Way<'a>>>, AllocError>
-    ensures { IfOk result (λ v. (J : Judgement) (ms : Members) → IsMeaning nodes.now J → AreMembers ms → meets_all J (object ms) asked.now ≡ true
-        → AllByRecursion (λ w. AreTaken J (spread_map labels.now (entries ms)) w.items) v.items) }
+/// What the rules ask of the places of the labels, and of further keys, and the ways to fail those that aren't to be met.
+fn demands_of<'a>(nodes: &Nodes<'a>, asked: &[Literal], labels: &[&'a str]) -> Made<Demands<'a>>
+    ensures places { IfOk result (λ d. (J : Judgement) (n : ℕ) (ms : Members) → IsMeaning nodes.now J → AreMembers ms
+        → depth (object ms) ≤ n → meets_all J (object ms) asked.now ≡ true → HoldsPlaces J n (spread_map labels.now (entries ms)) d.places.items) }
+    ensures further { IfOk result (λ d. (J : Judgement) (n : ℕ) (ms : Members) → IsMeaning nodes.now J → AreMembers ms
+        → depth (object ms) ≤ n → meets_all J (object ms) asked.now ≡ true → HoldsFurther J n (spread_map labels.now (entries ms)) d.further) }
+    ensures rules { IfOk result (λ d. (J : Judgement) (ms : Members) → IsMeaning nodes.now J → AreMembers ms → meets_all J (object ms) asked.now ≡ true
+        → AllByRecursion (λ w. AreTaken J (spread_map labels.now (entries ms)) w.items) d.rules.items) }
 {
-    let mut rules = Vec::new(nodes.alloc);
+    let mut demands = Demands {
+        places: empty_places(nodes.alloc, labels)?,
+        further: Further {
+            is_barred: false,
+            asked: Vec::new(nodes.alloc),
+        },
+        rules: Vec::new(nodes.alloc),
+    };
     for literal in asked {
-        add_rule(&mut rules, nodes, labels, *literal)?;
+        ask_rule(&mut demands, nodes, labels, *literal)?;
     }
-    Ok(rules)
+    Ok(demands)
 }
 
 /// A map that is all that is asked.
@@ -386,16 +309,14 @@ pub(crate) fn map_of<'a>(
     table: &Table<'_>,
     asked: &[Literal],
     effort: &mut Effort,
-) -> Result<Option<Found<'a>>, SearchFault>
+) -> Searched<Option<Found<'a>>>
     ensures { IfOk result (λ o. IsNone o → NoMap nodes.now table.now asked.now) }
 {
     if !may_meet_all(nodes, asked, &Item::Object(&[])) {
         return Ok(None);
     }
     let labels = labels_of(nodes, asked)?;
-    let places = places_of(nodes, asked, &labels)?;
-    let further = further_of(nodes, &labels, asked)?;
-    let rules = rules_of(nodes, asked, &labels)?;
-    let chosen = choice(table, &places, &further, &rules, effort)?;
+    let demands = demands_of(nodes, asked, &labels)?;
+    let chosen = choice(table, &demands, effort)?;
     Ok(chosen.map(|chosen| Found::Map { chosen, labels }))
 }

@@ -7,9 +7,10 @@ ghost use Rattle.cs_question.specs.Asked.{Entails};
 ghost use Rattle.cs_question.specs.declared.nodes.Literal.{Literal};
 ghost use Rattle.cs_question.specs.Nodes.{asked_of, end_of, nodes_on};
 
+use crate::fault::Made;
 use cs_instance::{Ending, Field, Fields, Rule};
 use cs_package::Shape;
-use std::alloc::{AllocError, Global};
+use std::alloc::Global;
 
 /// Whose rule it is: the package's whose documents are looked for, or the one's that is to refuse them.
 #[derive(Clone, Copy, PartialEq, Eq, PartialOrd, Ord)]
@@ -34,7 +35,7 @@ pub(crate) fn part_of(literal: Literal, rule: usize) -> Literal
 }
 
 /// A rule that is to be met.
-pub(crate) fn met(alloc: Global, rule: usize) -> Result<Vec<Literal>, AllocError>
+pub(crate) fn met(alloc: Global, rule: usize) -> Made<Vec<Literal>>
     ensures { IfOk result (λ v. (p : Literal → Bool) → p (record { side = Side.Admitting; rule = rule; holds = true }) ≡ true → list_all p v.items ≡ true) }
 {
     let mut asked = Vec::new(alloc);
@@ -48,7 +49,7 @@ pub(crate) fn met(alloc: Global, rule: usize) -> Result<Vec<Literal>, AllocError
 }
 
 /// Adds what is asked, where it isn't asked yet: in order, each once.
-pub(crate) fn add(asked: &mut Vec<Literal>, literal: Literal) -> Result<(), AllocError>
+pub(crate) fn add(asked: &mut Vec<Literal>, literal: Literal) -> Made<()>
     ensures { OnOk result ((p : Literal → Bool) → list_all p asked.old.items ≡ true → p literal ≡ true → list_all p asked.new.items ≡ true) }
 {
     match asked.binary_search(&literal) {
@@ -58,11 +59,7 @@ pub(crate) fn add(asked: &mut Vec<Literal>, literal: Literal) -> Result<(), Allo
 }
 
 /// The same with one more.
-pub(crate) fn with(
-    alloc: Global,
-    asked: &[Literal],
-    more: Option<Literal>,
-) -> Result<Vec<Literal>, AllocError>
+pub(crate) fn with(alloc: Global, asked: &[Literal], more: Option<Literal>) -> Made<Vec<Literal>>
     ensures { IfOk result (λ v. (p : Literal → Bool) → list_all p asked.now ≡ true → IfSome more (λ l. p l ≡ true) → list_all p v.items ≡ true) }
 {
     let mut all = Vec::from_slice(alloc, asked)?;
@@ -73,11 +70,7 @@ pub(crate) fn with(
 }
 
 /// The same without the one at a place.
-pub(crate) fn without(
-    alloc: Global,
-    asked: &[Literal],
-    place: usize,
-) -> Result<Vec<Literal>, AllocError>
+pub(crate) fn without(alloc: Global, asked: &[Literal], place: usize) -> Made<Vec<Literal>>
     ensures { IfOk result (λ v. Entails asked.now v.items) }
 {
     let mut rest = Vec::with_capacity(alloc, asked.len())?;
@@ -150,7 +143,7 @@ fn number_at(inner: &[usize], place: usize) -> usize
     inner.get(place).copied().unwrap_or(0)
 }
 
-fn numbers_at(alloc: Global, inner: &[usize], places: &[usize]) -> Result<Vec<usize>, AllocError>
+fn numbers_at(alloc: Global, inner: &[usize], places: &[usize]) -> Made<Vec<usize>>
     ensures { IfOk result (λ v. v.items ≡ map (slice_index inner.now) places.now) }
 {
     places
@@ -159,20 +152,13 @@ fn numbers_at(alloc: Global, inner: &[usize], places: &[usize]) -> Result<Vec<us
         .collect(alloc)
 }
 
-fn fields_at<'a>(
-    alloc: Global,
-    inner: &[usize],
-    fields: &[Field<'a>],
-) -> Result<Vec<Field<'a>>, AllocError>
+fn fields_at<'a>(alloc: Global, inner: &[usize], fields: &[Field<'a>]) -> Made<Vec<Field<'a>>>
     ensures { IfOk result (λ v. map steps.field_of v.items ≡ steps.numbered_fields inner.now fields.now) }
 {
     let mut all = Vec::with_capacity(alloc, fields.len())?;
     for field in fields {
-        all.push(Field {
-            label: field.label,
-            mark: field.mark,
-            value: number_at(inner, field.value),
-        })?;
+        let value = number_at(inner, field.value);
+        all.push(Field { value, ..*field })?;
     }
     Ok(all)
 }
@@ -187,7 +173,7 @@ fn end_at(inner: &[usize], end: &Ending) -> NodeEnd
     }
 }
 
-fn node_of<'a>(alloc: Global, inner: &[usize], rule: &Rule<'a>) -> Result<Node<'a>, AllocError>
+fn node_of<'a>(alloc: Global, inner: &[usize], rule: &Rule<'a>) -> Made<Node<'a>>
     ensures { IfOk result (λ n. asked_of n ≡ steps.numbered inner.now rule.now) }
 {
     Ok(match rule {
@@ -213,7 +199,7 @@ pub(crate) fn nodes_of<'a>(
     alloc: Global,
     rules: &[Rule<'a>],
     inner: &[usize],
-) -> Result<Vec<Node<'a>>, AllocError>
+) -> Made<Vec<Node<'a>>>
     ensures { IfOk result (λ v. map asked_of v.items ≡ map (steps.numbered inner.now) rules.now) }
 {
     let mut nodes = Vec::with_capacity(alloc, rules.len())?;

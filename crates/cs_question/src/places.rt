@@ -1,12 +1,14 @@
-// Places in a list or a map, what is asked of the value there, and what a way changes of that.
-ghost use Rattle.std.specs.Prelude.{◌≡◌, IfOk, IsTrue, ℕ, IsNone, OnOk};
-ghost use Rattle.cs_question.specs.Spread.{name_of, Spread, ByTable, HoldsPlace, HoldsPlaces, HoldsFurther, IsTaken, IsBehind};
+// Places in a list or a map, what is asked of the values there, and the search for ways in which a list or a map fails to meet rules.
+ghost use Rattle.std.specs.Prelude.{◌≡◌, ℕ, IfOk, IsNone, IsTrue, OnOk};
+ghost use Rattle.std.specs.List.{AllByRecursion};
 ghost use Rattle.cs_question.specs.Nodes.{Judgement};
+ghost use Rattle.cs_question.specs.Spread.{name_of, Spread, SomeOf, ByTable, HoldsPlace, HoldsPlaces, HoldsState, HoldsFurther, PutsState};
+ghost use Rattle.cs_question.specs.Spread.{AreTaken, IsTaken, IsBehind};
 
-use crate::fault::Effort;
+use crate::fault::{Effort, MOST_STEPS, Made, SearchFault, Searched};
 use crate::nodes::{Literal, add, with};
-use crate::table::Table;
-use std::alloc::{AllocError, Global};
+use crate::table::{Chosen, Table};
+use std::alloc::Global;
 
 /// A key of a map, or a place in a list.
 #[derive(Clone, Copy, PartialEq, Eq, PartialOrd, Ord)]
@@ -32,16 +34,12 @@ pub(crate) struct Place<'a> {
 }
 
 impl<'a> Place<'a> {
-    pub(crate) fn copy(&self, alloc: Global) -> Result<Place<'a>, AllocError>
+    pub(crate) fn copy(&self, alloc: Global) -> Made<Place<'a>>
         ensures { IfOk result (λ p. (p.key ≡ self.now.key) × (p.is_needed ≡ self.now.is_needed)
             × (p.is_barred ≡ self.now.is_barred) × (p.asked.items ≡ self.now.asked.items)) }
     {
-        Ok(Place {
-            key: self.key,
-            is_needed: self.is_needed,
-            is_barred: self.is_barred,
-            asked: Vec::from_slice(alloc, &self.asked)?,
-        })
+        let asked = Vec::from_slice(alloc, &self.asked)?;
+        Ok(Place { asked, ..*self })
     }
 }
 
@@ -62,12 +60,17 @@ pub(crate) enum Way<'a> {
     Behind(Option<Literal>),
 }
 
+/// What is asked of a list or a map: of the values at its places, and at none of them, and for each rule that it isn't to meet the
+/// ways to fail it, one of which is to be taken.
+#[derive(Drop)]
+pub(crate) struct Demands<'a> {
+    pub(crate) places: Vec<Place<'a>>,
+    pub(crate) further: Further,
+    pub(crate) rules: Vec<Vec<Way<'a>>>,
+}
+
 /// Whether nothing can be as a place asks.
-pub(crate) fn is_dead(
-    table: &Table<'_>,
-    place: &Place<'_>,
-    effort: &mut Effort,
-) -> Result<bool, AllocError>
+pub(crate) fn is_dead(table: &Table<'_>, place: &Place<'_>, effort: &mut Effort) -> Made<bool>
     ensures { IfOk result (λ b. IsTrue b → ByTable table.now (λ t s. HoldsPlace t.J t.n s place.now → ⊥)) }
 {
     if !place.is_needed {
@@ -80,7 +83,7 @@ pub(crate) fn is_dead(
 }
 
 /// Takes a way at a place, if it is about that.
-fn change(place: &mut Place<'_>, way: &Way<'_>) -> Result<(), AllocError>
+fn change(place: &mut Place<'_>, way: &Way<'_>) -> Made<()>
     ensures { OnOk result ((J : Judgement) (n : ℕ) (s : Spread) → HoldsPlace J n s place.old → IsTaken J s way.now → HoldsPlace J n s place.new) }
 {
     match way {
@@ -120,7 +123,7 @@ pub(crate) fn is_shut(
     places: &[Place<'_>],
     way: &Way<'_>,
     effort: &mut Effort,
-) -> Result<bool, AllocError>
+) -> Made<bool>
     ensures { IfOk result (λ b. IsTrue b → ByTable table.now (λ t s. HoldsPlaces t.J t.n s places.now → IsTaken t.J s way.now → ⊥)) }
 {
     let Some(number) = place_of(places, way) else {
@@ -135,7 +138,7 @@ pub(crate) fn is_shut(
 }
 
 /// Takes a way.
-pub(crate) fn take<'a>(places: &mut Vec<Place<'a>>, way: &Way<'a>) -> Result<(), AllocError>
+pub(crate) fn take<'a>(places: &mut Vec<Place<'a>>, way: &Way<'a>) -> Made<()>
     ensures { OnOk result ((J : Judgement) (n : ℕ) (s : Spread) → HoldsPlaces J n s places.old.items
         → IsTaken J s way.now → HoldsPlaces J n s places.new.items) }
 {
@@ -145,24 +148,228 @@ pub(crate) fn take<'a>(places: &mut Vec<Place<'a>>, way: &Way<'a>) -> Result<(),
     }
 }
 
-/// What is asked of a value at none of the places, where there may be one as the way asks.
-pub(crate) fn free(
+/// The ways that were chosen at the places, which rules have no way yet, and the values at none of the places.
+#[derive(Drop)]
+pub(crate) struct State<'a> {
+    chosen: Vec<Way<'a>>,
+    left: Vec<usize>,
+    further: Vec<Vec<Literal>>,
+}
+
+impl<'a> State<'a> {
+    /// The same with a way more.
+    fn with(&self, alloc: Global, way: Way<'a>) -> Made<State<'a>>
+        ensures { IfOk result (λ t. (J : Judgement) (s : Spread) → HoldsState J s self.now → IsTaken J s way.entry → HoldsState J s t) }
+    {
+        let mut state = State {
+            chosen: Vec::from_slice(alloc, &self.chosen)?,
+            left: self.left.clone()?,
+            further: self.further.clone()?,
+        };
+        state.chosen.push(way)?;
+        Ok(state)
+    }
+}
+
+/// Whether nothing can be as some place asks.
+fn has_dead(table: &Table<'_>, places: &[Place<'_>], effort: &mut Effort) -> Made<bool>
+    ensures { IfOk result (λ b. IsTrue b → ByTable table.now (λ t s. HoldsPlaces t.J t.n s places.now → ⊥)) }
+{
+    for place in places {
+        if is_dead(table, place, effort)? {
+            return Ok(true);
+        }
+    }
+    Ok(false)
+}
+
+/// Asks about every place, so that all of them are known the next time.
+fn ask_about(table: &Table<'_>, places: &[Place<'_>], effort: &mut Effort) -> Searched<()> {
+    effort.take(places.len())?;
+    for place in places {
+        let _is_dead = is_dead(table, place, effort)?;
+    }
+    Ok(())
+}
+
+/// What is asked of a value at none of the places by the first way by which there may be one.
+fn first_free(
     table: &Table<'_>,
     further: &Further,
-    way: &Way<'_>,
+    ways: &[Way<'_>],
     effort: &mut Effort,
-) -> Result<Option<Vec<Literal>>, AllocError>
-    ensures { IfOk result (λ o. IsNone o → ByTable table.now (λ t s. HoldsFurther t.J t.n s further.now → IsBehind way.now → IsTaken t.J s way.now → ⊥)) }
+) -> Made<Option<Vec<Literal>>>
+    ensures { IfOk result (λ o. IsNone o → ByTable table.now (λ t s. HoldsFurther t.J t.n s further.now
+        → SomeOf (λ way. IsBehind way × IsTaken t.J s way) ways.now → ⊥)) }
 {
-    let Way::Behind(more) = way else {
-        return Ok(None);
-    };
     if further.is_barred {
         return Ok(None);
     }
-    let asked = with(effort.alloc, &further.asked, *more)?;
-    if table.is_shut(&asked, effort)? {
+    for way in ways {
+        if let Way::Behind(more) = way {
+            let asked = with(effort.alloc, &further.asked, *more)?;
+            if !table.is_shut(&asked, effort)? {
+                return Ok(Some(asked));
+            }
+        }
+    }
+    Ok(None)
+}
+
+/// How many of the ways are open, counted no further than to a number.
+fn count_open(
+    table: &Table<'_>,
+    places: &[Place<'_>],
+    further: &Further,
+    ways: &[Way<'_>],
+    most: usize,
+    effort: &mut Effort,
+) -> Made<usize> {
+    if first_free(table, further, ways, effort)?.is_some() {
+        return Ok(1);
+    }
+    let mut count = 0;
+    for way in ways {
+        if count >= most {
+            break;
+        }
+        if !matches!(way, Way::Behind(_)) && !is_shut(table, places, way, effort)? {
+            count += 1;
+        }
+    }
+    Ok(count)
+}
+
+/// The number of that rule of those left which has the fewest open ways; past all rules where none is left.
+fn pick(
+    table: &Table<'_>,
+    places: &[Place<'_>],
+    left: &[usize],
+    demands: &Demands<'_>,
+    effort: &mut Effort,
+) -> Made<usize> {
+    let (mut best, mut least) = (usize::MAX, usize::MAX);
+    for rule in left {
+        let Some(ways) = demands.rules.get(*rule) else {
+            continue;
+        };
+        let count = count_open(table, places, &demands.further, ways, least, effort)?;
+        if count < least {
+            least = count;
+            best = *rule;
+        }
+        if count == 0 {
+            break;
+        }
+    }
+    Ok(best)
+}
+
+/// Puts the states that a rule's ways make of a state, which has left the places so.
+fn push_states<'a>(
+    table: &Table<'_>,
+    places: &[Place<'a>],
+    mut state: State<'a>,
+    demands: &Demands<'a>,
+    ways: &[Way<'a>],
+    states: &mut Vec<State<'a>>,
+    effort: &mut Effort,
+) -> Made<()>
+    ensures { OnOk result (ByTable table.now (λ t s. PutsState t.J s states.old.items states.new.items
+        (λ some. HoldsPlaces t.J t.n s places.now → HoldsState t.J s state.entry → HoldsFurther t.J t.n s demands.now.further
+        → AreTaken t.J s ways.now → some))) }
+{
+    if let Some(asked) = first_free(table, &demands.further, ways, effort)? {
+        state.further.push(asked)?;
+        return Ok(states.push(state)?);
+    }
+    for way in ways {
+        if !matches!(way, Way::Behind(_)) && !is_shut(table, places, way, effort)? {
+            states.push(state.with(effort.alloc, *way)?)?;
+        }
+    }
+    Ok(())
+}
+
+fn copy_places<'a>(alloc: Global, places: &[Place<'a>]) -> Made<Vec<Place<'a>>>
+    ensures { IfOk result (λ v. (J : Judgement) (n : ℕ) (s : Spread) → HoldsPlaces J n s places.now → HoldsPlaces J n s v.items) }
+{
+    let mut copies = Vec::with_capacity(alloc, places.len())?;
+    for place in places {
+        copies.push(place.copy(alloc)?)?;
+    }
+    Ok(copies)
+}
+
+/// The places where ways were taken.
+fn places_after<'a>(alloc: Global, places: &[Place<'a>], chosen: &[Way<'a>]) -> Made<Vec<Place<'a>>>
+    ensures { IfOk result (λ v. (J : Judgement) (n : ℕ) (s : Spread) → HoldsPlaces J n s places.now
+        → AllByRecursion (IsTaken J s) chosen.now → HoldsPlaces J n s v.items) }
+{
+    let mut all = copy_places(alloc, places)?;
+    for way in chosen {
+        take(&mut all, way)?;
+    }
+    Ok(all)
+}
+
+/// The steps for a state, beside the looks at questions: a copy of the places where ways were taken, and of these ways.
+fn cost_of(places: usize, chosen: usize) -> usize {
+    const COPIES: usize = 16;
+    (places.saturating_add(chosen) / COPIES).saturating_add(1)
+}
+
+/// A choice of one way for each rule, such that there can be values as all places ask.
+///
+/// # Errors
+/// `TooManyCases` where a limit is met.
+pub(crate) fn choice<'a>(
+    table: &Table<'_>,
+    demands: &Demands<'a>,
+    effort: &mut Effort,
+) -> Searched<Option<Chosen<'a>>>
+    ensures { IfOk result (λ o. IsNone o → ByTable table.now (λ t s. HoldsPlaces t.J t.n s demands.now.places.items
+        → HoldsFurther t.J t.n s demands.now.further → AllByRecursion (λ w. AreTaken t.J s w.items) demands.now.rules.items → ⊥)) }
+{
+    if effort.asks_all && !table.is_final {
+        ask_about(table, &demands.places, effort)?;
+    }
+    if has_dead(table, &demands.places, effort)? {
         return Ok(None);
     }
-    Ok(Some(asked))
+    let mut states = Vec::new(effort.alloc);
+    states.push(State {
+        chosen: Vec::new(effort.alloc),
+        left: (0..demands.rules.len()).collect(effort.alloc)?,
+        further: Vec::new(effort.alloc),
+    })?;
+    for _ in 0..MOST_STEPS {
+        let Some(mut state) = states.pop() else {
+            return Ok(None);
+        };
+        effort.take(cost_of(demands.places.len(), state.chosen.len()))?;
+        let changed = places_after(effort.alloc, &demands.places, &state.chosen)?;
+        let rule = pick(table, &changed, &state.left, demands, effort)?;
+        let Some(ways) = demands.rules.get(rule) else {
+            return Ok(Some(chosen_of(effort.alloc, state, changed)?));
+        };
+        state.left.retain(|left| *left != rule);
+        push_states(table, &changed, state, demands, ways, &mut states, effort)?;
+    }
+    Err(SearchFault::TooManyCases)
+}
+
+/// What a choice ends with, where its ways have left the places so.
+fn chosen_of<'a>(alloc: Global, state: State<'a>, places: Vec<Place<'a>>) -> Made<Chosen<'a>> {
+    let State { mut further, .. } = state;
+    let mut keys = Vec::new(alloc);
+    let mut parts = Vec::with_capacity(alloc, places.len())?;
+    for place in places {
+        if place.is_needed {
+            keys.push(place.key)?;
+            parts.push(place.asked)?;
+        }
+    }
+    parts.append(&mut further)?;
+    Ok(Chosen { keys, parts })
 }

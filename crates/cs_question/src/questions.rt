@@ -1,6 +1,6 @@
 // Whether there is a document that a definition admits and another one doesn't, and which definitions of a package have no instance.
 ghost use Rattle.std.specs.Prelude.{◌≡◌, ◌⊎◌, ℕ, [], ◌∷◌, List, Bool, true, false, IfOk, IfErr, IfSome, IsNone, OnOk, Some, IsErrOf, length, slice_get};
-ghost use Rattle.std.specs.Prelude.{slice_index, IsTrue};
+ghost use Rattle.std.specs.Prelude.{slice_index};
 ghost use Rattle.cs_document.specs.Document.{Document, IsDocument};
 ghost use Rattle.cs_document.specs.View.{doc_view};
 ghost use Rattle.cs_package.specs.Environment.{Names};
@@ -11,16 +11,15 @@ ghost use Rattle.cs_question.specs.ReadAgain.{IsReadAgain};
 ghost use Rattle.cs_question.specs.Truth.{IsMetByNoDocument, IsMetByNone};
 ghost use Rattle.cs_question.specs.NoInstance.{HasNoDocument};
 
-use crate::fault::{Budget, QuestionFault, SearchFault};
+use crate::fault::{Answered, Budget, Made, QuestionFault, SearchFault, Searched};
 use crate::nodes::{Literal, Nodes, Side, add, met};
 use crate::sides::side_of;
-use crate::table::{Table, explored, explored_all};
-use crate::witness::witness_of;
+use crate::table::{Table, explored, explored_all, witness_of};
 use cs_document::Doc;
 use cs_guard::Guarded;
-use cs_instance::{NumberedPackage, NumberedRoot, is_instance, numbered_package, numbered_root};
+use cs_instance::{NumberedPackage, is_instance, numbered_package, numbered_root};
 use cs_json::{is_read_as, write_doc};
-use std::alloc::{AllocError, Global};
+use std::alloc::Global;
 
 /// How many pairs of a rule and a value are a step, where the rules judge a document.
 const PAIRS_OF_STEP: usize = 128;
@@ -63,7 +62,7 @@ pub fn separating(
         holds: false,
     };
     add(&mut asked, unmet)?;
-    let Some(doc) = document_for(alloc, &nodes, &asked, budget)? else {
+    let Some(doc) = document_for(&nodes, &asked, budget)? else {
         return Ok(None);
     };
     judged(alloc, admitting, admitting_root, &doc, true)?;
@@ -72,23 +71,20 @@ pub fn separating(
 }
 
 /// A document that a search finds to be all that is asked, and that its text is read as; none where no document is.
-fn document_for(
-    alloc: Global,
-    nodes: &Nodes<'_>,
-    asked: &[Literal],
-    budget: &mut Budget,
-) -> Result<Option<Doc>, SearchFault>
+fn document_for(nodes: &Nodes<'_>, asked: &[Literal], budget: &mut Budget) -> Searched<Option<Doc>>
     ensures none { IfOk result (λ o. IsNone o → IsMetByNoDocument nodes.now asked.now) }
     ensures read { IfOk result (λ o. IfSome o (λ d. IsReadAgain (doc_view d))) }
 {
     budget.spend(nodes.count());
-    let table = explored(alloc, nodes, asked, budget)?;
+    let table = explored(nodes, asked, budget)?;
     if table.is_shut_at(0, asked) {
         return Ok(None);
     }
-    let (doc, values) = witness_of(alloc, &table)?;
+    let (doc, values) = witness_of(nodes.alloc, &table)?;
     budget.spend(nodes.count().saturating_mul(values) / PAIRS_OF_STEP);
-    if is_read_again(alloc, &doc)? {
+    let text = write_doc(nodes.alloc, &doc)?;
+    // That is so where it nests no deeper than documents are read.
+    if is_read_as(nodes.alloc, &text, &doc)? {
         Ok(Some(doc))
     } else {
         Err(SearchFault::TooManyCases)
@@ -99,13 +95,7 @@ fn document_for(
 ///
 /// # Errors
 /// `TooManyCases` where it isn't, which is never so.
-fn judged(
-    alloc: Global,
-    package: &Guarded,
-    root: &str,
-    doc: &Doc,
-    wanted: bool,
-) -> Result<(), QuestionFault>
+fn judged(alloc: Global, package: &Guarded, root: &str, doc: &Doc, wanted: bool) -> Answered<()>
     ensures judged { OnOk result ((I : Rule → Document → Bool) (n : List ℕ) → IsInstance «package».now I → Names «package».now root.now n
         → I (definition n) (doc_view doc.now) ≡ wanted) }
     ensures refused { IfErr result (λ e. IsRefusal e «package».now root.now) }
@@ -136,18 +126,14 @@ pub fn instance_of(
     ensures declared { OnOk result ((n : List ℕ) × Names «package».now root.now n) }
     ensures refused { IfErr result (λ e. IsRefusal e «package».now root.now) }
 {
-    let NumberedRoot {
-        numbering,
-        number,
-        ..
-    } = numbered_root(alloc, package, root)?;
+    let rooted = numbered_root(alloc, package, root)?;
     let nodes = Nodes {
         alloc,
-        admitting: side_of(alloc, &numbering.rules, &numbering.children)?,
+        admitting: side_of(alloc, &rooted.numbering.rules, &rooted.numbering.children)?,
         refusing: Vec::new(alloc),
     };
-    let asked = met(alloc, number)?;
-    let Some(doc) = document_for(alloc, &nodes, &asked, budget)? else {
+    let asked = met(alloc, rooted.number)?;
+    let Some(doc) = document_for(&nodes, &asked, budget)? else {
         return Ok(None);
     };
     judged(alloc, package, root, &doc, true)?;
@@ -155,7 +141,7 @@ pub fn instance_of(
 }
 
 /// For each rule whether no document meets it, where the table began with the questions for these rules.
-fn unmet(alloc: Global, table: &Table<'_>, rules: &[usize]) -> Result<Vec<bool>, AllocError>
+fn unmet(alloc: Global, table: &Table<'_>, rules: &[usize]) -> Made<Vec<bool>>
     ensures long { IfOk result (λ v. length v.items ≡ length rules.now) }
     ensures none { IfOk result (λ v. (i : ℕ) → slice_get v.items i ≡ Some true → IsMetByNone table.now.entries.items (slice_index rules.now i)) }
 {
@@ -183,18 +169,7 @@ pub fn without_instance(alloc: Global, package: &Guarded) -> Result<Vec<bool>, Q
         admitting: side_of(alloc, &numbering.rules, &numbering.children)?,
         refusing: Vec::new(alloc),
     };
-    let table = explored_all(alloc, &nodes, &numbers)?;
+    let table = explored_all(&nodes, &numbers)?;
     let all = unmet(alloc, &table, &numbers)?;
     Ok(all)
-}
-
-/// Whether a document is what its text is read as: always, where it nests no deeper than documents are read.
-///
-/// # Errors
-/// `OutOfMemory`.
-fn is_read_again(alloc: Global, doc: &Doc) -> Result<bool, SearchFault>
-    ensures { IfOk result (λ b. IsTrue b → IsReadAgain (doc_view doc.now)) }
-{
-    let text = write_doc(alloc, doc)?;
-    Ok(is_read_as(alloc, &text, doc)?)
 }

@@ -11,11 +11,12 @@ ghost use Rattle.cs_question.specs.Nodes.{asked_of};
 ghost use Rattle.cs_question.specs.Outlines.{verdict_of, may, may_all, AreMarked, IsToldBy, HasMore, IsNoneBeside, IsOneMarked, AreMarkedTexts, IsToldByText};
 ghost use Rattle.cs_question.specs.Outlines.{IsOneMarkedText, HasMoreTexts};
 
+use crate::fault::Made;
 use crate::nodes::{Literal, Node, Nodes};
 use cs_flat::Item;
 use cs_instance::holds_simply;
 use cs_package::{Comparison, Shape};
-use std::alloc::{AllocError, Global};
+use std::alloc::Global;
 
 /// Whether a document of that outline meets a rule, where that is seen.
 fn verdict(node: &Node<'_>, item: &Item<'_>) -> Option<bool>
@@ -53,7 +54,7 @@ pub(crate) fn may_meet_all(nodes: &Nodes<'_>, asked: &[Literal], item: &Item<'_>
     asked.iter().all(|literal| may_meet(nodes, *literal, item))
 }
 
-fn mark_range(marks: &mut Vec<i64>, least: i64, greatest: Option<i64>) -> Result<(), AllocError>
+fn mark_range(marks: &mut Vec<i64>, least: i64, greatest: Option<i64>) -> Made<()>
     ensures told { OnOk result (IsToldBy (test_of (range least greatest)) marks.new.items) }
     ensures more { OnOk result (HasMore marks.old.items marks.new.items) }
 {
@@ -65,7 +66,7 @@ fn mark_range(marks: &mut Vec<i64>, least: i64, greatest: Option<i64>) -> Result
 }
 
 /// Marks what an expression that looks at no part compares integers with.
-fn mark_shape(marks: &mut Vec<i64>, shape: &Shape) -> Result<(), AllocError>
+fn mark_shape(marks: &mut Vec<i64>, shape: &Shape) -> Made<()>
     ensures told { OnOk result (IsToldBy (test_of (expression_of [] shape.now)) marks.new.items) }
     ensures more { OnOk result (HasMore marks.old.items marks.new.items) }
 {
@@ -76,7 +77,7 @@ fn mark_shape(marks: &mut Vec<i64>, shape: &Shape) -> Result<(), AllocError>
     }
 }
 
-fn mark(marks: &mut Vec<i64>, nodes: &Nodes<'_>, literal: Literal) -> Result<(), AllocError>
+fn mark(marks: &mut Vec<i64>, nodes: &Nodes<'_>, literal: Literal) -> Made<()>
     ensures told { OnOk result (IsOneMarked nodes.now literal marks.new.items) }
     ensures more { OnOk result (HasMore marks.old.items marks.new.items) }
 {
@@ -88,7 +89,7 @@ fn mark(marks: &mut Vec<i64>, nodes: &Nodes<'_>, literal: Literal) -> Result<(),
 }
 
 /// The integers that rules compare with.
-fn marks_of(nodes: &Nodes<'_>, asked: &[Literal]) -> Result<Vec<i64>, AllocError>
+fn marks_of(nodes: &Nodes<'_>, asked: &[Literal]) -> Made<Vec<i64>>
     ensures { IfOk result (λ v. AreMarked nodes.now asked.now v.items) }
 {
     let mut marks = Vec::new(nodes.alloc);
@@ -122,7 +123,7 @@ fn beside(nodes: &Nodes<'_>, asked: &[Literal], mark: i64) -> Option<i64>
 }
 
 /// An integer that is all that is asked: between two neighbouring marks all are alike.
-pub(crate) fn integer_of(nodes: &Nodes<'_>, asked: &[Literal]) -> Result<Option<i64>, AllocError>
+pub(crate) fn integer_of(nodes: &Nodes<'_>, asked: &[Literal]) -> Made<Option<i64>>
     ensures { IfOk result (λ o. IsNone o → (z : ℤ) → FitsSigned w64 z → may_all nodes.now (an_integer z) asked.now ≡ false) }
 {
     if may_be(nodes, asked, 0) {
@@ -149,11 +150,7 @@ fn mark_of<'a>(shape: &'a Shape) -> Option<&'a str>
 }
 
 /// Marks the text that a rule compares with.
-fn mark_text<'a>(
-    marks: &mut Vec<&'a str>,
-    nodes: &Nodes<'a>,
-    literal: Literal,
-) -> Result<(), AllocError>
+fn mark_text<'a>(marks: &mut Vec<&'a str>, nodes: &Nodes<'a>, literal: Literal) -> Made<()>
     ensures told { OnOk result (IsOneMarkedText nodes.now literal marks.new.items) }
     ensures more { OnOk result (HasMoreTexts marks.old.items marks.new.items) }
 {
@@ -167,7 +164,7 @@ fn mark_text<'a>(
 }
 
 /// The texts that rules compare with.
-fn texts_of<'a>(nodes: &Nodes<'a>, asked: &[Literal]) -> Result<Vec<&'a str>, AllocError>
+fn texts_of<'a>(nodes: &Nodes<'a>, asked: &[Literal]) -> Made<Vec<&'a str>>
     ensures { IfOk result (λ v. AreMarkedTexts nodes.now asked.now v.items) }
 {
     let mut marks = Vec::new(nodes.alloc);
@@ -180,17 +177,11 @@ fn texts_of<'a>(nodes: &Nodes<'a>, asked: &[Literal]) -> Result<Vec<&'a str>, Al
 fn longest(marks: &[&str]) -> usize
     ensures { All (λ m. length m.now ≤ result) marks.now }
 {
-    let mut most = 0;
-    for mark in marks {
-        if mark.len() > most {
-            most = mark.len();
-        }
-    }
-    most
+    marks.iter().map(|mark| mark.len()).max().unwrap_or(0)
 }
 
 /// A text that is none of these, since it is longer.
-pub(crate) fn other_text(alloc: Global, marks: &[&str]) -> Result<String, AllocError>
+pub(crate) fn other_text(alloc: Global, marks: &[&str]) -> Made<String>
     ensures { IfOk result (λ t. All (λ m. length m.now < length (string_bytes t)) marks.now) }
 {
     let most = longest(marks);
@@ -202,7 +193,7 @@ pub(crate) fn other_text(alloc: Global, marks: &[&str]) -> Result<String, AllocE
 }
 
 /// A text that is all that is asked: one that rules compare with, or one that is none of these.
-pub(crate) fn text_of(nodes: &Nodes<'_>, asked: &[Literal]) -> Result<Option<String>, AllocError>
+pub(crate) fn text_of(nodes: &Nodes<'_>, asked: &[Literal]) -> Made<Option<String>>
     ensures { IfOk result (λ o. IsNone o → (t : List ℕ) → may_all nodes.now (a_text t) asked.now ≡ false) }
 {
     let marks = texts_of(nodes, asked)?;

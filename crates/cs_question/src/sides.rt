@@ -10,10 +10,11 @@ ghost use Rattle.cs_document.specs.Opened.{opened};
 ghost use Rattle.cs_question.specs.Nodes.{asked_of, AreAlike, IsSide, Says};
 ghost use Rattle.cs_question.specs.Between.{at_least_or_any, is_between, IsRange, AreBetween};
 
+use crate::fault::Made;
 use crate::nodes::{Node, NodeEnd, nodes_of};
 use cs_instance::{Field, Rule};
 use cs_package::{FieldMark, Kind, Literal, Relation, Shape, Simple};
-use std::alloc::{AllocError, Global};
+use std::alloc::Global;
 use std::collections::BTreeMap;
 
 /// What a constant or a range is found by.
@@ -74,7 +75,7 @@ pub(crate) enum Part<'a> {
 }
 
 /// What a rule is found by: nothing, where it asks others of the same document.
-fn form_of<'a>(alloc: Global, node: &Node<'a>) -> Result<Vec<Part<'a>>, AllocError> {
+fn form_of<'a>(alloc: Global, node: &Node<'a>) -> Made<Vec<Part<'a>>> {
     let mut form = Vec::new(alloc);
     if let Some(sign) = sign_of(node) {
         form.push(Part::Value(sign))?;
@@ -163,8 +164,7 @@ fn greater(first: Option<i64>, second: Option<i64>) -> Option<i64>
 {
     match (first, second) {
         (Some(a), Some(b)) => Some(a.max(b)),
-        (Some(limit), None) | (None, Some(limit)) => Some(limit),
-        (None, None) => None,
+        (limit, None) | (None, limit) => limit,
     }
 }
 
@@ -173,8 +173,7 @@ fn lesser(first: Option<i64>, second: Option<i64>) -> Option<i64>
 {
     match (first, second) {
         (Some(a), Some(b)) => Some(a.min(b)),
-        (Some(limit), None) | (None, Some(limit)) => Some(limit),
-        (None, None) => None,
+        (limit, None) | (None, limit) => limit,
     }
 }
 
@@ -294,7 +293,7 @@ fn first_of<'a>(
     nodes: &[Node<'a>],
     firsts: &mut BTreeMap<Vec<Part<'a>>, usize>,
     rule: usize,
-) -> Result<usize, AllocError>
+) -> Made<usize>
     ensures { IfOk result (λ r. (J : ℕ → Document → Bool) → IsSide (map asked_of nodes.now) J → (x : Document) → J r x ≡ J rule x) }
 {
     let Some(node) = nodes.get(rule) else {
@@ -311,7 +310,7 @@ fn first_of<'a>(
 }
 
 /// The rules of parts by their numbers, where those that are the same have one number.
-fn shared(alloc: Global, nodes: &[Node<'_>], inner: &[usize]) -> Result<Vec<usize>, AllocError>
+fn shared(alloc: Global, nodes: &[Node<'_>], inner: &[usize]) -> Made<Vec<usize>>
     ensures { IfOk result (λ v. (J : ℕ → Document → Bool) → IsSide (map asked_of nodes.now) J
         → (i : ℕ) (x : Document) → J (slice_index v.items i) x ≡ J (slice_index inner.now i) x) }
 {
@@ -324,11 +323,7 @@ fn shared(alloc: Global, nodes: &[Node<'_>], inner: &[usize]) -> Result<Vec<usiz
 }
 
 /// What the rules ask, where the parts that they ask of documents inside have these numbers: a conjunction of ranges is one range.
-fn folded<'a>(
-    alloc: Global,
-    rules: &[Rule<'a>],
-    inner: &[usize],
-) -> Result<Vec<Node<'a>>, AllocError>
+fn folded<'a>(alloc: Global, rules: &[Rule<'a>], inner: &[usize]) -> Made<Vec<Node<'a>>>
     ensures { IfOk result (λ v. Says (map (numbered inner.now) rules.now) (map asked_of v.items)) }
 {
     let mut nodes = nodes_of(alloc, rules, inner)?;
@@ -337,11 +332,7 @@ fn folded<'a>(
 }
 
 /// What the rules of one side ask, where the parts that they ask of documents inside have these numbers.
-pub(crate) fn side_of<'a>(
-    alloc: Global,
-    rules: &[Rule<'a>],
-    inner: &[usize],
-) -> Result<Vec<Node<'a>>, AllocError>
+pub(crate) fn side_of<'a>(alloc: Global, rules: &[Rule<'a>], inner: &[usize]) -> Made<Vec<Node<'a>>>
     ensures { IfOk result (λ v. Says (map (numbered inner.now) rules.now) (map asked_of v.items)) }
 {
     let mut numbers = Vec::from_slice(alloc, inner)?;

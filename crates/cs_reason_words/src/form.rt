@@ -3,11 +3,11 @@ ghost use Rattle.std.specs.Prelude.{◌≡◌, ◌++◌, true, false, IfOk, OnOk
 ghost use Rattle.cs_reason_words.specs.Formats.{asks_standard, asks_reasons, is_standard, has_reasons};
 ghost use Rattle.cs_reason_words.specs.Valid.{flag_text, valid_text, invalid_object, report_text, HasLines, EndsInLine};
 
-use crate::entry::{Entry, SourcePlace, Told};
+use crate::entry::{Entry, Told};
 use crate::wording::put_between;
 use cs_place::{Named, put_place, put_quoted, put_shown};
-use cs_text::{Written, put_all, put_count, put_number, put_string};
-use std::alloc::{AllocError, Global};
+use cs_text::{Made, Written, put_all, put_count, put_number, put_string};
+use std::alloc::Global;
 
 /// How reasons are written.
 #[derive(Clone, Copy)]
@@ -92,18 +92,8 @@ const VALID: &str = "{\"valid\":true}\n";
 
 const INVALID: &str = "{\"valid\":false}\n";
 
-/// What is told of a document that is valid: nothing for people, and else the object that says so.
-fn valid_words(form: Form) -> &'static str
-    ensures { result.now ≡ valid_text form }
-{
-    match form {
-        Form::Lines => "",
-        Form::Object(_) => VALID,
-    }
-}
-
 /// The object that says first that a document is invalid, with further members, each behind a comma.
-fn invalid_words(alloc: Global, members: &str) -> Result<String, AllocError>
+fn invalid_words(alloc: Global, members: &str) -> Made<String>
     ensures { IfOk result (λ s. string_bytes s ≡ invalid_object members.now) }
 {
     let mut object = String::new(alloc);
@@ -142,26 +132,16 @@ pub fn report_verdict(
         ≡ output.old.items ++ report_text form valid reasons.now) }
     ensures kept { OnErr result (output.new.items ≡ output.old.items) }
 {
-    if valid {
-        return output.extend_from_slice(valid_words(form).as_bytes());
-    }
     match form {
+        Form::Lines if valid => Ok(()),
         Form::Lines => output.extend_from_slice(reasons.as_bytes()),
+        Form::Object(_) if valid => output.extend_from_slice(VALID.as_bytes()),
         Form::Object(format) if format.has_reasons() => {
             let object = invalid_words(alloc, reasons)?;
             output.extend_from_slice(object.as_bytes())
         }
         Form::Object(_) => output.extend_from_slice(INVALID.as_bytes()),
     }
-}
-
-/// Puts the member with the place of an embedding.
-fn put_embedded(text: &mut String, place: SourcePlace<'_>) -> Written {
-    text.push_str(",\"embedded\":{\"file\":")?;
-    put_quoted(text, place.file)?;
-    put_count(text, "line", place.position.line)?;
-    put_count(text, "column", place.position.column)?;
-    text.push('}')
 }
 
 /// Puts the object of an entry.
@@ -175,21 +155,27 @@ fn put_object(text: &mut String, entry: &Entry<'_>) -> Written {
     put_string(text, "reason", finding.reason)?;
     put_string(text, "error", finding.text.as_str())?;
     if finding.definition.is_empty() {
-        put_string(text, "schemaPath", way.rule.as_str())?;
+        put_string(text, "schemaPath", way.path.as_str())?;
     } else {
         put_string(text, "definition", finding.definition)?;
-        put_string(text, "path", entry.path())?;
+        let path = way.path.as_str();
+        let path = path.strip_prefix(finding.definition).unwrap_or(path);
+        put_string(text, "path", path.strip_prefix('.').unwrap_or(path))?;
     }
     if !way.alternative.is_empty() {
         put_string(text, "alternative", way.alternative.as_str())?;
     }
-    if let Some(place) = &finding.source {
+    if let Some(place) = finding.source {
         put_string(text, "file", place.file)?;
-        put_count(text, "sourceLine", place.position.line)?;
-        put_count(text, "sourceColumn", place.position.column)?;
+        put_count(text, "sourceLine", place.line)?;
+        put_count(text, "sourceColumn", place.column)?;
     }
     if let Some(place) = finding.embedded {
-        put_embedded(text, place)?;
+        text.push_str(",\"embedded\":{\"file\":")?;
+        put_quoted(text, place.file)?;
+        put_count(text, "line", place.line)?;
+        put_count(text, "column", place.column)?;
+        text.push('}')?;
     }
     text.push('}')
 }
@@ -205,34 +191,21 @@ pub(crate) fn put_members(text: &mut String, entries: &[Entry<'_>], more: usize)
     put_count(text, "more", more)
 }
 
-/// Puts a place in a source.
-fn put_source(text: &mut String, place: SourcePlace<'_>) -> Written {
-    put_place(text, place.file, place.position.line, place.position.column)
-}
-
 /// Puts what says no: its place in the source, its path, where it is embedded, and the alternative.
 fn put_rule(text: &mut String, entry: &Entry<'_>) -> Written {
     if let Some(place) = entry.finding.source {
-        put_source(text, place)?;
+        put_place(text, place.file, place.line, place.column)?;
         text.push(' ')?;
     }
-    put_shown(text, entry.way.rule.as_str())?;
+    put_shown(text, entry.way.path.as_str())?;
     if let Some(place) = entry.finding.embedded {
         text.push_str(", embedded at ")?;
-        put_source(text, place)?;
+        put_place(text, place.file, place.line, place.column)?;
     }
     if entry.way.alternative.is_empty() {
         return Ok(());
     }
     put_all(text, &[", ", entry.way.alternative.as_str()])
-}
-
-/// Ends the line of an entry.
-fn end_entry(text: &mut String) -> Written
-    ensures { OnOk result (EndsInLine (string_bytes text.new)) }
-{
-    text.push_str("]\n")?;
-    Ok(())
 }
 
 /// Puts the line of an entry, with what says no in brackets.
@@ -244,18 +217,12 @@ fn put_entry(text: &mut String, name: &str, entry: &Entry<'_>) -> Written
     }
     put_place(text, name, entry.position.line, entry.position.column)?;
     text.push_str(": ")?;
-    let pointer = entry.way.pointer.as_str();
-    put_shown(
-        text,
-        if pointer.is_empty() {
-            "(root)"
-        } else {
-            pointer
-        },
-    )?;
+    let at = entry.way.pointer.as_str();
+    put_shown(text, if at.is_empty() { "(root)" } else { at })?;
     put_all(text, &[": ", entry.finding.text.as_str(), " ["])?;
     put_rule(text, entry)?;
-    end_entry(text)
+    text.push_str("]\n")?;
+    Ok(())
 }
 
 /// Puts the line that says how many reasons are left out.

@@ -3,70 +3,67 @@ ghost use Rattle.std.specs.Prelude.{◌≡◌, ◌++◌, OnOk, string_bytes, enc
 ghost use Rattle.cs_profile.specs.Places.{escaped, at_key, at_index};
 ghost use Rattle.cs_reason_words.specs.Pointer.{at_step, at_steps};
 
-use crate::entry::{Branch, Entry, Finding, Targets, Told, place_entries, place_rules};
-use cs_place::{Named, Position, Step};
-use cs_reasons::{Cause, Link, Reason, Reasons, Telling, Up};
-use cs_text::Written;
+use crate::entry::{Entry, Found, Told, position_in};
+use cs_place::{Named, Position, Positions, Step};
+use cs_reasons::{Cause, Link, Reason, Reasons, Telling};
+use cs_text::{Made, Written};
 use itoa::Buffer;
-use std::alloc::{AllocError, Global};
+use std::alloc::Global;
+
+/// The pair whose alternative was followed last, by the numbers of its value and its rule, and the place of the alternative.
+pub type Branch = (usize, usize, usize);
 
 /// What is told of a chain.
 #[derive(Drop)]
 pub struct Way {
+    /// The number of the value that it has led to.
+    pub item: usize,
+    /// The number of the rule there.
+    pub rule: usize,
+    /// How many other alternatives of that rule were as close as the one that is followed.
+    as_close: usize,
     /// The place of the value in the document, or that of the key that isn't allowed (RFC 6901).
     pub pointer: String,
-    /// The rule: the definition's name and the path from there, or the place in the schema document.
-    pub rule: String,
+    /// The place of the rule: the definition's name and the path from there, or the place in the schema document.
+    pub path: String,
     /// Which alternative was followed last; empty where there is none.
     pub alternative: String,
     /// The same, for what is told once for a value and an alternative.
-    pub branch: Branch,
+    pub branch: Option<Branch>,
     /// How many alternatives are on the way.
     pub depth: usize,
     /// How many steps the way has.
     pub steps: usize,
 }
 
-/// An alternative that a cause leads to: its place, and how many there are.
-pub type Choice = (usize, usize);
-
 impl Way {
-    /// Follows an alternative of the rule of a link, of whose alternatives so many others were as close.
-    fn follow(&mut self, choice: Choice, link: usize, as_close: usize) -> Written {
-        let (place, count) = choice;
+    /// Follows the alternative at a place, of so many.
+    pub fn follow(&mut self, place: usize, count: usize) -> Written {
         let number = place.saturating_add(1);
-        self.branch = (link.saturating_add(1), place);
+        self.branch = Some((self.item, self.rule, place));
         self.depth = self.depth.saturating_add(1);
         self.alternative.truncate(0);
         write!(self.alternative, "alternative {number} of {count}")?;
-        if as_close > 0 {
-            write!(self.alternative, ", {as_close} as close")?;
+        if self.as_close > 0 {
+            write!(self.alternative, ", {} as close", self.as_close)?;
         }
         Ok(())
     }
 }
 
-/// What leads to the link at a place, and the link that it leads from; none for the pair that is explained.
-pub fn above<C: Drop>(links: &[Link<C>], place: usize) -> Option<(&Up<C>, &Link<C>)> {
-    let up = links.get(place)?.up.as_ref()?;
-    let from = links.get(up.link)?;
-    Some((up, from))
+/// The link that another one is led to from; none for the pair that is explained.
+pub(crate) fn above<'a, C: Drop>(links: &'a [Link<C>], link: &Link<C>) -> Option<&'a Link<C>> {
+    links.get(link.up.as_ref()?.link)
 }
 
-/// What leads to the link at a place, step by step from the pair that is explained, each with the link that it leads from.
-pub fn chain_to<C: Drop>(
-    alloc: Global,
-    links: &[Link<C>],
-    place: usize,
-) -> Result<Vec<(&Up<C>, &Link<C>)>, AllocError> {
+/// The links on the chain to that at a place, from the pair that is explained on.
+pub fn chain_to<C: Drop>(alloc: Global, links: &[Link<C>], place: usize) -> Made<Vec<&Link<C>>> {
     let mut chain = Vec::new(alloc);
-    let mut at = place;
-    for _ in 0..links.len() {
-        let Some(step) = above(links, at) else {
-            break;
-        };
-        chain.push(step)?;
-        at = step.0.link;
+    let mut next = links.get(place);
+    for _ in 0..=links.len() {
+        let Some(link) = next else { break };
+        chain.push(link)?;
+        next = above(links, link);
     }
     chain.reverse();
     Ok(chain)
@@ -75,28 +72,33 @@ pub fn chain_to<C: Drop>(
 /// The rule of the link at a place, and the way to it.
 pub fn walk_to<'t, W: Words<'t>>(
     alloc: Global,
-    words: &mut W,
+    words: &W,
     links: &[Link<W::Cause>],
     place: usize,
-) -> Result<(W::Node, Way), AllocError> {
+) -> Made<(W::Node, Way)> {
     let mut way = Way {
+        item: 0,
+        rule: 0,
+        as_close: 0,
         pointer: String::new(alloc),
-        rule: String::new(alloc),
+        path: String::new(alloc),
         alternative: String::new(alloc),
-        branch: (0, 0),
+        branch: None,
         depth: 0,
         steps: 0,
     };
-    let mut node = words.root(&mut way.rule)?;
-    for (up, from) in chain_to(alloc, links, place)? {
-        way.steps = way.steps.saturating_add(1);
-        if let Some(choice) = words.choice_of(node, &up.cause) {
-            way.follow(choice, up.link, from.as_close)?;
+    let mut node = words.root(&mut way.path)?;
+    for link in chain_to(alloc, links, place)? {
+        if let Some(up) = &link.up {
+            way.steps = way.steps.saturating_add(1);
+            if let Some(step) = words.step_of(way.item, &up.cause) {
+                put_steps(&mut way.pointer, &[step])?;
+            }
+            node = words.inside(node, &up.cause, &mut way)?;
         }
-        if let Some(step) = words.step_of(from.item, &up.cause) {
-            put_steps(&mut way.pointer, &[step])?;
-        }
-        node = words.inside(node, from.item, &up.cause, &mut way.rule)?;
+        way.item = link.item;
+        way.rule = link.rule;
+        way.as_close = link.as_close;
     }
     Ok((node, way))
 }
@@ -111,33 +113,16 @@ pub trait Words<'t>: Drop {
     type Node: Copy + Drop;
 
     /// The rule at which chains begin, whose place is put.
-    fn root(&self, path: &mut String) -> Result<Self::Node, AllocError>;
+    fn root(&self, path: &mut String) -> Made<Self::Node>;
 
     /// The step into the document that a cause of an item takes.
     fn step_of(&self, item: usize, cause: &Self::Cause) -> Option<Step<'t>>;
 
-    /// The alternative of a rule that a cause leads to, if it is one.
-    fn choice_of(&self, node: Self::Node, cause: &Self::Cause) -> Option<Choice>;
+    /// The rule that a cause leads to from the one that the way has led to. The path is led on to it, and an alternative is followed.
+    fn inside(&self, node: Self::Node, cause: &Self::Cause, way: &mut Way) -> Made<Self::Node>;
 
-    /// The rule that a cause of an item leads to from another one, to which the path is led on.
-    fn inside(
-        &mut self,
-        node: Self::Node,
-        item: usize,
-        cause: &Self::Cause,
-        path: &mut String,
-    ) -> Result<Self::Node, AllocError>;
-
-    /// What is wrong with an item by a cause of the rule of a number, which leads nowhere; none where it is told elsewhere. The path is
-    /// led on to what says no.
-    fn finding(
-        &mut self,
-        node: Self::Node,
-        item: usize,
-        rule: usize,
-        cause: &Self::Cause,
-        path: &mut String,
-    ) -> Result<Option<Finding<'t>>, AllocError>;
+    /// What is wrong by a cause, which leads nowhere, of the rule that the way has led to. The path is led on to what says no.
+    fn finding(&mut self, node: Self::Node, cause: &Self::Cause, way: &mut Way) -> Found<'t>;
 }
 
 /// What is spent at most on reasons beyond those that are asked for.
@@ -147,32 +132,28 @@ const MOST_SPENT: usize = 16_777_216;
 const STEP: usize = 8;
 
 /// What is told of reasons in words: each that is asked for, and further ones while that takes little, so that what several of them
-/// say is told once, and counted once. Places are given their lines and columns, those of rules in the sources.
+/// say is told once, and counted once. Values are given their lines and columns.
 pub fn told_by<'t, W: Words<'t>>(
     alloc: Global,
     words: &mut W,
     telling: Telling,
     document: Named<'_>,
-    sources: &[Named<'_>],
     reasons: &Reasons<W::Cause>,
-) -> Result<Told<'t>, AllocError> {
-    let mut told = Told {
-        entries: Vec::new(alloc),
-        more: reasons.count,
-        targets: Targets::new(alloc, &*words, &reasons.links)?,
-    };
+) -> Made<Told<'t>> {
+    let mut told = Told::new(alloc, &*words, reasons)?;
     let mut spent: usize = 0;
     for (number, reason) in reasons.told.iter().enumerate() {
         if number < telling.most || spent <= MOST_SPENT {
-            let bytes = tell(words, telling, &reasons.links, number, reason, &mut told)?;
+            let bytes = tell(words, &reasons.links, number, reason, &mut told)?;
             spent = spent.saturating_add(bytes);
             told.more = told.more.saturating_sub(1);
         }
     }
-    told.targets.find(alloc, document.text)?;
-    told.keep_new(alloc, telling.most)?;
-    place_rules(alloc, sources, &mut told.entries)?;
-    place_entries(document, &mut told.entries)?;
+    told.keep_new(alloc, telling, document.text)?;
+    let mut positions = Positions::new(document.text);
+    for entry in told.entries.iter_mut() {
+        entry.position = position_in(document, &mut positions, entry.offset);
+    }
     Ok(told)
 }
 
@@ -180,30 +161,23 @@ pub fn told_by<'t, W: Words<'t>>(
 /// eight for each step of the chain.
 fn tell<'t, W: Words<'t>>(
     words: &mut W,
-    telling: Telling,
     links: &[Link<W::Cause>],
     number: usize,
     reason: &Reason<W::Cause>,
     told: &mut Told<'t>,
-) -> Result<usize, AllocError> {
-    let Some(link) = links.get(reason.link) else {
-        return Ok(0);
-    };
+) -> Made<usize> {
     let alloc = *told.entries.allocator();
-    let (node, mut way) = walk_to(alloc, words, links, reason.link)?;
+    let (node, mut way) = walk_to(alloc, &*words, links, reason.link)?;
     let steps = way.steps.saturating_mul(STEP);
-    let found = words.finding(node, link.item, link.rule, &reason.cause, &mut way.rule)?;
+    let found = words.finding(node, &reason.cause, &mut way)?;
     let Some(finding) = found else {
-        return Ok(steps);
+        return Ok(steps)
     };
     if let Some(step) = finding.step {
         put_steps(&mut way.pointer, &[step])?;
     }
-    if !telling.all {
-        way.depth = 0;
-    }
     let entry = Entry {
-        value: told.targets.put(reason.link, finding.step)?,
+        value: told.put(reason.link, finding.step)?,
         finding,
         way,
         offset: 0,

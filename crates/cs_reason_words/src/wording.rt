@@ -56,13 +56,6 @@ fn put_beginning(text: &mut String, inside: &str) -> Written {
     text.push('"')
 }
 
-/// Puts a count of elements.
-pub(crate) fn put_elements(text: &mut String, count: usize) -> Written {
-    let ending = if count == 1 { "" } else { "s" };
-    write!(text, "{count} element{ending}")?;
-    Ok(())
-}
-
 /// Puts a mark behind so many parts, if there are any.
 pub fn put_between(text: &mut String, before: usize, mark: &str) -> Written {
     if before > 0 {

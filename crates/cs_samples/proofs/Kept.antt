@@ -16,7 +16,7 @@ use Rattle.cs_document.proofs.Each.{each_append, each_front, each_back}
 use Rattle.cs_package.specs.Environment.{Environment}
 use Rattle.cs_variants.specs.declared.places.Sampled.{Sampled}
 use Rattle.cs_samples.specs.declared.asking.Asking.{Asking}
-use Rattle.cs_samples.specs.declared.found.Found.{Found}
+use Rattle.cs_samples.specs.declared.asking.Found.{Found}
 use Rattle.cs_samples.specs.Kept.{text_cmp, AreFound, IsSplit}
 use Rattle.cs_samples.specs.Sample.{IsSampleText, AreSamples, HasMore, same_text}
 

@@ -7,7 +7,7 @@ use Rattle.std.specs.Ordering.{nat_cmp}
 use Rattle.std.specs.declared.alloc.Global.{Global}
 use Rattle.std.specs.declared.cmp.Ordering.{Ordering}
 use Rattle.cs_samples.specs.declared.asking.Asking.{Asking}
-use Rattle.cs_samples.specs.declared.found.Found.{Found}
+use Rattle.cs_samples.specs.declared.asking.Found.{Found}
 use Rattle.cs_samples.specs.Sample.{AreSamples, same_text}
 
 -- the order by which the code looks texts up

@@ -2,7 +2,6 @@
 #![tactic(auto)]
 
 mod asking;
-mod found;
 mod sampling;
 
 pub use cs_question::QuestionFault;

@@ -5,8 +5,7 @@ ghost use Rattle.cs_package.specs.Environment.{Names};
 ghost use Rattle.cs_samples.specs.Kept.{AreFound, IsSplit};
 ghost use Rattle.cs_samples.specs.Sample.{AreSamples, HasMore, HasNoInstance, same_text};
 
-use crate::asking::Asking;
-use crate::found::{Found, Tally};
+use crate::asking::{Asking, Found, Tally};
 use cs_guard::Guarded;
 use cs_json::shown_text;
 use cs_question::{Budget, QuestionFault, instance_of};
@@ -136,9 +135,7 @@ fn one_instance(asking: &Asking<'_, '_>, mut budget: Budget) -> Result<SampleTex
     let Some(text) = shown_text(asking.alloc, &doc)? else {
         return Err(QuestionFault::TooManyCases);
     };
-    let mut texts = Vec::new(asking.alloc);
-    texts.push(text)?;
-    Ok(SampleTexts::alone(texts))
+    Ok(SampleTexts::alone(vec![in asking.alloc; text]?))
 }
 
 /// Asks the questions of all places, in turns, and where no document just fails, for any that the root refuses.

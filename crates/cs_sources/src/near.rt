@@ -1,8 +1,11 @@
-// A token of a source and what is near it, and a part of a source and its parts.
-use crate::source::{Inside, Separator, Source};
-use crate::tokens::{end_of, is_mark, precedes_declaration};
+// A token of a source and what is near it, a part of a source and its parts, and where sources declare definitions.
+use crate::source::Separator::{Amp, Bar, Colon, Comma};
+use crate::source::{Bracket, Inside, Separation, Separator, Source};
+use crate::tokens::{Made, end_of, is_mark, precedes_declaration};
 use cs_grammar::{Sort, Token};
+use std::alloc::Global;
 use std::iter::successors;
+use std::mem;
 
 /// A token among those of a source.
 #[derive(Clone, Copy)]
@@ -12,8 +15,7 @@ pub struct Near<'s, 'a> {
     pub place: usize,
 }
 
-/// A part of a source: its tokens from one place up to another, which are in one bracket. Each part of it is found by the outline of the
-/// source, without a look at the other parts.
+/// A part of a source: its tokens from one place up to another, which are in one bracket. Its parts are found without a look at each other.
 #[derive(Clone, Copy)]
 pub struct Part<'s, 'a> {
     pub source: &'s Source<'a>,
@@ -54,27 +56,26 @@ impl<'s, 'a> Near<'s, 'a> {
 
     /// The token of the bracket that is open at the token; none outside of all.
     pub fn bracket(self) -> Option<Near<'s, 'a>> {
-        let held = self.source.held(self.source.open_at(self.place));
-        self.source.near(held.from.checked_sub(1)?)
+        self.source.opening(self.source.open_at(self.place))
+    }
+
+    /// The bracket that the token opens.
+    fn opened(self) -> Option<Bracket> {
+        let bracket = self.source.bracket(self.source.own(self.place));
+        (bracket.first == self.place.checked_add(1)?).then_some(bracket)
     }
 
     /// The token that closes the bracket which the token opens.
     pub fn closing(self) -> Option<Near<'s, 'a>> {
-        let bracket = self.source.bracket(self.opened()?);
+        let bracket = self.opened()?;
         let behind = self.source.near(bracket.end)?;
         bracket.is_closed.then_some(behind)
     }
 
     /// What is in the bracket that the token opens.
     pub fn held(self) -> Option<Part<'s, 'a>> {
-        Some(self.source.held(self.opened()?))
-    }
-
-    /// The number of the bracket that the token opens.
-    fn opened(self) -> Option<usize> {
-        let number = self.source.own(self.place);
-        let first = self.source.bracket(number).first;
-        (first == self.place.checked_add(1)?).then_some(number)
+        let Bracket { first, end, .. } = self.opened()?;
+        Some(self.source.whole().between(first, end))
     }
 
     /// The token behind it in the same bracket, where all that a bracket holds is one.
@@ -85,8 +86,8 @@ impl<'s, 'a> Near<'s, 'a> {
             None => self,
         };
         let next = last.moved(1)?;
-        let around = self.source.held(self.source.around(self.place));
-        (next.place < around.to).then_some(next)
+        let around = self.source.bracket(self.source.around(self.place));
+        (next.place < around.end).then_some(next)
     }
 
     /// Whether a declaration begins with the token, of a file or of a struct.
@@ -95,65 +96,58 @@ impl<'s, 'a> Near<'s, 'a> {
             && matches!(self.inside(), Inside::File | Inside::Struct)
     }
 
-    /// How many colons of its own the declaration of a struct has that begins with the token; none where none does.
-    fn colons(self) -> Option<usize> {
-        let is_first = precedes_declaration(self.before(1)) && self.inside() == Inside::Struct;
-        is_first.then(|| self.part().count(Separator::Colon))
-    }
-
-    /// The operands of `&` that the token is in, in the same bracket.
-    pub fn conjunction(self) -> Option<Part<'s, 'a>> {
-        let between = self.part().part_around(Separator::Bar, self.place);
-        let colon = self.source.last_separator(Separator::Colon, self.place);
-        let from = colon.map_or(0, |colon| colon.saturating_add(1));
-        let whole = between.between(between.from.max(from), between.to);
-        (whole.count(Separator::Amp) > 0).then_some(whole)
-    }
-
     /// Whether an expression that a struct embeds begins with the token: a declaration without a colon of its own.
     pub fn begins_embedding(self) -> bool {
         let here = self.here();
         let may_begin = here.sort == Sort::Definition || is_mark(here, "{") || is_mark(here, "(");
-        may_begin && self.colons() == Some(0)
+        may_begin && self.begins_declaration() && self.part().count(Colon) == 0
+    }
+
+    /// The operands of `&` that the token is in, in the same bracket.
+    pub fn conjunction(self) -> Option<Part<'s, 'a>> {
+        let between = self.part().part_around(Bar, self.place);
+        let colon = self.colon();
+        let from = colon.map_or(0, |colon| colon.place.saturating_add(1));
+        let whole = between.between(between.from.max(from), between.to);
+        (whole.count(Amp) > 0).then_some(whole)
     }
 
     /// The expression that a struct embeds and that the token is in, in no other struct.
     pub fn embedding(self) -> Option<Part<'s, 'a>> {
         let declaration = self.source.declaration_at(self.place);
-        let around = self.source.bracket(self.source.around(declaration.from));
-        let is_embedded = around.inside == Inside::Struct
-            && declaration.count(Separator::Colon) == 0
-            && !is_mark(declaration.first()?.here(), "...");
+        let first = declaration.first()?;
+        let is_embedded = first.inside() == Inside::Struct
+            && declaration.count(Colon) == 0
+            && !is_mark(first.here(), "...");
         is_embedded.then_some(declaration)
+    }
+
+    /// The token that opens the struct with the declaration that the token is in.
+    pub fn struct_around(self) -> Option<Near<'s, 'a>> {
+        self.source.declaration_at(self.place).first()?.bracket()
     }
 
     /// Whether the declaration that the token is in stands in a struct that embeds an expression, or that is embedded.
     pub fn stands_beside_embeddings(self) -> bool {
-        let source = self.source;
-        let bracket = source.around(source.declaration_at(self.place).from);
-        let Part { from, to, .. } = source.held(bracket);
-        let place = from.saturating_sub(1);
-        let is_embedded = Near { source, place }.embedding().is_some();
-        let embeds = (from..to).any(|place| {
-            source.around(place) == bracket && Near { source, place }.begins_embedding()
-        });
-        bracket > 0 && (is_embedded || embeds)
-    }
-
-    /// Whether the token is the name that the declaration of a definition begins with, outside of all brackets.
-    pub(crate) fn declares(self) -> bool {
-        let is_name = self.here().sort == Sort::Definition && is_mark(self.behind(1), ":");
-        is_name && self.source.around(self.place) == 0
+        let opening = self.struct_around();
+        let Some(held) = opening.and_then(|opening| opening.held()) else {
+            return false;
+        };
+        opening.and_then(|opening| opening.embedding()).is_some()
+            || (0..=held.count(Comma))
+                .filter_map(|place| held.part(Comma, place)?.first())
+                .any(|first| first.begins_embedding())
     }
 
     /// What is between commas around the token: a declaration, or an element of a list.
     pub fn part(self) -> Part<'s, 'a> {
-        self.source.part_at(self.place)
+        let held = self.source.held(self.source.around(self.place));
+        held.part_around(Comma, self.place)
     }
 
     /// The colon of the label whose value the token is in, in the same bracket.
     pub fn colon(self) -> Option<Near<'s, 'a>> {
-        let colon = self.source.last_separator(Separator::Colon, self.place)?;
+        let colon = self.source.last_separator(Colon, self.place)?;
         let colon = self.source.near(colon)?;
         (self.part().from < colon.place).then_some(colon)
     }
@@ -189,23 +183,24 @@ impl<'s, 'a> Part<'s, 'a> {
         self.source.text(start, self.end())
     }
 
-    /// The place of its separator with so many of the same sort before it.
-    pub fn separator(self, separator: Separator, before: usize) -> Option<usize> {
-        self.source.separator(separator, self.from, self.to, before)
-    }
-
     /// How many separators of a sort it has.
     pub fn count(self, separator: Separator) -> usize {
-        self.source.count(separator, self.from, self.to)
+        self.separations(separator).len()
+    }
+
+    /// Its separators of a sort.
+    fn separations(self, separator: Separator) -> &'s [Separation] {
+        self.source.separations(separator, self.from, self.to)
     }
 
     /// Its part at a place, where separators are between the parts.
     pub fn part(self, separator: Separator, place: usize) -> Option<Part<'s, 'a>> {
+        let separations = self.separations(separator);
         let from = match place.checked_sub(1) {
             None => self.from,
-            Some(before) => self.separator(separator, before)?.checked_add(1)?,
+            Some(before) => separations.get(before)?.2.checked_add(1)?,
         };
-        let to = self.separator(separator, place).unwrap_or(self.to);
+        let to = separations.get(place).map_or(self.to, |next| next.2);
         Some(self.between(from, to))
     }
 
@@ -218,40 +213,20 @@ impl<'s, 'a> Part<'s, 'a> {
     }
 
     /// What the bracket at its front has inside, if it closes at the end.
-    pub(crate) fn inside(self, open: &str) -> Option<Part<'s, 'a>> {
+    pub fn inside(self, open: &str) -> Option<Part<'s, 'a>> {
         let first = self.first()?;
-        let held = first.held()?;
         let is_whole = first.closing()?.place.checked_add(1)? == self.to;
-        (is_whole && is_mark(first.here(), open)).then_some(held)
+        (is_whole && is_mark(first.here(), open)).then_some(first.held()?)
     }
 
-    /// What the parentheses around have inside.
-    fn in_parentheses(self) -> Option<Part<'s, 'a>> {
-        let inner = self.inside("(")?;
-        // The end of a line may have inserted a comma at the end.
-        let last = inner.to.saturating_sub(1);
-        let is_comma = self.source.token(last).sort == Sort::Inserted;
-        Some(inner.between(inner.from, if is_comma { last } else { inner.to }))
-    }
-
-    /// It without the parentheses around, which say nothing.
-    pub(crate) fn unwrapped(self) -> Part<'s, 'a> {
-        let inner = successors(Some(self), |left| left.in_parentheses());
-        inner.take(self.to).last().unwrap_or(self)
-    }
-
-    /// What is behind `close`, if it begins with that name.
-    fn behind_close(self) -> Part<'s, 'a> {
-        let is_close = self
-            .first()
-            .is_some_and(|first| first.here().text == "close");
-        let from = self.from.saturating_add(usize::from(is_close));
-        self.between(from, self.to)
-    }
-
-    /// It without the parentheses around, and without `close` before them: of a value both say nothing.
-    pub(crate) fn bare(self) -> Part<'s, 'a> {
-        let inner = successors(Some(self), |left| left.behind_close().in_parentheses());
+    /// It without the parentheses around, and without a word before them: they say nothing.
+    pub fn without(self, word: &str) -> Part<'s, 'a> {
+        let inner = successors(Some(self), |left| {
+            let is_called = left.first()?.here().text == word;
+            let from = left.from.saturating_add(usize::from(is_called));
+            // The end of a line may have inserted a comma before the parenthesis that closes.
+            left.between(from, left.to).inside("(")?.part(Comma, 0)
+        });
         inner.take(self.to).last().unwrap_or(self)
     }
 
@@ -267,71 +242,51 @@ impl<'s, 'a> Part<'s, 'a> {
 
     /// How many operands it is that a separator is between.
     pub fn operands(self, separator: Separator) -> usize {
-        self.bare().count(separator).saturating_add(1)
+        self.without("close").count(separator).saturating_add(1)
     }
 
-    /// The first reference in it that closes what it stands for: one that is no value of a field, or that stands anywhere in what a literal
-    /// embeds.
+    /// The first reference in it that closes what it stands for: one that is in no field, or that is anywhere in what a literal embeds.
     pub fn closed_by(self) -> Option<Near<'s, 'a>> {
         let source = self.source;
-        let mut place = self.from;
-        let mut embedded_to = self.from;
-        for _ in self.from..self.to {
+        let (mut passed_to, mut embedded_to) = (0, 0);
+        for place in self.from..self.to {
             let near = Near { source, place };
-            if place >= self.to {
-                return None;
-            }
-            if near.here().sort == Sort::Definition {
+            if place >= passed_to && near.here().sort == Sort::Definition {
                 return Some(near);
             }
-            let is_passed = place >= embedded_to && near.colons().is_some_and(|count| count > 0);
+            let is_field = near.begins_declaration() && near.part().count(Colon) > 0;
             if near.begins_embedding() {
-                embedded_to = embedded_to.max(near.part().to);
+                embedded_to = near.part().to.max(embedded_to);
+            } else if is_field && place >= embedded_to {
+                passed_to = near.part().to.max(passed_to);
             }
-            let next = if is_passed { near.part().to } else { place };
-            place = next.max(place.saturating_add(1));
         }
         None
     }
 
     /// Its operand at a place.
     pub fn operand(self, separator: Separator, place: usize) -> Option<Part<'s, 'a>> {
-        self.bare().part(separator, place)
+        self.without("close").part(separator, place)
     }
 
     /// Its operand of `&` at a place, where those that aren't plain are one operand, which stands where the first of them does.
     pub fn standing_operand(self, place: usize) -> Option<Part<'s, 'a>> {
         let mut is_met = false;
-        (0..self.operands(Separator::Amp))
-            .filter_map(|at| self.operand(Separator::Amp, at))
-            .filter(|operand| {
-                let is_plain = operand.is_plain();
-                let stands = is_plain || !is_met;
-                is_met |= !is_plain;
-                stands
-            })
+        (0..self.operands(Amp))
+            .filter_map(|at| self.operand(Amp, at))
+            .filter(|operand| operand.is_plain() || !mem::replace(&mut is_met, true))
             .nth(place)
-    }
-
-    /// Whether two declarations may declare one key. Escapes aren't read.
-    pub fn may_share_key(self, other: Part<'_, '_>) -> bool {
-        let (Some(first), Some(second)) = (self.first(), other.first()) else {
-            return false;
-        };
-        let (first, second) = (first.here(), second.here());
-        let is_every = is_mark(first, "[") || is_mark(second, "[");
-        is_every || first.text.trim_matches('"') == second.text.trim_matches('"')
     }
 
     /// What is declared by this declaration: what is behind its first colon.
     pub fn declared(self) -> Option<Part<'s, 'a>> {
-        let colon = self.separator(Separator::Colon, 0)?;
+        let colon = self.separations(Colon).first()?.2;
         Some(self.between(colon.checked_add(1)?, self.to))
     }
 
     /// Its element at a place, or what is asked behind `...` there.
     pub fn element(self, place: usize) -> Option<Part<'s, 'a>> {
-        let element = self.bare().inside("[")?.part(Separator::Comma, place)?;
+        let element = self.without("close").inside("[")?.part(Comma, place)?;
         let is_end = is_mark(element.first()?.here(), "...");
         let from = element.from.saturating_add(usize::from(is_end));
         Some(element.between(from, element.to))
@@ -339,6 +294,58 @@ impl<'s, 'a> Part<'s, 'a> {
 
     /// Where it begins, without parentheses and `close`.
     pub fn offset(self) -> Option<usize> {
-        Some(self.bare().first()?.here().start)
+        Some(self.without("close").first()?.here().start)
+    }
+}
+
+/// The definitions that sources declare. A declaration goes by the name that it begins with.
+#[derive(Drop)]
+pub struct Declared<'s, 'a> {
+    pub sources: &'s [Source<'a>],
+    /// The first declaration of each definition, in their order.
+    pub firsts: Vec<Near<'s, 'a>>,
+    /// All declarations by their names, and those of one name in their order.
+    by_name: Vec<Near<'s, 'a>>,
+}
+
+/// The definitions that sources declare, outside of all brackets. Only memory can run out.
+pub fn declared_in<'s, 'a>(alloc: Global, sources: &'s [Source<'a>]) -> Made<Declared<'s, 'a>> {
+    let mut by_name = Vec::new(alloc);
+    for source in sources {
+        let tokens = (0..source.tokens.len()).map(|place| Near { source, place });
+        let names = tokens.filter(|token| token.here().sort == Sort::Definition);
+        let labels = names.filter(|name| is_mark(name.behind(1), ":"));
+        by_name.extend(labels.filter(|label| source.around(label.place) == 0))?;
+    }
+    by_name.sort_by_key(|declaration| declaration.here().text)?;
+    let mut firsts = Vec::from_slice(alloc, &by_name)?;
+    firsts.dedup_by(|declaration, first| declaration.here().text == first.here().text);
+    firsts.sort_by_key(|declaration| (declaration.source.file, declaration.place))?;
+    Ok(Declared {
+        sources,
+        firsts,
+        by_name,
+    })
+}
+
+impl<'s, 'a> Declared<'s, 'a> {
+    /// What it has grown by.
+    pub fn alloc(&self) -> Global {
+        *self.firsts.allocator()
+    }
+
+    /// The declarations of a name with its `#`, in their order.
+    pub fn named(&self, name: &str) -> &[Near<'s, 'a>] {
+        let all = self.by_name.as_slice();
+        let before = all.partition_point(|declaration| declaration.here().text < name);
+        let (_, behind) = all.split_at(before);
+        let times = behind.partition_point(|declaration| declaration.here().text <= name);
+        let (named, _) = behind.split_at(times);
+        named
+    }
+
+    /// The first declaration of a name with its `#`.
+    pub fn of(&self, name: &str) -> Option<Near<'s, 'a>> {
+        self.named(name).first().copied()
     }
 }

@@ -26,10 +26,11 @@ pub struct Bracket {
     pub inside: Inside,
     /// The number of the bracket around it. The file has the number 0, and is around itself.
     pub around: usize,
+    /// How many brackets are open in it.
+    pub depth: usize,
     /// The place of the first token inside.
     pub first: usize,
-    /// The place behind the last token inside: that of the bracket that closes it. One that isn't closed ends where the one around it
-    /// does.
+    /// The place behind the last token inside, where it is closed. One that isn't closed ends where the one around it does.
     pub end: usize,
     pub is_closed: bool,
 }
@@ -38,6 +39,7 @@ pub struct Bracket {
 const FILE: Bracket = Bracket {
     inside: Inside::File,
     around: 0,
+    depth: 0,
     first: 0,
     end: 0,
     is_closed: false,
@@ -57,145 +59,26 @@ pub enum Separator {
 }
 
 /// A separator among the tokens of a source: the bracket around it, what it is, and its place among them.
-type Separation = (usize, Separator, usize);
+pub(crate) type Separation = (usize, Separator, usize);
 
-/// The brackets and separators of a source. A bracket closes the last open one of its sort, and those inside of that aren't closed; it is
-/// stray where none of its sort is open.
-#[derive(Drop)]
-struct Outline {
-    /// The file, and then the brackets in the order in which they open.
-    brackets: Vec<Bracket>,
-    /// The number of the innermost bracket that is open behind the last token.
-    innermost: usize,
-    /// For each token the number of the bracket that it opens or closes, or else of that around it.
-    of_token: Vec<usize>,
-    /// In their order, which is by their brackets, then by what they are.
-    separations: Vec<Separation>,
-}
-
-fn separator_of(token: Token<'_>) -> Option<Separator> {
-    match token.text.as_bytes() {
-        [] if token.sort == Sort::Inserted => Some(Separator::Comma),
-        [b'|'] => Some(Separator::Bar),
-        [b'&'] => Some(Separator::Amp),
-        [b','] => Some(Separator::Comma),
-        [b':'] => Some(Separator::Colon),
-        _ => None,
-    }
-}
-
-/// Whether a token closes brackets of a sort.
-fn is_closing(token: Token<'_>, inside: Inside) -> bool {
-    match token.text.as_bytes() {
-        [b'}'] => inside == Inside::Struct,
-        [b']'] => matches!(inside, Inside::List | Inside::Label),
-        [b')'] => inside == Inside::Parentheses,
-        _ => false,
-    }
-}
-
-impl Outline {
-    /// The outline of a source.
-    fn new(alloc: Global, tokens: &[Token<'_>]) -> Made<Outline> {
-        let mut outline = Outline {
-            brackets: Vec::new(alloc),
-            innermost: 0,
-            of_token: Vec::with_capacity(alloc, tokens.len())?,
-            separations: Vec::new(alloc),
-        };
-        outline.brackets.push(FILE)?;
-        let mut is_first = true;
-        for (place, token) in tokens.iter().enumerate() {
-            outline.put(place, *token, is_first)?;
-            is_first = precedes_declaration(*token);
-        }
-        let end = tokens.partition_point(|token| token.sort != Sort::End);
-        outline.end(0, end, false);
-        outline.separations.sort()?;
-        Ok(outline)
-    }
-
-    /// Puts the token at a place, which a declaration may begin with.
-    fn put(&mut self, place: usize, token: Token<'_>, is_first: bool) -> Made<()> {
-        let bracket = self.innermost;
-        let may_be_label = matches!(self.bracket(bracket).inside, Inside::File | Inside::Struct);
-        let number = match token.text.as_bytes() {
-            [b'{'] => self.open(Inside::Struct, place)?,
-            [b'('] => self.open(Inside::Parentheses, place)?,
-            [b'['] if is_first && may_be_label => self.open(Inside::Label, place)?,
-            [b'['] => self.open(Inside::List, place)?,
-            [b'}' | b']' | b')'] => self.close(token, place),
-            _ => bracket,
-        };
-        self.of_token.push(number)?;
-        if let Some(separator) = separator_of(token) {
-            self.separations.push((bracket, separator, place))?;
-        }
-        Ok(())
-    }
-
-    /// Opens a bracket by the token at a place, and gives its number.
-    fn open(&mut self, inside: Inside, place: usize) -> Made<usize> {
-        let first = place.saturating_add(1);
-        let bracket = Bracket {
-            inside,
-            around: self.innermost,
-            first,
-            end: first,
-            ..FILE
-        };
-        self.innermost = self.brackets.len();
-        self.brackets.push(bracket)?;
-        Ok(self.innermost)
-    }
-
-    /// Closes the last open bracket that the token at a place can close, with those inside of it, and gives its number; that of the
-    /// bracket around where it closes none.
-    fn close(&mut self, token: Token<'_>, place: usize) -> usize {
-        let mut number = self.innermost;
-        for _ in 0..MOST_AROUND {
-            let bracket = self.bracket(number);
-            if is_closing(token, bracket.inside) {
-                self.end(number, place, true);
-                return number;
-            }
-            number = bracket.around;
-        }
-        self.innermost
-    }
-
-    /// Ends the brackets from the innermost up to that of a number at a place, and says whether that one is closed.
-    fn end(&mut self, last: usize, place: usize, is_closed: bool) {
-        for _ in 0..self.brackets.len() {
-            let number = self.innermost;
-            if let Some(bracket) = self.brackets.get_mut(number) {
-                bracket.end = place;
-                bracket.is_closed = is_closed && number == last;
-                self.innermost = bracket.around;
-            }
-            if number == last {
-                break;
-            }
-        }
-    }
-
-    /// The bracket of a number.
-    fn bracket(&self, number: usize) -> Bracket {
-        self.brackets.get(number).copied().unwrap_or(FILE)
-    }
-}
-
-/// A source with its tokens and its brackets. Tokens go by their places among those of the source, and brackets by their numbers:
-/// that of the file is 0.
+/// A source with its tokens and its brackets. Tokens go by their places among those of the source, and brackets by their numbers.
 #[derive(Drop)]
 pub struct Source<'a> {
     pub named: Named<'a>,
+    /// The profile that it is cut in.
+    pub profile: Profile,
     /// Its place among the sources.
     pub file: usize,
     /// Its tokens and its end; none at all where it isn't UTF-8. What no token begins with is one all the same: a number is an integer,
     /// a text or bytes are a text, and another character is a mark that is left out.
     pub tokens: Vec<Token<'a>>,
-    outline: Outline,
+    /// The file, and then the brackets in the order in which they open. A bracket closes the last open one of its sort, and those inside of
+    /// that aren't closed; it is stray where none of its sort is open.
+    pub brackets: Vec<Bracket>,
+    /// For each token the number of the bracket that it opens or closes, or else 0, and that of the innermost one that is open before it.
+    of_tokens: Vec<(usize, usize)>,
+    /// In their order, which is by their brackets, then by what they are.
+    separations: Vec<Separation>,
 }
 
 impl<'a> Source<'a> {
@@ -206,22 +89,108 @@ impl<'a> Source<'a> {
             Ok(text) => tokens_of(alloc, profile, text)?,
             Err(_) => Vec::new(alloc),
         };
-        let outline = Outline::new(alloc, &tokens)?;
-        Ok(Source {
+        let end = tokens.partition_point(|token| token.sort != Sort::End);
+        let mut source = Source {
             named,
+            profile,
             file,
+            of_tokens: Vec::with_capacity(alloc, tokens.len())?,
             tokens,
-            outline,
-        })
+            brackets: Vec::new(alloc),
+            separations: Vec::new(alloc),
+        };
+        source.brackets.push(Bracket { end, ..FILE })?;
+        let mut innermost = 0;
+        for place in 0..source.tokens.len() {
+            innermost = source.put(place, innermost)?;
+        }
+        source.end_unclosed();
+        source.separations.sort()?;
+        Ok(source)
+    }
+
+    /// Puts the token at a place, where a bracket is the innermost open one, and gives the one that is it behind the token.
+    fn put(&mut self, place: usize, innermost: usize) -> Made<usize> {
+        let token = self.token(place);
+        let separator = match token.text.as_bytes() {
+            [] if token.sort == Sort::Inserted => Some(Separator::Comma),
+            [b'|'] => Some(Separator::Bar),
+            [b'&'] => Some(Separator::Amp),
+            [b','] => Some(Separator::Comma),
+            [b':'] => Some(Separator::Colon),
+            _ => None,
+        };
+        if let Some(separator) = separator {
+            self.separations.push((innermost, separator, place))?;
+        }
+        let is_first = precedes_declaration(self.token(place.wrapping_sub(1)));
+        let holds_labels = matches!(
+            self.bracket(innermost).inside,
+            Inside::File | Inside::Struct
+        );
+        let (own, behind) = match token.text.as_bytes() {
+            [b'{'] => self.open(Inside::Struct, innermost, place)?,
+            [b'('] => self.open(Inside::Parentheses, innermost, place)?,
+            [b'['] if is_first && holds_labels => self.open(Inside::Label, innermost, place)?,
+            [b'['] => self.open(Inside::List, innermost, place)?,
+            [b'}' | b']' | b')'] => self.close(token, innermost, place),
+            _ => (0, innermost),
+        };
+        self.of_tokens.push((own, innermost))?;
+        Ok(behind)
+    }
+
+    /// Opens a bracket by the token at a place. Gives its number, and once more as that of the innermost one.
+    fn open(&mut self, inside: Inside, around: usize, place: usize) -> Made<(usize, usize)> {
+        let number = self.brackets.len();
+        let depth = self.bracket(around).depth.saturating_add(1);
+        self.brackets.push(Bracket {
+            inside,
+            around,
+            depth,
+            first: place.saturating_add(1),
+            ..FILE
+        })?;
+        Ok((number, number))
+    }
+
+    /// Closes the last open bracket that the token at a place can close. Gives its number, or 0 where there is none, and that of the innermost one.
+    fn close(&mut self, token: Token<'_>, innermost: usize, place: usize) -> (usize, usize) {
+        let mut number = innermost;
+        for _ in 0..MOST_AROUND {
+            let bracket = self.bracket(number);
+            let is_closed = match token.text.as_bytes() {
+                [b'}'] => bracket.inside == Inside::Struct,
+                [b']'] => matches!(bracket.inside, Inside::List | Inside::Label),
+                _ => bracket.inside == Inside::Parentheses,
+            };
+            if is_closed {
+                if let Some(closed) = self.brackets.get_mut(number) {
+                    (closed.end, closed.is_closed) = (place, true);
+                }
+                return (number, bracket.around);
+            }
+            number = bracket.around;
+        }
+        (0, innermost)
+    }
+
+    /// Ends each bracket that isn't closed where the one around it ends, which comes before it.
+    fn end_unclosed(&mut self) {
+        for number in 0..self.brackets.len() {
+            let end = self.bracket(self.bracket(number).around).end;
+            if let Some(bracket) = self.brackets.get_mut(number)
+                && !bracket.is_closed
+            {
+                bracket.end = end;
+            }
+        }
     }
 
     /// The token at a place; the end where there is none.
     pub fn token(&self, place: usize) -> Token<'a> {
-        let end = Token {
-            sort: Sort::End,
-            text: "",
-            start: 0,
-        };
+        let (sort, text, start) = (Sort::End, "", 0);
+        let end = Token { sort, text, start };
         self.tokens.get(place).copied().unwrap_or(end)
     }
 
@@ -241,42 +210,31 @@ impl<'a> Source<'a> {
         str::from_utf8(self.named.text.get(start..end).unwrap_or(b"")).unwrap_or("")
     }
 
-    /// The file, and then the brackets in the order in which they open. The one around a bracket comes before it.
-    pub fn brackets(&self) -> &[Bracket] {
-        &self.outline.brackets
-    }
-
     /// The bracket of a number.
     pub fn bracket(&self, number: usize) -> Bracket {
-        self.outline.bracket(number)
+        self.brackets.get(number).copied().unwrap_or(FILE)
+    }
+
+    /// The token that opens a bracket; none opens the file.
+    pub fn opening(&self, number: usize) -> Option<Near<'_, 'a>> {
+        self.near(self.bracket(number).first.checked_sub(1)?)
     }
 
     /// The number of the bracket that the token at a place opens or closes; 0 where it does neither.
     pub fn own(&self, place: usize) -> usize {
-        let number = self.outline.of_token.get(place).copied().unwrap_or(0);
-        let bracket = self.bracket(number);
-        if bracket.first == place.saturating_add(1) || bracket.is_closed && bracket.end == place {
-            number
-        } else {
-            0
-        }
-    }
-
-    /// The number of the bracket around the token at a place; that of the file where there is no token. A bracket's own tokens are in the
-    /// one around it.
-    pub fn around(&self, place: usize) -> usize {
-        match self.own(place) {
-            0 => self.outline.of_token.get(place).copied().unwrap_or(0),
-            number => self.bracket(number).around,
-        }
+        self.of_tokens.get(place).map_or(0, |(own, _)| *own)
     }
 
     /// The number of the bracket that is open at a place: that around the token there, or the one that would be closed by it.
     pub fn open_at(&self, place: usize) -> usize {
-        match place.checked_sub(1) {
-            Some(before) if self.bracket(self.own(before)).first == place => self.own(before),
-            Some(before) => self.around(before),
-            None => 0,
+        self.of_tokens.get(place).map_or(0, |(_, open)| *open)
+    }
+
+    /// The number of the bracket around the token at a place, 0 where there is none. A bracket's own tokens are in the one around it.
+    pub fn around(&self, place: usize) -> usize {
+        match self.own(place) {
+            0 => self.open_at(place),
+            number => self.bracket(number).around,
         }
     }
 
@@ -303,15 +261,14 @@ impl<'a> Source<'a> {
     }
 
     /// The separators of a sort from one place up to another, in the bracket around the first one.
-    fn separations(&self, sort: Separator, from: usize, to: usize) -> &[Separation] {
+    pub(crate) fn separations(&self, sort: Separator, from: usize, to: usize) -> &[Separation] {
         let bracket = self.around(from);
-        let all = self.outline.separations.as_slice();
+        let all = self.separations.as_slice();
         let rank = |place: usize| all.partition_point(|other| *other < (bracket, sort, place));
         all.get(rank(from)..rank(to)).unwrap_or(&[])
     }
 
-    /// The place of a separator of a sort from one place up to another, in the bracket around the first one: so many of the same sort
-    /// are before it there.
+    /// The place of a separator of a sort from one place up to another, in the bracket around the first one, behind so many of its sort.
     pub fn separator(&self, sort: Separator, from: usize, to: usize, nth: usize) -> Option<usize> {
         Some(self.separations(sort, from, to).get(nth)?.2)
     }
@@ -320,11 +277,6 @@ impl<'a> Source<'a> {
     pub fn last_separator(&self, separator: Separator, place: usize) -> Option<usize> {
         let first = self.bracket(self.around(place)).first;
         Some(self.separations(separator, first, place).last()?.2)
-    }
-
-    /// How many separators of a sort are from one place up to another, in the bracket around the first one.
-    pub(crate) fn count(&self, separator: Separator, from: usize, to: usize) -> usize {
-        self.separations(separator, from, to).len()
     }
 
     /// All tokens but the end.
@@ -337,12 +289,6 @@ impl<'a> Source<'a> {
         let (source, bracket) = (self, self.bracket(number));
         let (from, to) = (bracket.first, bracket.end);
         Part { source, from, to }
-    }
-
-    /// What is between commas around the token at a place, in the same bracket: a declaration, or an element of a list.
-    pub fn part_at(&self, place: usize) -> Part<'_, 'a> {
-        let held = self.held(self.around(place));
-        held.part_around(Separator::Comma, place)
     }
 
     /// The token at a place, or the one that opens the outermost bracket around it that is no struct, in the same struct or the file.
@@ -360,7 +306,8 @@ impl<'a> Source<'a> {
 
     /// The declaration of a struct or of the file that the token at a place is in.
     pub fn declaration_at(&self, place: usize) -> Part<'_, 'a> {
-        self.part_at(self.held_in_declaration(place))
+        let (source, place) = (self, self.held_in_declaration(place));
+        Near { source, place }.part()
     }
 }
 

@@ -10,56 +10,46 @@ pub type Made<T> = Result<T, AllocError>;
 /// out. Each byte is read three times at most, however often the text is stuck.
 pub(crate) fn tokens_of(alloc: Global, mut profile: Profile, text: &str) -> Made<Vec<Token<'_>>> {
     let mut tokens = Vec::new(alloc);
-    let mut from = 0;
+    let mut from = 0usize;
     // Each round goes on behind a character at least.
     for _ in 0..text.len().saturating_add(1) {
         let rest = text.get(from..).unwrap_or("");
-        match lex_in(alloc, profile, rest) {
-            Ok(found) if from == 0 => return Ok(found),
-            Ok(found) => {
-                add_shifted(&mut tokens, &found, from)?;
-                return Ok(tokens);
-            }
-            Err(SyntaxFault::NoToken { offset } | SyntaxFault::IntegerRange { offset }) => {
-                let front = rest.get(..offset).unwrap_or("");
-                add_front(&mut tokens, profile, front, from)?;
-                // To find that an attribute has no end may have taken the whole text, so it is the last that is looked for.
-                if rest.as_bytes().get(offset) == Some(&b'@') {
-                    profile = Profile::Default;
-                }
-                from = add_stuck(&mut tokens, text, from.saturating_add(offset))?;
-            }
-            Err(SyntaxFault::OutOfMemory) => return Err(AllocError),
-            Err(_) => return Ok(tokens),
+        let (found, stuck) = cut(alloc, profile, rest)?;
+        tokens.extend(
+            found.iter().map(|token| Token {
+                start: token.start.saturating_add(from),
+                ..*token
+            }),
+        )?;
+        let Some(stuck) = stuck else { break };
+        // To find that an attribute has no end may have taken the whole text, so it is the last that is looked for.
+        if rest.as_bytes().get(stuck) == Some(&b'@') {
+            profile = Profile::Default;
         }
+        from = add_stuck(&mut tokens, text, from.saturating_add(stuck))?;
     }
     Ok(tokens)
 }
 
-/// Adds tokens of what begins at an offset.
-fn add_shifted<'a>(tokens: &mut Vec<Token<'a>>, found: &[Token<'a>], from: usize) -> Made<()> {
-    for token in found {
-        let start = token.start.saturating_add(from);
-        tokens.push(Token { start, ..*token })?;
-    }
-    Ok(())
-}
-
-/// Adds the tokens before a place where the text is stuck, without the comma and the end that the place itself stands for.
-fn add_front<'a>(
-    tokens: &mut Vec<Token<'a>>,
-    profile: Profile,
-    front: &'a str,
-    from: usize,
-) -> Made<()> {
-    match lex_in(*tokens.allocator(), profile, front) {
-        Ok(found) => {
-            let count = found.partition_point(|token| token.start < front.len());
-            add_shifted(tokens, found.get(..count).unwrap_or(&[]), from)
+/// The tokens of a text, and the offset where it is stuck, if it is: then those before, without the comma and the end that stand for that place.
+fn cut(alloc: Global, profile: Profile, text: &str) -> Made<(Vec<Token<'_>>, Option<usize>)> {
+    let mut stuck = None;
+    // A text that is stuck is read again up to there.
+    for _ in 0..2 {
+        let front = text.get(..stuck.unwrap_or(text.len())).unwrap_or("");
+        match lex_in(alloc, profile, front) {
+            Ok(mut tokens) => {
+                tokens.retain(|token| stuck.is_none_or(|stuck| token.start < stuck));
+                return Ok((tokens, stuck));
+            }
+            Err(SyntaxFault::NoToken { offset } | SyntaxFault::IntegerRange { offset }) => {
+                stuck = Some(offset);
+            }
+            Err(SyntaxFault::OutOfMemory) => return Err(AllocError),
+            Err(_) => break,
         }
-        Err(SyntaxFault::OutOfMemory) => Err(AllocError),
-        Err(_) => Ok(()),
     }
+    Ok((Vec::new(alloc), stuck))
 }
 
 /// Adds what no token begins with, and the comma that the end of the line right behind it stands for. Gives the offset behind it.
@@ -68,32 +58,32 @@ fn add_stuck<'a>(tokens: &mut Vec<Token<'a>>, whole: &'a str, start: usize) -> M
     let end = start.saturating_add(len);
     let text = whole.get(start..end).unwrap_or("");
     tokens.push(Token { sort, text, start })?;
-    if let Some(blanks) = blanks_to_line_end(whole.as_bytes().get(end..).unwrap_or(&[])) {
-        let (sort, text, start) = (Sort::Inserted, "", end.saturating_add(blanks));
+    let behind = whole.get(end..).unwrap_or("");
+    let rest = behind.trim_start_matches(|blank| matches!(blank, ' ' | '\t' | '\r'));
+    if rest.is_empty() || rest.starts_with('\n') || rest.starts_with("//") {
+        let start = whole.len().saturating_sub(rest.len());
+        let (sort, text) = (Sort::Inserted, "");
         tokens.push(Token { sort, text, start })?;
     }
     Ok(end)
 }
 
-/// How many blanks there are, if the line or its comment ends or begins behind them.
-fn blanks_to_line_end(bytes: &[u8]) -> Option<usize> {
-    let is_blank = |byte: &&u8| matches!(**byte, b' ' | b'\t' | b'\r');
-    let count = bytes.iter().take_while(is_blank).count();
-    let rest = bytes.get(count..).unwrap_or(&[]);
-    matches!(rest, [] | [b'\n', ..] | [b'/', b'/', ..]).then_some(count)
-}
-
 /// The sort of the token in place of what no token begins with, and how many bytes it has: a number is an integer there, a text
 /// or bytes are a text, and another character is a mark that is left out.
 fn stuck_piece(bytes: &[u8]) -> (Sort, usize) {
+    let past_ascii = bytes.iter().take_while(|byte| **byte >= 128);
     match bytes {
         [b'0'..=b'9', ..] => (Sort::Integer, number_len(bytes)),
-        [b'"' | b'\'', ..] | [b'#', b'"', ..] => (Sort::Text, text_len(bytes)),
-        [128..=255, ..] => {
-            let len = bytes.iter().take_while(|byte| **byte >= 128).count();
-            (Sort::LeftOut, len)
+        [b'"', b'"', b'"', ..] => (Sort::Text, len_to(bytes, 3, b"\"\"\"")),
+        [b'\'', b'\'', b'\'', ..] => (Sort::Text, len_to(bytes, 3, b"'''")),
+        [b'#', b'"', b'"', b'"', ..] => (Sort::Text, len_to(bytes, 4, b"\"\"\"#")),
+        [b'#', b'"', ..] => {
+            let len = bytes.iter().take_while(|byte| **byte != b'\n').count();
+            let line = bytes.get(..len).unwrap_or(b"");
+            (Sort::Text, len_to(line, 2, b"\"#"))
         }
-        _ => (Sort::LeftOut, 1),
+        [quote @ (b'"' | b'\''), ..] => (Sort::Text, quoted_len(bytes, *quote)),
+        _ => (Sort::LeftOut, past_ascii.count().max(1)),
     }
 }
 
@@ -107,21 +97,6 @@ fn number_len(bytes: &[u8]) -> usize {
     };
     let behind_first = bytes.windows(2).take_while(goes_on);
     behind_first.count().saturating_add(1)
-}
-
-/// The length of a text or of bytes with their quotes.
-fn text_len(bytes: &[u8]) -> usize {
-    match bytes {
-        [b'"', b'"', b'"', ..] => len_to(bytes, 3, b"\"\"\""),
-        [b'\'', b'\'', b'\'', ..] => len_to(bytes, 3, b"'''"),
-        [b'#', b'"', b'"', b'"', ..] => len_to(bytes, 4, b"\"\"\"#"),
-        [b'#', ..] => {
-            let len = bytes.iter().take_while(|byte| **byte != b'\n').count();
-            len_to(bytes.get(..len).unwrap_or(b""), 2, b"\"#")
-        }
-        [quote, ..] => quoted_len(bytes, *quote),
-        [] => 0,
-    }
 }
 
 /// The length up to the first of these bytes behind so many, with them, or of all.

@@ -1,7 +1,7 @@
 // Copies of expressions, in which something may be put at a place.
-use crate::places::{Change, Sampled};
+use crate::places::{Change, Made, Sampled};
 use cs_package::{FieldMark, Inside, Literal, Part, Shape, ShapeEnd, Simple};
-use std::alloc::{AllocError, Global};
+use std::alloc::Global;
 
 /// The steps from an expression to a place, where the place is in it, and what is put there.
 pub(crate) type Way<'w> = Option<(&'w [usize], Change<'w>)>;
@@ -36,7 +36,7 @@ impl Copying {
     /// something at the place, and the change is made there: an alternative stands alone, a declaration's key is there, and so is
     /// an element that repeats. What a change isn't made for stays as it is.
     #[cycle(copies)]
-    fn copy_shape(&self, shape: &Shape, way: Way<'_>) -> Result<Shape, AllocError> {
+    fn copy_shape(&self, shape: &Shape, way: Way<'_>) -> Made<Shape> {
         match change_at(way) {
             Change::Simple(simple) => return shape_of(self.alloc, simple),
             Change::Definition(number) => return Ok(Shape::Definition(number)),
@@ -50,7 +50,10 @@ impl Copying {
             Inside::Or(operands) => self.copy_alternatives(operands, way),
             Inside::Struct { parts, opened } => self.copy_struct(parts, opened, way),
             Inside::List { front, end } => {
-                let mut copied = self.copy_front(front, way)?;
+                let mut copied = self.copy_shapes(front, way)?;
+                if matches!(change_at(way), Change::Shorter) {
+                    let _ = copied.pop();
+                }
                 if let Some(element) = self.further_element(end, front.len(), way)? {
                     copied.push(element)?;
                 }
@@ -62,11 +65,7 @@ impl Copying {
 
     /// The same expressions, in order: bodies, operands or elements.
     #[cycle(copies)]
-    pub(crate) fn copy_shapes(
-        &self,
-        shapes: &[Shape],
-        way: Way<'_>,
-    ) -> Result<Vec<Shape>, AllocError> {
+    pub(crate) fn copy_shapes(&self, shapes: &[Shape], way: Way<'_>) -> Made<Vec<Shape>> {
         let mut copies = Vec::with_capacity(self.alloc, shapes.len())?;
         for (i, shape) in shapes.iter().enumerate() {
             copies.push(self.copy_shape(shape, after(way, i))?)?;
@@ -75,7 +74,7 @@ impl Copying {
     }
 
     #[cycle(copies)]
-    fn copy_alternatives(&self, operands: &[Shape], way: Way<'_>) -> Result<Shape, AllocError> {
+    fn copy_alternatives(&self, operands: &[Shape], way: Way<'_>) -> Made<Shape> {
         for (i, operand) in operands.iter().enumerate() {
             let further = after(way, i);
             if further.is_some() {
@@ -85,24 +84,10 @@ impl Copying {
         Ok(Shape::Or(self.copy_shapes(operands, None)?))
     }
 
-    #[cycle(copies)]
-    fn copy_front(&self, front: &[Shape], way: Way<'_>) -> Result<Vec<Shape>, AllocError> {
-        let mut copied = self.copy_shapes(front, way)?;
-        if matches!(change_at(way), Change::Shorter) {
-            let _ = copied.pop();
-        }
-        Ok(copied)
-    }
-
     /// An element behind so many fixed ones, where the way or the change has one there: what it has to be, and anything where
     /// there may be none.
     #[cycle(copies)]
-    fn further_element(
-        &self,
-        end: &ShapeEnd,
-        count: usize,
-        way: Way<'_>,
-    ) -> Result<Option<Shape>, AllocError> {
+    fn further_element(&self, end: &ShapeEnd, count: usize, way: Way<'_>) -> Made<Option<Shape>> {
         let further = after(way, count);
         if further.is_none() && !matches!(change_at(way), Change::Longer) {
             return Ok(None);
@@ -115,7 +100,7 @@ impl Copying {
 
     /// The same end of a list, of which a change of the length leaves nothing.
     #[cycle(copies)]
-    fn copy_end(&self, end: &ShapeEnd, way: Way<'_>) -> Result<ShapeEnd, AllocError> {
+    fn copy_end(&self, end: &ShapeEnd, way: Way<'_>) -> Made<ShapeEnd> {
         match (end, change_at(way)) {
             (_, Change::Shorter | Change::Shortest | Change::Longer) => Ok(ShapeEnd::Closed),
             _ if self.is_least => Ok(ShapeEnd::Closed),
@@ -132,7 +117,7 @@ impl Copying {
     /// a step to it is forced: its key is there. What is valid under a further key has to meet `[string]` as it stands, too. What
     /// is invalid there couldn't, so `[string]` itself is changed, and stands beside a struct with no further key.
     #[cycle(copies)]
-    fn copy_struct(&self, parts: &[Part], opened: bool, way: Way<'_>) -> Result<Shape, AllocError> {
+    fn copy_struct(&self, parts: &[Part], opened: bool, way: Way<'_>) -> Made<Shape> {
         let mut copied = Vec::with_capacity(self.alloc, parts.len())?;
         let mut every = None;
         let is_same = matches!(way, None | Some(([], Change::Same)));
@@ -160,7 +145,7 @@ impl Copying {
 
     /// The same declaration, or one of the same label by which that is no key.
     #[cycle(copies)]
-    fn copy_part(&self, part: &Part, number: usize, way: Way<'_>) -> Result<Part, AllocError> {
+    fn copy_part(&self, part: &Part, number: usize, way: Way<'_>) -> Made<Part> {
         let is_barred = matches!(change_at(way), Change::Without(barred) if barred == number);
         if is_barred || (self.is_least && matches!(part.mark, FieldMark::Optional)) {
             return with_value(part, FieldMark::Optional, Shape::Bottom);
@@ -169,12 +154,7 @@ impl Copying {
     }
 
     /// A declaration by which the key of this one is there, with that value, and `[string]` where that is changed.
-    fn forced(
-        &self,
-        parts: &[Part],
-        part: &Part,
-        value: Shape,
-    ) -> Result<(Part, Option<Part>), AllocError> {
+    fn forced(&self, parts: &[Part], part: &Part, value: Shape) -> Made<(Part, Option<Part>)> {
         match (is_every(part), self.which) {
             (false, _) => Ok((with_value(part, FieldMark::Regular, value)?, None)),
             (true, Sampled::Valid) => Ok((further_part(self.alloc, parts, value)?, None)),
@@ -186,12 +166,7 @@ impl Copying {
     }
 
     /// The struct of these, with no further key where `[string]` stands beside them.
-    fn struct_of(
-        &self,
-        parts: Vec<Part>,
-        opened: bool,
-        every: Option<Part>,
-    ) -> Result<Shape, AllocError> {
+    fn struct_of(&self, parts: Vec<Part>, opened: bool, every: Option<Part>) -> Made<Shape> {
         let Some(part) = every else {
             return Ok(Shape::Struct { parts, opened });
         };
@@ -208,7 +183,7 @@ impl Copying {
 }
 
 /// The expression without parts.
-fn shape_of(alloc: Global, simple: Simple<'_>) -> Result<Shape, AllocError> {
+fn shape_of(alloc: Global, simple: Simple<'_>) -> Made<Shape> {
     match simple {
         Simple::Top => Ok(Shape::Top),
         Simple::Bottom => Ok(Shape::Bottom),
@@ -238,13 +213,11 @@ fn has_required(parts: &[Part]) -> bool {
 }
 
 /// The declaration of a key that these don't have.
-fn further_part(alloc: Global, parts: &[Part], value: Shape) -> Result<Part, AllocError> {
+fn further_part(alloc: Global, parts: &[Part], value: Shape) -> Made<Part> {
     let mut label = String::from_str(alloc, "key")?;
     for _ in 0..parts.len() {
-        if !parts
-            .iter()
-            .any(|part| part.label.as_str() == label.as_str())
-        {
+        let name = label.as_str();
+        if !parts.iter().any(|part| part.label.as_str() == name) {
             break;
         }
         label.push_str("_")?;
@@ -254,7 +227,7 @@ fn further_part(alloc: Global, parts: &[Part], value: Shape) -> Result<Part, All
 }
 
 /// The declaration with another mark and value.
-fn with_value(part: &Part, mark: FieldMark, value: Shape) -> Result<Part, AllocError> {
+fn with_value(part: &Part, mark: FieldMark, value: Shape) -> Made<Part> {
     let label = part.label.clone()?;
     Ok(Part { label, mark, value })
 }

@@ -3,6 +3,10 @@ ghost use Rattle.std.specs.Prelude.{◌≡◌};
 
 use crate::copies::Way;
 use cs_package::{Kind, Literal, Relation, Simple};
+use std::alloc::AllocError;
+
+/// What takes memory alone.
+pub type Made<T> = Result<T, AllocError>;
 
 /// What is put at a place.
 #[derive(Clone, Copy)]

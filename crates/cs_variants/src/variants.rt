@@ -6,7 +6,7 @@ ghost use Rattle.cs_package.specs.View.{IsTable};
 ghost use Rattle.cs_variants.specs.Sound.{IsSound, IsSoundPart, IsSoundEnd};
 
 use crate::copies::{Copying, Way};
-use crate::places::{Change, Place};
+use crate::places::{Change, Made, Place};
 use crate::walks::Walk;
 use cs_guard::{GuardFault, Guarded, guard};
 use cs_package::{Inside, NameTable, Package, Part, Shape, ShapeEnd, package_of};
@@ -37,12 +37,7 @@ impl Walk<'_> {
     ///
     /// # Errors
     /// Where memory runs out.
-    pub fn variant(
-        &self,
-        place: &Place<'_>,
-        at: Where,
-        is_least: bool,
-    ) -> Result<Option<Guarded>, AllocError> {
+    pub fn variant(&self, place: &Place<'_>, at: Where, is_least: bool) -> Made<Option<Guarded>> {
         let mut draft = Draft::new(self, is_least);
         for definition in 0..self.package.count() {
             draft.put_copy(definition, None)?;
@@ -59,7 +54,7 @@ impl Walk<'_> {
     ///
     /// # Errors
     /// Where memory runs out.
-    pub fn of_everything(&self) -> Result<Option<Guarded>, AllocError> {
+    pub fn of_everything(&self) -> Made<Option<Guarded>> {
         let mut draft = Draft::new(self, false);
         let anything = vec![in self.alloc; Shape::Top]?;
         let _ = draft.put(self.root, anything)?;
@@ -84,7 +79,7 @@ impl<'w, 'a> Draft<'w, 'a> {
     }
 
     /// The package of these definitions, where it is guarded.
-    fn guarded(self) -> Result<Option<Guarded>, AllocError> {
+    fn guarded(self) -> Made<Option<Guarded>> {
         let alloc = self.walk.alloc;
         let names = names_of(alloc, self.walk.package, &self.definitions)?;
         let Some(package) = whole(names, self.bodies) else {
@@ -99,7 +94,7 @@ impl<'w, 'a> Draft<'w, 'a> {
 
     /// Puts copies of the definitions that refer to the one of an entry behind the others, on the way back to the root. The first
     /// copy refers to the definition of that number instead, and each further one to the copy before it.
-    fn put_way(&mut self, entry: usize, definition: usize) -> Result<(), AllocError> {
+    fn put_way(&mut self, entry: usize, definition: usize) -> Made<()> {
         let walk = self.walk;
         let (mut entry, mut last) = (entry, definition);
         for _ in 0..walk.reached.len() {
@@ -114,7 +109,7 @@ impl<'w, 'a> Draft<'w, 'a> {
 
     /// Changes the definition of a place in its stead; its number. The root, which was reached first, has a copy too, since the last
     /// definition counts as the root.
-    fn put_changed(&mut self, place: &Place<'_>) -> Result<usize, AllocError> {
+    fn put_changed(&mut self, place: &Place<'_>) -> Made<usize> {
         let way = place.way(place.change);
         let copies = self.copied(place.definition, way)?;
         if let Some(bodies) = self.bodies.get_mut(place.definition) {
@@ -127,13 +122,13 @@ impl<'w, 'a> Draft<'w, 'a> {
     }
 
     /// Puts a copy of a definition behind the others, with what a way puts in it; its number.
-    fn put_copy(&mut self, definition: usize, way: Way<'_>) -> Result<usize, AllocError> {
+    fn put_copy(&mut self, definition: usize, way: Way<'_>) -> Made<usize> {
         let copies = self.copied(definition, way)?;
         self.put(definition, copies)
     }
 
     /// Puts a definition with these bodies behind the others; its number.
-    fn put(&mut self, definition: usize, bodies: Vec<Shape>) -> Result<usize, AllocError> {
+    fn put(&mut self, definition: usize, bodies: Vec<Shape>) -> Made<usize> {
         let number = self.bodies.len();
         self.definitions.push(definition)?;
         self.bodies.push(bodies)?;
@@ -141,7 +136,7 @@ impl<'w, 'a> Draft<'w, 'a> {
     }
 
     /// The bodies of a definition, with what a way puts in them; none where the root doesn't reach it.
-    fn copied(&self, definition: usize, way: Way<'_>) -> Result<Vec<Shape>, AllocError> {
+    fn copied(&self, definition: usize, way: Way<'_>) -> Made<Vec<Shape>> {
         let package = self.walk.package;
         if definition >= package.count() || self.walk.uses.get(definition) == Some(&0) {
             return Ok(Vec::new(self.walk.alloc));
@@ -151,11 +146,7 @@ impl<'w, 'a> Draft<'w, 'a> {
 }
 
 /// The names of these definitions of a package: a further copy of a definition has a name of its own.
-fn names_of(
-    alloc: Global,
-    package: &Package,
-    definitions: &[usize],
-) -> Result<NameTable, AllocError>
+fn names_of(alloc: Global, package: &Package, definitions: &[usize]) -> Made<NameTable>
     ensures { IfOk result (λ t. IsTable t.entries) }
 {
     let mut names = IndexMap::new(alloc);
@@ -169,7 +160,7 @@ fn names_of(
 }
 
 /// Puts a name among these.
-fn put_name(alloc: Global, names: &mut NameTable, name: String) -> Result<(), AllocError>
+fn put_name(alloc: Global, names: &mut NameTable, name: String) -> Made<()>
     requires table { IsTable names.old.entries }
     requires spelled { IsDefinitionName (string_bytes name) }
     ensures { OnOk result (IsTable names.new.entries) }
@@ -180,7 +171,7 @@ fn put_name(alloc: Global, names: &mut NameTable, name: String) -> Result<(), Al
 }
 
 /// A name as it is written, with `#`.
-fn written_name(alloc: Global, name: &String) -> Result<String, AllocError>
+fn written_name(alloc: Global, name: &String) -> Made<String>
     ensures { IfOk result (λ w. string_bytes w ≡ written (string_bytes name.now)) }
 {
     let mut written = String::from_str(alloc, "#")?;
@@ -189,7 +180,7 @@ fn written_name(alloc: Global, name: &String) -> Result<String, AllocError>
 }
 
 /// A name with as many `_` behind it as make it a new one.
-fn fresh_name(alloc: Global, names: &NameTable, name: &str) -> Result<String, AllocError>
+fn fresh_name(alloc: Global, names: &NameTable, name: &str) -> Made<String>
     requires { IsDefinitionName name.now }
     ensures { IfOk result (λ s. IsDefinitionName (string_bytes s)) }
 {
@@ -219,12 +210,7 @@ fn whole(names: NameTable, bodies: Vec<Vec<Shape>>) -> Option<Package>
 fn are_all_sound(count: usize, bodies: &[Vec<Shape>]) -> bool
     ensures { IsTrue result → AllByRecursion (λ v. AllByRecursion (IsSound count) v.items) bodies.now }
 {
-    for shapes in bodies {
-        if !are_sound(count, shapes) {
-            return false;
-        }
-    }
-    true
+    bodies.iter().all(|shapes| are_sound(count, shapes))
 }
 
 #[cycle(sound)]

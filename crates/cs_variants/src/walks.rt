@@ -2,9 +2,9 @@
 // order in which they are reached. And the order in which they get their turns, so that what comes later in a text has a share
 // of the steps too.
 use crate::copies::is_every;
-use crate::places::{Change, Place, Reached, Sampled, Turns, beside, ends_of};
+use crate::places::{Change, Made, Place, Reached, Sampled, beside, ends_of};
 use cs_package::{FieldMark, Inside, Package, Part, Shape, ShapeEnd, Simple};
-use std::alloc::{AllocError, Global};
+use std::alloc::Global;
 
 /// How many pairs of declarations of a struct are a step: a question looks at all of them for each label.
 const PAIRS_OF_STEP: usize = 32;
@@ -40,12 +40,7 @@ pub struct Walk<'a> {
 ///
 /// # Errors
 /// Where memory runs out.
-pub fn walk_of(
-    alloc: Global,
-    package: &Package,
-    root: usize,
-    which: Sampled,
-) -> Result<Walk<'_>, AllocError> {
+pub fn walk_of(alloc: Global, package: &Package, root: usize, which: Sampled) -> Made<Walk<'_>> {
     let mut walk = Walk {
         alloc,
         package,
@@ -94,7 +89,7 @@ impl<'a> Walk<'a> {
     }
 
     /// Visits the definition of an entry, if there is one.
-    fn visit_entry(&mut self, entry: usize) -> Result<(), AllocError> {
+    fn visit_entry(&mut self, entry: usize) -> Made<()> {
         let Some(reached) = self.reached.get(entry) else {
             return Ok(());
         };
@@ -108,7 +103,7 @@ impl<'a> Walk<'a> {
     }
 
     /// The place where the walk is, of the last rule.
-    fn place(&self, change: Change<'a>) -> Result<Place<'a>, AllocError> {
+    fn place(&self, change: Change<'a>) -> Made<Place<'a>> {
         Ok(Place {
             entry: self.entry,
             definition: self.definition,
@@ -120,7 +115,7 @@ impl<'a> Walk<'a> {
     }
 
     /// Here is a place of the last rule, where that is put.
-    fn put(&mut self, change: Change<'a>) -> Result<(), AllocError> {
+    fn put(&mut self, change: Change<'a>) -> Made<()> {
         let place = self.place(change)?;
         self.places.push(place)?;
         self.turn = self.turn.saturating_add(1);
@@ -128,7 +123,7 @@ impl<'a> Walk<'a> {
     }
 
     /// Here is a further rule, for these documents alone, with a place for each of the changes.
-    fn put_rule(&mut self, which: Sampled, changes: &[Change<'a>]) -> Result<(), AllocError> {
+    fn put_rule(&mut self, which: Sampled, changes: &[Change<'a>]) -> Made<()> {
         if which.is_valid() != self.which.is_valid() {
             return Ok(());
         }
@@ -141,7 +136,7 @@ impl<'a> Walk<'a> {
     }
 
     /// Here is a reference to a definition, or this is the root.
-    fn reach(&mut self, definition: usize) -> Result<(), AllocError> {
+    fn reach(&mut self, definition: usize) -> Made<()> {
         let Some(uses) = self.uses.get_mut(definition) else {
             return Ok(());
         };
@@ -158,7 +153,7 @@ impl<'a> Walk<'a> {
     }
 
     #[cycle(visit)]
-    fn visit(&mut self, shape: &'a Shape) -> Result<(), AllocError> {
+    fn visit(&mut self, shape: &'a Shape) -> Made<()> {
         self.spend(1);
         match shape.inside() {
             Inside::Simple(simple) => self.visit_simple(simple),
@@ -183,7 +178,7 @@ impl<'a> Walk<'a> {
 
     /// Visits what is behind a step.
     #[cycle(visit)]
-    fn step(&mut self, step: usize, shape: &'a Shape) -> Result<(), AllocError> {
+    fn step(&mut self, step: usize, shape: &'a Shape) -> Made<()> {
         self.steps.push(step)?;
         self.visit(shape)?;
         let _ = self.steps.pop();
@@ -191,7 +186,7 @@ impl<'a> Walk<'a> {
     }
 
     /// Puts an instance that has what is behind a step.
-    fn put_behind(&mut self, step: usize) -> Result<(), AllocError> {
+    fn put_behind(&mut self, step: usize) -> Made<()> {
         self.steps.push(step)?;
         self.put_rule(Sampled::Valid, &[Change::Same])?;
         let _ = self.steps.pop();
@@ -199,7 +194,7 @@ impl<'a> Walk<'a> {
     }
 
     #[cycle(visit)]
-    fn visit_each(&mut self, shapes: &'a [Shape]) -> Result<(), AllocError> {
+    fn visit_each(&mut self, shapes: &'a [Shape]) -> Made<()> {
         for (i, shape) in shapes.iter().enumerate() {
             self.step(i, shape)?;
         }
@@ -207,7 +202,7 @@ impl<'a> Walk<'a> {
     }
 
     #[cycle(visit)]
-    fn visit_alternatives(&mut self, shapes: &'a [Shape]) -> Result<(), AllocError> {
+    fn visit_alternatives(&mut self, shapes: &'a [Shape]) -> Made<()> {
         let mut has_text = false;
         for (i, shape) in shapes.iter().enumerate() {
             let is_text = matches!(shape, Shape::Text(_));
@@ -224,7 +219,7 @@ impl<'a> Walk<'a> {
     }
 
     #[cycle(visit)]
-    fn visit_struct(&mut self, parts: &'a [Part], opened: bool) -> Result<(), AllocError> {
+    fn visit_struct(&mut self, parts: &'a [Part], opened: bool) -> Made<()> {
         self.spend(parts.len().saturating_mul(parts.len()) / PAIRS_OF_STEP);
         self.put_rule(Sampled::Invalid, &[ANYTHING])?;
         let mut has_every = false;
@@ -240,7 +235,7 @@ impl<'a> Walk<'a> {
     }
 
     #[cycle(visit)]
-    fn visit_part(&mut self, i: usize, part: &'a Part) -> Result<(), AllocError> {
+    fn visit_part(&mut self, i: usize, part: &'a Part) -> Made<()> {
         match (part.mark, self.which) {
             (FieldMark::Regular | FieldMark::Required, _) => {
                 self.put_rule(Sampled::Invalid, &[Change::Without(i)])?;
@@ -257,7 +252,7 @@ impl<'a> Walk<'a> {
 
     /// What follows the fixed elements: the least length of a list and the next one, where it may be longer.
     #[cycle(visit)]
-    fn visit_end(&mut self, step: usize, end: &'a ShapeEnd) -> Result<(), AllocError> {
+    fn visit_end(&mut self, step: usize, end: &'a ShapeEnd) -> Made<()> {
         let lengths = [Change::Shortest, Change::Longer];
         match end {
             ShapeEnd::Closed => self.put_rule(Sampled::Invalid, &[Change::Longer]),
@@ -271,23 +266,16 @@ impl<'a> Walk<'a> {
 
     /// The rule of what has no parts: for instances its ends, where it has some, and for others what is next to it and then anything
     /// else.
-    fn visit_simple(&mut self, simple: Simple<'a>) -> Result<(), AllocError> {
-        match self.which {
-            Sampled::Valid => match ends_of(simple) {
-                Some(ends) => self.put_turns(ends),
-                None => Ok(()),
-            },
-            Sampled::Invalid => {
-                self.put_turns(beside(simple))?;
-                self.put(ANYTHING)
-            }
-        }
-    }
-
-    /// Here is a further rule, with a place for each of these.
-    fn put_turns(&mut self, turns: Turns<'a>) -> Result<(), AllocError> {
+    fn visit_simple(&mut self, simple: Simple<'a>) -> Made<()> {
+        let (turns, last) = match self.which {
+            Sampled::Valid => (ends_of(simple), None),
+            Sampled::Invalid => (Some(beside(simple)), Some(Simple::Top)),
+        };
+        let Some(turns) = turns else {
+            return Ok(());
+        };
         self.put_rule(self.which, &[])?;
-        for simple in [turns.0, turns.1].into_iter().flatten() {
+        for simple in [turns.0, turns.1, last].into_iter().flatten() {
             self.put(Change::Simple(simple))?;
         }
         Ok(())
@@ -302,7 +290,7 @@ impl Walk<'_> {
     ///
     /// # Errors
     /// Where memory runs out.
-    pub fn in_turns(&self) -> Result<Vec<(usize, usize, usize)>, AllocError> {
+    pub fn in_turns(&self) -> Made<Vec<(usize, usize, usize)>> {
         let mut ranked = Vec::with_capacity(self.alloc, self.places.len())?;
         for (number, place) in self.places.iter().enumerate() {
             // Places are numbered definition by definition.
@@ -310,16 +298,9 @@ impl Walk<'_> {
         }
         ranked.sort_unstable();
         let mut rounds = Vec::with_capacity(self.alloc, ranked.len())?;
-        let mut round: usize = 0;
-        let mut before = None;
-        for (turn, entry, _depth, number) in &ranked {
-            round = if before == Some((*turn, *entry)) {
-                round.saturating_add(1)
-            } else {
-                0
-            };
-            before = Some((*turn, *entry));
-            rounds.push((*turn, round, *number))?;
+        for group in ranked.chunk_by(|one, next| (one.0, one.1) == (next.0, next.1)) {
+            let places = group.iter().enumerate();
+            rounds.extend(places.map(|(round, place)| (place.0, round, place.3)))?;
         }
         rounds.sort_unstable();
         Ok(rounds)

@@ -1,8 +1,8 @@
 use Rattle.std.proofs.Common.{List, ◌++◌, ◌∷◌, [], ap, ◌∙◌}
-use Rattle.cs_check.specs.declared.schema.Flaw.{Flaw}
-use Rattle.cs_check.proofs.FlawLists.{one_twice}
+use Rattle.cs_tool.specs.declared.fault.Fault.{Fault}
+use Rattle.cs_check.proofs.FaultLists.{one_told}
 use Rattle.cs_check.proofs.schema.alone.Goals as goal
 
 pub returns-clause-distinct : goal.returns-clause-distinct
 returns-clause-distinct c =
-    one_twice c.args.flaw _ (c.in_ok-push.ensures.items ∙ ap (λ (fs : List Flaw). fs ++ c.args.flaw ∷ []) c.new-flaws.ensures.items)
+    one_told c.args.fault _ c.requires (c.in_ok-push.ensures.items ∙ ap (λ (fs : List Fault). fs ++ c.args.fault ∷ []) c.new-faults.ensures.items)

@@ -1,11 +1,11 @@
-use Rattle.std.proofs.Common.{◌≡◌, ℕ, List, ◌++◌, Option, Some, Result, IfOk, refl}
+use Rattle.std.proofs.Common.{◌≡◌, ℕ, List, ◌++◌, Option, Some, Result, IfOk, refl, ap₂, ◌∙◌, append_assoc}
 use Rattle.cs_reason_words.specs.declared.form.Form.{Form}
 use Rattle.cs_reason_words.specs.declared.form.Form.TheVariants.{Lines, Object}
 use Rattle.cs_reason_words.specs.declared.form.Format.{Format}
 use Rattle.cs_judge.specs.Explained.{IsTold, IsWritten, input_member, members_text}
 use Rattle.cs_judge.specs.Lines.{Answer, answer_line}
 use Rattle.cs_judge.specs.Writing.{Holds, HoldsSome}
-use Rattle.cs_judge.proofs.WrittenTexts.{holds_one}
+use Rattle.cs_judge.proofs.WrittenTexts.{holds_one, holds_same}
 use Rattle.cs_tool.specs.declared.fault.Fault.{Fault}
 use Rattle.cs_judge.proofs.lines.hold_told.Goals as goal
 
@@ -26,4 +26,9 @@ pub returns-in-Some-Lines : goal.returns-in-Some-Lines
 returns-in-Some-Lines g c = rw c.in-Some-Lines.is (in_lines c.hold-in-Some-Lines.result _ _ _ _ c.args.number c.args.answer.now c.args.told.now c.in-Some-Lines.field-0 (rw c.in-Some-Lines.is at c.in-Some-Lines.field-0-is) c.hold-in-Some-Lines.ensures)
 
 pub returns-in-Some-Object : goal.returns-in-Some-Object
-returns-in-Some-Object g c = rw c.in-Some-Object.is (in_object c.hold_object.result _ _ _ _ c.args.number c.args.answer.now c.args.told.now c.in-Some-Object.field-0 _ (rw c.in-Some-Object.is at c.in-Some-Object.field-0-is) c.hold_object.ensures)
+returns-in-Some-Object g c =
+    let held = c.args.held.now in
+    let members = members_text c.args.answer.now c.args.told.now in
+    let same = ap₂ (λ a b. held ++ a ++ b) c.front_of.ensures c.members_of-members.ensures ∙ append_assoc held (input_member c.args.number) members in
+    let both = holds_same c.hold_both.result _ _ _ _ _ same c.hold_both.ensures in
+    rw c.in-Some-Object.is (in_object c.hold_both.result _ _ _ _ c.args.number c.args.answer.now c.args.told.now c.in-Some-Object.field-0 _ (rw c.in-Some-Object.is at c.in-Some-Object.field-0-is) both)

@@ -8,10 +8,10 @@ use Rattle.cs_question.specs.Spread.{AreTaken, spread_list}
 use Rattle.cs_question.proofs.Unfolded.{list_is}
 use Rattle.cs_question.proofs.lists.add_rule.Goals as goal
 
-pub returns : goal.returns
-returns c = λ J ds m met l before.
+pub returns-in_ok-push-in-Some-List : goal.returns-in_ok-push-in-Some-List
+returns-in_ok-push-in-Some-List c = λ J ds m met l before.
     let f = c.in-Some-List in
     let s = spread_list c.args.count (elements ds) in
-    let h = list_is c.args.nodes.now J m c.args.literal false c.if-literal.false f.front f.end ds (f.ensures ∙ ap Some f.field-0-is) met in
-    let one = c.in_ok-list_ways.ensures J (elements ds) l (ap (λ es. elements_hold (λ (y : Document) p. J c.args.literal.side p y) es (end_of f.end) (elements ds)) c.deref.ensures.value ∙ h) in
-    subst (Each (λ w. AreTaken J s w.items)) (sym c.in_ok-push.ensures.items) (each_append (λ w. AreTaken J s w.items) c.args.rules.now.items (c.in_ok-list_ways.field-0 ∷ []) before (one, tt))
+    let h = list_is c.args.nodes.now J m c.args.literal false c.if-not-literal.true f.front f.end ds (f.ensures ∙ ap Some f.field-0-is) met in
+    let one = c.in_ok-list_ways-in-Some-List.ensures J (elements ds) l (ap (λ es. elements_hold (λ (y : Document) p. J c.args.literal.side p y) es (end_of f.end) (elements ds)) c.deref.ensures.value ∙ h) in
+    subst (Each (λ w. AreTaken J s w.items)) (sym c.in_ok-push-in-Some-List.ensures.items) (each_append (λ w. AreTaken J s w.items) c.args.rules.now.items (c.in_ok-list_ways-in-Some-List.field-0 ∷ []) before (one, tt))

@@ -10,9 +10,9 @@ returns-then-not-may_meet_all c = λ e ended t m ms are l h. not_met c.args.node
 
 pub returns : goal.returns
 returns c = λ e ended t m ms are l h.
-    let ls = c.in_ok-labels.labels.items in
-    let s = spread_map ls (entries ms) in
-    c.in_ok-chosen.ensures (sym c.map.ensures.variant ∙ e) ended t s
-    (subst (HoldsPlaces t.J t.n s) (sym c.deref-4.ensures.value) (c.in_ok-places.ensures t.J t.n ms m are l h))
-    (subst (λ xs. HoldsFurther t.J t.n (spread_map xs (entries ms)) c.in_ok-further.further) c.deref-2.ensures.value (c.in_ok-further.ensures t.J t.n ms m are l h))
-    (subst (Each (λ w. AreTaken t.J s w.items)) (sym c.deref-5.ensures.value) (subst (λ xs. Each (λ w. AreTaken t.J (spread_map xs (entries ms)) w.items) c.in_ok-rules.rules.items) c.deref-3.ensures.value (c.in_ok-rules.ensures t.J ms m are h)))
+    let d = c.in_ok-demands.demands in
+    let is = c.deref.ensures.value in
+    c.in_ok-chosen.ensures (sym c.map.ensures.variant ∙ e) ended t (spread_map c.in_ok-labels.labels.items (entries ms))
+    (subst (λ xs. HoldsPlaces t.J t.n (spread_map xs (entries ms)) d.places.items) is (c.in_ok-demands.ensures.places t.J t.n ms m are l h))
+    (subst (λ xs. HoldsFurther t.J t.n (spread_map xs (entries ms)) d.further) is (c.in_ok-demands.ensures.further t.J t.n ms m are l h))
+    (subst (λ xs. Each (λ w. AreTaken t.J (spread_map xs (entries ms)) w.items) d.rules.items) is (c.in_ok-demands.ensures.rules t.J ms m are h))

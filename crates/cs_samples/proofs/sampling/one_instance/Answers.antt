@@ -1,4 +1,4 @@
-use Rattle.std.proofs.Common.{◌≡◌, ℕ, List, [], ◌∷◌, ◌++◌, Bool, true, false, refl, sym, ap, ◌∙◌, subst}
+use Rattle.std.proofs.Common.{◌≡◌, ℕ, List, [], ◌∷◌, Bool, true, false, refl, sym, ap, ◌∙◌, subst}
 use Rattle.std.specs.List.{IsDistinct}
 use Rattle.std.specs.Option.{is_some}
 use Rattle.cs_document.specs.Document.{Document}
@@ -32,10 +32,10 @@ returns-clause-samples c =
     let one : (I : Rule → Document → Bool) (n : List ℕ) → IsInstance E I → Names E root n → Separates (I (definition n) ∷ []) [] x = rw c.in-Some.is at c.in_ok-doc.ensures.one in
     let read : IsReadAgain x = rw c.in-Some.is at c.in_ok-doc.ensures.read in
     let shown : IsShown x c.in-Some-2.text.items = rw c.in-Some-2.is at c.in_ok-text.ensures in
-    let alone = ap (λ v. v.items) c.alone-2.ensures.texts ∙ c.in_ok-push.ensures.items ∙ ap (λ ts. ts ++ c.in-Some-2.text ∷ []) c.new-texts.ensures.items in
+    let alone = ap (λ v. v.items) c.alone-2.ensures.texts ∙ c.in_ok-vec.ensures.items in
     subst (AreSamples E root Valid) (sym alone) ((x, (read, λ I n is named. (one I n is named).0.0), shown), tt)
 
 pub returns-clause-distinct : goal.returns-clause-distinct
 returns-clause-distinct c =
-    let alone = ap (λ v. v.items) c.alone-2.ensures.texts ∙ c.in_ok-push.ensures.items ∙ ap (λ ts. ts ++ c.in-Some-2.text ∷ []) c.new-texts.ensures.items in
+    let alone = ap (λ v. v.items) c.alone-2.ensures.texts ∙ c.in_ok-vec.ensures.items in
     subst (λ ts. IsDistinct same_text ts) (sym alone) (distinct-one c.in-Some-2.text)

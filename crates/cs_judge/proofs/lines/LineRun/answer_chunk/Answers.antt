@@ -1,4 +1,4 @@
-use Rattle.std.proofs.Common.{[], ◌∷◌, ◌++◌, ◌+◌, take, refl, sym, ap, subst, ◌∙◌, append_assoc}
+use Rattle.std.proofs.Common.{[], ◌∷◌, ◌++◌, ◌+◌, take, refl, sym, ap, subst, ◌∙◌, append_assoc, rules}
 use Rattle.cs_judge.specs.declared.lines.LineRun.{LineRun}
 use Rattle.cs_judge.specs.Answering.{IsAnswered, IsCutOffIn}
 use Rattle.cs_judge.specs.Explained.{asked_form, AreTold, AreToldTo}
@@ -7,23 +7,27 @@ use Rattle.cs_judge.proofs.LineRuns.{line_answered, line_cut_off, piece_kept, sa
 use Rattle.cs_judge.proofs.Newlines as newlines
 use Rattle.cs_judge.proofs.lines.LineRun.answer_chunk.Goals as goal
 
-pub returns-in_err-answer_line-clause-front : goal.returns-in_err-answer_line-clause-front
-returns-in_err-answer_line-clause-front g c = λ start bytes before.
-    let l = c.loop-count in
-    let chunk = c.args.chunk.now in
-    let count = c.in-Some.count in
-    let first = c.in-Some.ensures.0 in
-    let here = c.in-Some.ensures.1 in
-    let now = g.W.Write.contents c.answer_line.new.output in
-    let rules = c.args.judge.now in
-    let a = l.invariant.all start bytes before in
-    let piece = newlines.piece chunk l.at count first here in
-    let clean = newlines.piece_is_line chunk l.at count first here in
-    let front = rw l.invariant.same at c.in_err-answer_line.ensures.front in
-    let line = line_cut_off rules start _ now (bytes ++ take l.at chunk) l.self a piece clean (front start a.lines a.rest a.answered a.begun) in
-    let same = regrouped bytes (take l.at chunk) piece (10 ∷ []) ∙ ap (λ t. bytes ++ t) (sym (newlines.taken chunk l.at count first here)) in
-    let cut = subst (λ b. IsCutOffIn (AreTold (asked_form c.args.why)) rules b start now) same line in
-    on_error c.from_residual.result (chunk_cut_off rules bytes chunk (l.at + (count + 1)) start now cut)
+pub returns-in_err-answer_line-clause-over : goal.returns-in_err-answer_line-clause-over
+returns-in_err-answer_line-clause-over g c = record {
+  all = search rules;
+  front = λ start bytes before.
+      let l = c.loop-count in
+      let chunk = c.args.chunk.now in
+      let count = c.in-Some.count in
+      let first = c.in-Some.ensures.0 in
+      let here = c.in-Some.ensures.1 in
+      let now = g.W.Write.contents c.answer_line.new.output in
+      let rules = c.args.judge.now in
+      let a = l.invariant.all start bytes before in
+      let piece = newlines.piece chunk l.at count first here in
+      let clean = newlines.piece_is_line chunk l.at count first here in
+      let front = rw l.invariant.same at c.in_err-answer_line.ensures.line.front in
+      let line = line_cut_off rules start _ now (bytes ++ take l.at chunk) l.self a piece clean (front start a.lines a.rest a.answered a.begun) in
+      let same = regrouped bytes (take l.at chunk) piece (10 ∷ []) ∙ ap (λ t. bytes ++ t) (sym (newlines.taken chunk l.at count first here)) in
+      let cut = subst (λ b. IsCutOffIn (AreTold (asked_form c.args.why)) rules b start now) same line in
+      on_error c.from_residual.result (chunk_cut_off rules bytes chunk (l.at + (count + 1)) start now cut);
+  kind = search rules;
+}
 
 pub loop-count-preserved : goal.loop-count-preserved
 loop-count-preserved g c =
@@ -39,7 +43,7 @@ loop-count-preserved g c =
           let a = l.invariant.all start bytes before in
           let piece = newlines.piece chunk l.at count first here in
           let rules = c.args.judge.now in
-          let all = rw l.invariant.same at c.in_ok-answer_line.ensures.all in
+          let all = rw l.invariant.same at c.in_ok-answer_line.ensures.line.all in
           let answered = all start a.lines a.rest a.answered a.begun in
           let clean = newlines.piece_is_line chunk l.at count first here in
           let whole = line_answered rules start _ now (bytes ++ take l.at chunk) piece l.self run a clean answered c.answer_line.ensures.begun in
@@ -48,16 +52,20 @@ loop-count-preserved g c =
       same = c.answer_line.ensures.same ∙ l.invariant.same;
     }
 
-pub returns-clause-all : goal.returns-clause-all
-returns-clause-all g c = λ start bytes before.
-    let l = c.loop-count in
-    let chunk = c.args.chunk.now in
-    let now = g.W.Write.contents l.output in
-    let a = l.invariant.all start bytes before in
-    let piece = newlines.from chunk l.at in
-    let clean = newlines.all_is_line piece c.in_default.ensures in
-    let after : LineRun = record { begun = c.add.new.self; held = l.self.held; outcome = l.self.outcome; line = l.self.line; told = l.self.told; notes = l.self.notes } in
-    let answered = same_answers c.args.judge.now start now a.lines l.self after a.answered refl refl in
-    let whole = piece_kept c.args.judge.now start now now (bytes ++ take l.at chunk) piece l.self after a clean answered (c.add.ensures a.rest a.begun) in
-    let same = append_assoc bytes (take l.at chunk) piece ∙ ap (λ t. bytes ++ t) (newlines.front_and_from chunk l.at) in
-    subst (λ b. IsAnswered (AreToldTo (asked_form c.args.why) l.self.line.line) c.args.judge.now start now b after) same whole
+pub returns-clause-over : goal.returns-clause-over
+returns-clause-over g c = record {
+  all = λ start bytes before.
+      let l = c.loop-count in
+      let chunk = c.args.chunk.now in
+      let now = g.W.Write.contents l.output in
+      let a = l.invariant.all start bytes before in
+      let piece = newlines.from chunk l.at in
+      let clean = newlines.all_is_line piece c.in_default.ensures in
+      let after : LineRun = record { begun = c.add.new.self; held = l.self.held; outcome = l.self.outcome; line = l.self.line; told = l.self.told; notes = l.self.notes } in
+      let answered = same_answers c.args.judge.now start now a.lines l.self after a.answered refl refl in
+      let whole = piece_kept c.args.judge.now start now now (bytes ++ take l.at chunk) piece l.self after a clean answered (c.add.ensures a.rest a.begun) in
+      let same = append_assoc bytes (take l.at chunk) piece ∙ ap (λ t. bytes ++ t) (newlines.front_and_from chunk l.at) in
+      subst (λ b. IsAnswered (AreToldTo (asked_form c.args.why) l.self.line.line) c.args.judge.now start now b after) same whole;
+  front = search rules;
+  kind = search rules;
+}

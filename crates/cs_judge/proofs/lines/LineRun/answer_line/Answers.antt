@@ -1,4 +1,4 @@
-use Rattle.std.proofs.Common.{◌++◌, ap, ◌∙◌}
+use Rattle.std.proofs.Common.{◌++◌, ap, ◌∙◌, rules}
 use Rattle.cs_judge.specs.Explained.{asked_form}
 use Rattle.cs_judge.specs.Lines.{worse}
 use Rattle.cs_judge.proofs.ExplainedRuns.{all_told, some_written, written, next_line}
@@ -6,29 +6,22 @@ use Rattle.cs_judge.proofs.LineLists.{on_ok, on_err, on_error}
 use Rattle.cs_judge.proofs.LineRuns.{more_cut_off, none_written}
 use Rattle.cs_judge.proofs.lines.LineRun.answer_line.Goals as goal
 
-pub returns-in_err-note-clause-front : goal.returns-in_err-note-clause-front
-returns-in_err-note-clause-front g c = λ start lines front a begun.
-    let form = asked_form c.args.why in
-    let number = c.args.self.now.line.line in
-    let answer = c.finish-answer.result in
-    let told = c.finish-answer.ensures in
-    let is_told = all_told form answer _ _ c.deref.result.now c.clear.ensures.items c.deref.ensures.value told.told in
-    let some = some_written form number answer c.deref.result.now is_told in
-    on_error c.from_residual.result (more_cut_off c.args.judge.now start _ _ lines (front ++ c.args.piece.now) answer some.0 c.args.self.now (written form number answer some.0 some.1) a (told.answer front begun) (none_written _ _))
+pub returns-in_err-note-clause-line : goal.returns-in_err-note-clause-line
+returns-in_err-note-clause-line g c = record {
+  all = search rules;
+  front = λ start lines front a begun.
+      let form = asked_form c.args.why in
+      let number = c.args.self.now.line.line in
+      let answer = c.finish-answer.result in
+      let told = c.finish-answer.ensures in
+      let is_told = all_told form answer _ _ c.deref.result.now c.clear.ensures.items c.deref.ensures.value told.told in
+      let some = some_written form number answer c.deref.result.now is_told in
+      on_error c.from_residual.result (more_cut_off c.args.judge.now start _ _ lines (front ++ c.args.piece.now) answer some.0 c.args.self.now (written form number answer some.0 some.1) a (told.answer front begun) (none_written _ _));
+  kind = search rules;
+}
 
-pub returns-clause-all : goal.returns-clause-all
-returns-clause-all g c = λ start lines front a begun.
-    let form = asked_form c.args.why in
-    let number = c.args.self.now.line.line in
-    let answer = c.finish-answer.result in
-    let told = c.finish-answer.ensures in
-    let is_told = all_told form answer _ _ c.deref-2.result.now c.clear.ensures.items c.deref-2.ensures.value told.told in
-    let outcome = c.with-self.ensures ∙ ap (worse c.args.self.now.outcome) c.outcome_of-outcome.ensures in
-    let holds = rw c.form_of-form.ensures at c.hold_told.ensures in
-    on_ok c.hold_told.result (λ h. next_line form number answer h.0 h.1 c.args.judge.now start _ _ lines (front ++ c.args.piece.now) c.args.self.now a (told.answer front begun) _ c.saturating_add-self.ensures h.2 outcome) (holds is_told).all
-
-pub returns-clause-front : goal.returns-clause-front
-returns-clause-front g c = λ start lines front a begun.
+pub returns-clause-line : goal.returns-clause-line
+returns-clause-line g c =
     let form = asked_form c.args.why in
     let number = c.args.self.now.line.line in
     let answer = c.finish-answer.result in
@@ -36,15 +29,13 @@ returns-clause-front g c = λ start lines front a begun.
     let old = g.W.Write.contents c.args.output.now in
     let new = g.W.Write.contents c.hold_told.new.output in
     let is_told = all_told form answer _ _ c.deref-2.result.now c.clear.ensures.items c.deref-2.ensures.value told.told in
-    let holds = rw c.form_of-form.ensures at c.hold_told.ensures in
-    on_err c.hold_told.result (λ h.
-    more_cut_off c.args.judge.now start old new lines (front ++ c.args.piece.now) answer h.0 c.args.self.now (written form number answer h.0 h.1) a (told.answer front begun) h.2)
-    (holds is_told).front
-
-pub returns-clause-kind : goal.returns-clause-kind
-returns-clause-kind g c =
-    let form = asked_form c.args.why in
-    let answer = c.finish-answer.result in
-    let is_told = all_told form answer _ _ c.deref-2.result.now c.clear.ensures.items c.deref-2.ensures.value c.finish-answer.ensures.told in
-    let holds = rw c.form_of-form.ensures at c.hold_told.ensures in
-    (holds is_told).kind
+    let outcome = c.with-self.ensures ∙ ap (worse c.args.self.now.outcome) c.outcome_of-outcome.ensures in
+    let holds = rw c.form_of-form.ensures at c.hold_told.ensures in record {
+      all = λ start lines front a begun.
+          on_ok c.hold_told.result (λ h. next_line form number answer h.0 h.1 c.args.judge.now start _ _ lines (front ++ c.args.piece.now) c.args.self.now a (told.answer front begun) _ c.saturating_add-self.ensures h.2 outcome) (holds is_told).all;
+      front = λ start lines front a begun.
+          on_err c.hold_told.result (λ h.
+          more_cut_off c.args.judge.now start old new lines (front ++ c.args.piece.now) answer h.0 c.args.self.now (written form number answer h.0 h.1) a (told.answer front begun) h.2)
+          (holds is_told).front;
+      kind = (holds is_told).kind;
+    }

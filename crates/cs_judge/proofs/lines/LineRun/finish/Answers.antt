@@ -1,4 +1,4 @@
-use Rattle.std.proofs.Common.{List, [], Option, ◌≢◌, ℕ}
+use Rattle.std.proofs.Common.{List, [], Option, ◌≢◌, ℕ, rules}
 use Rattle.cs_judge.specs.Answering.{IsAnswered}
 use Rattle.cs_judge.specs.Explained.{asked_form, AreTold, AreToldTo}
 use Rattle.cs_judge.proofs.LineLists.{on_ok, on_err, on_error}
@@ -8,10 +8,14 @@ use Rattle.cs_judge.proofs.lines.LineRun.finish.Given.{Over}
 use Rattle.cs_judge.proofs.lines.LineRun.finish.Goals.{After-write_out, then-not-is_empty+in_ok-answer_line, else-not-is_empty}
 use Rattle.cs_judge.proofs.lines.LineRun.finish.Goals as goal
 
-pub returns-in_err-answer_line-clause-front : goal.returns-in_err-answer_line-clause-front
-returns-in_err-answer_line-clause-front g c = λ start bytes a.
-    let some : a.rest ≢ [] = λ none. cc ((c.is_empty.ensures.tells a.rest a.begun).1 none, c.if-not-is_empty.true) in
-    on_error c.from_residual.result (last_broken_off c.args.judge.now start _ bytes c.args.self.now a _ some (c.in_err-answer_line.ensures.front start a.lines a.rest a.answered a.begun))
+pub returns-in_err-answer_line : goal.returns-in_err-answer_line
+returns-in_err-answer_line g c = record {
+  all = search rules;
+  front = λ start bytes a.
+      let some : a.rest ≢ [] = λ none. cc ((c.is_empty.ensures.tells a.rest a.begun).1 none, c.if-not-is_empty.true) in
+      on_error c.from_residual.result (last_broken_off c.args.judge.now start _ bytes c.args.self.now a _ some (c.in_err-answer_line.ensures.line.front start a.lines a.rest a.answered a.begun));
+  kind = search rules;
+}
 
 module _ (g : Over) (c : After-write_out g) where
   -- all lines are answered where the run writes out
@@ -21,7 +25,7 @@ module _ (g : Over) (c : After-write_out g) where
       elim c.if-not-is_empty.branch [
         | then-not-is_empty+in_ok-answer_line w ↦
             let some : a.rest ≢ [] = λ none. cc ((c.is_empty.ensures.tells a.rest a.begun).1 none, w.if-not-is_empty.true) in
-            let answered = at_any_line (asked_form c.args.why) _ _ start _ _ _ (w.in_ok-answer_line.ensures.all start a.lines a.rest a.answered a.begun) in
+            let answered = at_any_line (asked_form c.args.why) _ _ start _ _ _ (w.in_ok-answer_line.ensures.line.all start a.lines a.rest a.answered a.begun) in
             rw (w.self-is, w.output-is) (last_answered c.args.judge.now start _ bytes c.args.self.now a _ _ some answered)
         | else-not-is_empty w ↦
             let none = (c.is_empty.ensures.tells a.rest a.begun).0 w.if-not-is_empty.false in
@@ -29,14 +33,18 @@ module _ (g : Over) (c : After-write_out g) where
             rw (w.self-is, w.output-is) (all.0, all.1, at_any_line (asked_form c.args.why) _ _ start _ _ _ all.2)
       ]
 
-pub returns-clause-all : goal.returns-clause-all
-returns-clause-all g c = λ start bytes a.
-    on_ok c.write_out-2.result (all_done _ start _ _ bytes c.if-not-is_empty.self (all_lines g (goal.at.returns-clause-all g c).After-write_out start bytes a)) c.write_out-2.ensures.written.all
+pub returns : goal.returns
+returns g c =
+    let lines = all_lines g (goal.at.returns g c).After-write_out in record {
+      all = λ start bytes a. on_ok c.write_out-2.result (all_done _ start _ _ bytes c.if-not-is_empty.self (lines start bytes a)) c.write_out-2.ensures.written.all;
+      front = λ start bytes a. on_err c.write_out-2.result (all_cut_off _ start _ _ bytes c.if-not-is_empty.self (lines start bytes a)) c.write_out-2.ensures.written.front;
+      kind = search rules;
+    }
 
-pub returns-clause-front : goal.returns-clause-front
-returns-clause-front g c = λ start bytes a.
-    on_err c.write_out-2.result (all_cut_off _ start _ _ bytes c.if-not-is_empty.self (all_lines g (goal.at.returns-clause-front g c).After-write_out start bytes a)) c.write_out-2.ensures.written.front
-
-pub returns-in_err-write_out-clause-front : goal.returns-in_err-write_out-clause-front
-returns-in_err-write_out-clause-front g c = λ start bytes a.
-    on_error c.from_residual-in_err-write_out.result (all_cut_off _ start _ _ bytes c.if-not-is_empty.self (all_lines g (goal.at.returns-in_err-write_out-clause-front g c).After-write_out start bytes a) (none_written _ _))
+pub returns-in_err-write_out : goal.returns-in_err-write_out
+returns-in_err-write_out g c = record {
+  all = search rules;
+  front = λ start bytes a.
+      on_error c.from_residual-in_err-write_out.result (all_cut_off _ start _ _ bytes c.if-not-is_empty.self (all_lines g (goal.at.returns-in_err-write_out g c).After-write_out start bytes a) (none_written _ _));
+  kind = search rules;
+}

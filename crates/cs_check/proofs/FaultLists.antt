@@ -1,0 +1,51 @@
+-- Lists of faults of a schema's text of which no two are the same.
+use Rattle.std.proofs.Common.{◌≡◌, List, [], ◌∷◌, ◌++◌, Bool, true, false, ◌||◌, refl, sym, ap, subst, ◌∙◌, append_assoc}
+use Rattle.std.specs.List.{AllByRecursion, IsDistinct, list_any}
+use Rattle.std.proofs.lemmas.Map.Keys.{IsDistinct-cons, IsDistinct-head, IsDistinct-tail}
+use Rattle.cs_profile.specs.declared.fault.SchemaFault.{SchemaFault}
+use Rattle.cs_profile.specs.declared.fault.SchemaFault.TheVariants as fault
+use Rattle.cs_tool.specs.Conversions.{of_schema}
+use Rattle.cs_tool.specs.declared.fault.Fault.{Fault}
+use Rattle.cs_check.specs.SchemaFaults.{AreDistinctFaults, BeginsWithAll, is_of_schema, is_same}
+use Rattle.cs_check.proofs.SchemaFaults.{of_schema_told}
+
+each_push : {A : Type 0} (e : A → A → Bool) (x y : A) (xs : List A) → AllByRecursion (λ z. e x z ≡ false) xs → e x y ≡ false → AllByRecursion (λ z. e x z ≡ false) (xs ++ y ∷ [])
+each_push e x y [] h k = (k, tt)
+each_push e x y (z ∷ zs) h k = (h.0, each_push e x y zs h.1 k)
+
+all_push : {A : Type 0} (P : A → Type 0) (y : A) (xs : List A) → AllByRecursion P xs → P y → AllByRecursion P (xs ++ y ∷ [])
+all_push P y [] h k = (k, tt)
+all_push P y (z ∷ zs) h k = (h.0, all_push P y zs h.1 k)
+
+none_of : (a b : Bool) → (a || b) ≡ false → (a ≡ false) × (b ≡ false)
+none_of false b h = (refl, h)
+none_of true b h = cc
+
+-- one more that none of a distinct list is the same as
+distinct_push : {A : Type 0} (e : A → A → Bool) (xs : List A) (y : A) → IsDistinct e xs → list_any (λ x. e x y) xs ≡ false → IsDistinct e (xs ++ y ∷ [])
+distinct_push e [] y d none = IsDistinct-cons e y [] tt d
+distinct_push e (x ∷ xs) y d none =
+    let parts = none_of (e x y) (list_any (λ z. e z y) xs) none in
+    IsDistinct-cons e x (xs ++ y ∷ []) (each_push e x y xs (IsDistinct-head e x xs d) parts.0) (distinct_push e xs y (IsDistinct-tail e x xs d) parts.1)
+
+-- the lists that code makes: none, one, and one more
+nothing_twice : IsDistinct is_same []
+unfolding IsDistinct
+nothing_twice = tt
+
+pub none_told : (fs : List Fault) → fs ≡ [] → AreDistinctFaults fs
+none_told fs none = subst AreDistinctFaults (sym none) (record { told = tt; distinct = nothing_twice })
+
+pub one_told : (f : Fault) (fs : List Fault) → is_of_schema f ≡ true → fs ≡ f ∷ [] → AreDistinctFaults fs
+one_told f fs is one = subst AreDistinctFaults (sym one) (record { told = (is, tt); distinct = IsDistinct-cons is_same f [] tt nothing_twice })
+
+pub further_told : (f : Fault) (fs gs : List Fault) → AreDistinctFaults fs → is_of_schema f ≡ true → list_any (λ g. is_same g f) fs ≡ false → gs ≡ fs ++ f ∷ [] → AreDistinctFaults gs
+further_told f fs gs before is none pushed = subst AreDistinctFaults (sym pushed) (record { told = all_push (λ g. is_of_schema g ≡ true) f fs before.told is; distinct = distinct_push is_same fs f before.distinct none })
+
+-- one more that a flaw of a document is, and that none of those before it is the same as
+pub next_told : (others fs gs : List Fault) (f : Fault) (e : SchemaFault) → BeginsWithAll others fs → AreDistinctFaults fs → f ≡ of_schema e → ¬ (e ≡ fault.OutOfMemory) → list_any (λ g. is_same g f) fs ≡ false
+    → gs ≡ fs ++ f ∷ [] → BeginsWithAll others gs × AreDistinctFaults gs
+next_told others fs gs f e begins before is other none pushed = (
+  (begins.0 ++ f ∷ [], pushed ∙ ap (λ l. l ++ f ∷ []) begins.1 ∙ append_assoc others begins.0 (f ∷ [])),
+  further_told f fs gs before (ap is_of_schema is ∙ of_schema_told e other) none pushed,
+)

@@ -1,0 +1,263 @@
+// What is told of faults of whole files and packages: how deep brackets nest and how high expressions are, cycles of definitions (12, 24), and
+// chains of references that are too long (16).
+use crate::advice::{field_with, nearest};
+use crate::lines::{put_filled, put_left, put_offset, put_tokens};
+use crate::told::Told;
+use cs_grammar::Sort;
+use cs_place::{Named, position_of};
+use cs_sources::Separator::{Amp, Bar, Colon, Comma};
+use cs_sources::{
+    Declared, Inside, Made, Near, Part, Source, declared_in, ends_value, follows_label,
+};
+use cs_text::{Written, put_all, put_grouped, put_line};
+use itoa::Buffer;
+use std::iter::successors;
+
+/// How many definitions a package may have, and how many of them are listed.
+const MOST_DEFINITIONS: usize = 1_000;
+
+const MOST_LISTED: usize = 8;
+/// How many definitions of a cycle are named, and how many at the beginning of a chain.
+const MOST_IN_CYCLE: usize = 16;
+
+const MOST_IN_CHAIN: usize = 4;
+/// How deep brackets may nest, and how high an expression may be.
+const MOST_LEVELS: usize = 28;
+
+impl<'a> Told<'a> {
+    /// Tells where a source nests too deep (7), at the bracket or the definition with the first level that is too deep, if its tokens show one.
+    pub fn tell_too_high(&mut self, source: Option<&Source<'a>>) -> Written {
+        let Some(source) = source else { return Ok(()) };
+        self.named = Some(source.named);
+        let mut brackets = source.brackets.iter();
+        let deep = brackets.position(|bracket| bracket.depth > MOST_LEVELS);
+        if let Some(bracket) = deep.and_then(|number| source.opening(number)) {
+            self.place_at(bracket);
+            let said =
+                "this is the 29th bracket that is open; 28 may be: give an inner part a definition";
+            return self.hint.push_str(said);
+        }
+        let Some(near) = self.first_too_high(source)? else {
+            let mut tokens = (0..source.tokens.len()).map(|place| Near { source, place });
+            let embeds = tokens.any(|token| token.begins_embedding());
+            let said =
+                "with what is embedded brackets, short fields, `&`, `|` and the value inside make more than 28 levels: give an inner part a definition";
+            return self.hint.push_str(if embeds { said } else { "" });
+        };
+        self.place_at(near);
+        let is_bracket = near.held().is_some();
+        let part = if is_bracket { "bracket" } else { "definition" };
+        let said =
+            "level 29 is in this {}: brackets, short fields, `&`, `|` and the value inside make 28 at most; give an inner part a definition";
+        put_filled(&mut self.hint, said, &[part])
+    }
+
+    /// Of the first part between commas, by its beginning, that is too high, the token that opens its bracket, or outside of all its own first one.
+    fn first_too_high<'s>(&self, source: &'s Source<'a>) -> Made<Option<Near<'s, 'a>>> {
+        // Of what is around each bracket.
+        let mut heights: Vec<usize> = Vec::new(self.alloc());
+        let mut found: Option<(usize, Near<'s, 'a>)> = None;
+        for (number, bracket) in source.brackets.iter().enumerate() {
+            let opening = source.opening(number);
+            let around = heights.get(bracket.around).copied().unwrap_or(0);
+            let own = opening.map_or(0, |near| own_height(near.part(), near.inside()));
+            let outer = around.saturating_add(own);
+            heights.push(outer)?;
+            let held = source.held(number);
+            let part = (0..=held.count(Comma))
+                .filter_map(|place| held.part(Comma, place))
+                .find(|part| {
+                    let leaf = usize::from(has_leaf(*part));
+                    let height = own_height(*part, bracket.inside).saturating_add(leaf);
+                    outer.saturating_add(height) > MOST_LEVELS
+                });
+            if let Some(part) = part
+                && found.is_none_or(|(first, _)| part.from < first)
+                && let Some(near) = opening.or(part.first())
+            {
+                found = Some((part.from, near));
+            }
+        }
+        Ok(found.map(|(_, near)| near))
+    }
+
+    /// Tells the package clause of a source and the first one of all sources, where they name different packages (8), at the name in this one.
+    pub fn tell_clause(&mut self, source: Option<&Source<'a>>, all: &[Source<'a>]) -> Written {
+        self.named = source.map(|source| source.named);
+        let Some(name) = source.and_then(|source| clause_of(source)) else {
+            return Ok(());
+        };
+        self.place_at(name);
+        let text = &mut self.hint;
+        let said = "this file is of the package `{}`";
+        put_filled(text, said, &[name.here().text])?;
+        if let Some(first) = all.iter().find_map(|other| clause_of(other)) {
+            text.push_str(", and ")?;
+            put_offset(text, first.source.named, first.here().start)?;
+            put_filled(text, "`{}`", &[first.here().text])?;
+        }
+        text.push_str("; give the files of one package, or correct the clause")
+    }
+
+    /// Puts the names that the sources declare, where the root is none of them (13), and the one that may have been meant.
+    pub fn tell_no_root(&mut self, declared: &Declared<'_, '_>, root: &str) -> Written {
+        let text = &mut self.hint;
+        put_filled(text, "no `{}`;", &[root])?;
+        let names = declared.firsts.as_slice();
+        if names.is_empty() {
+            return text.push_str(" no definition is declared");
+        }
+        if let Some(meant) = nearest(declared, root)? {
+            put_filled(text, " did you mean `{}`?", &[meant])?;
+        }
+        text.push_str(" declared: ")?;
+        put_tokens(text, names.get(..MOST_LISTED).unwrap_or(names), ", ")?;
+        put_left(text, " and {} more", names.len(), MOST_LISTED)
+    }
+
+    /// Tells how many definitions the sources have, or nodes, which are counted here, where these are too many (14).
+    pub fn tell_too_large(&mut self, definitions: usize, sources: &[Source<'_>]) -> Written {
+        // No definitions are counted where the source that is meant is too large.
+        if definitions == 0 {
+            let said =
+                "what the sources stand for has more than 50,000 nodes of expressions, or 1,048,576 bytes: split the package by roots";
+            return self.hint.push_str(said);
+        }
+        let remedy = " may be: split the package by roots";
+        if definitions > MOST_DEFINITIONS {
+            let said = [" definitions, and 1,000", remedy];
+            return put_grouped(&mut self.hint, definitions, &said);
+        }
+        let mut nodes = 0usize;
+        for source in sources {
+            let tokens = (0..source.tokens.len()).map(|place| Near { source, place });
+            nodes = nodes.saturating_add(tokens.filter(|token| is_node(*token)).count());
+        }
+        let said = [" nodes of expressions, and 50,000", remedy];
+        put_grouped(&mut self.hint, nodes, &said)
+    }
+
+    /// Tells a chain of definitions by their names, each of which refers to the next (16), at the first one, if the sources declare that.
+    pub fn tell_chain(&mut self, declared: &Declared<'_, 'a>, names: &[String]) -> Written {
+        let (Some(first), [front @ .., last]) = (first_of(declared, names), names) else {
+            return Ok(());
+        };
+        self.place_at(first);
+        let said = "{} references in a chain, and 64 may be: ";
+        put_filled(&mut self.hint, said, &[Buffer::new().format(front.len())])?;
+        self.put_way(declared, front, MOST_IN_CHAIN)?;
+        self.put_named(declared, last.as_str())?;
+        let said = ": nest less deeply, or write one of the references as an alternative to `_|_`";
+        self.hint.push_str(said)
+    }
+
+    /// Tells a cycle of definitions by their names, each with its place (12), at the first one, and what ends it: a field of the last one, if any.
+    pub fn tell_cycle(&mut self, declared: &Declared<'_, 'a>, names: &[String]) -> Written {
+        let (Some(first), [.., last]) = (first_of(declared, names), names) else {
+            return Ok(());
+        };
+        self.place_at(first);
+        self.put_way(declared, names, MOST_IN_CYCLE)?;
+        let first = first.here().text;
+        let field = match declared.of(last.as_str()) {
+            Some(last) => field_with(self.alloc(), last, first)?,
+            None => None,
+        };
+        let said = match field {
+            Some(_) => "`{}`: write `{}: {} | _|_`, which keeps the meaning",
+            None =>
+                "`{}`: to keep the meaning, add `| _|_` to one of these references in a field or an element, as `{} | _|_`; where none is in one, take it out",
+        };
+        let parts = [first, field.unwrap_or(first), first];
+        put_filled(&mut self.hint, said, &parts)
+    }
+
+    /// Tells a loop of definitions of a schema by their names, and what ends it (24), at the first one.
+    pub fn tell_loop(&mut self, schema: Option<Named<'a>>, names: &[String]) -> Written {
+        // A schema's definitions have no places in sources.
+        let declared = declared_in(self.alloc(), &[])?;
+        self.put_way(&declared, names, MOST_IN_CYCLE)?;
+        let first = names.first().map_or("", |first| first.as_str());
+        let said =
+            "`{}`: put a reference under `properties`, `additionalProperties`, `prefixItems` or `items`, or take it out";
+        put_filled(&mut self.hint, said, &[first])?;
+        self.place_key(schema, "/$defs", first)
+    }
+
+    /// Puts names of definitions, the first ones of many, with an arrow behind each.
+    fn put_way(&mut self, declared: &Declared<'_, '_>, names: &[String], most: usize) -> Written {
+        for name in names.iter().take(most) {
+            self.put_named(declared, name.as_str())?;
+            self.hint.push_str(" -> ")?;
+        }
+        put_left(&mut self.hint, "{} more -> ", names.len(), most)
+    }
+
+    /// Puts the name of a definition, with its place where the sources declare it: the line that declares it, and of several files which.
+    fn put_named(&mut self, declared: &Declared<'_, '_>, name: &str) -> Written {
+        put_filled(&mut self.hint, "`{}`", &[name])?;
+        let Some(declaration) = declared.of(name) else {
+            return Ok(());
+        };
+        let named = declaration.source.named;
+        let is_one = declared.sources.len() == 1;
+        let (file, colon) = if is_one { ("", "") } else { (named.name, ":") };
+        let line = position_of(named.text, declaration.here().start).line;
+        put_line(&mut self.hint, &[" (", file, colon])?;
+        put_all(&mut self.hint, &[Buffer::new().format(line), ")"])
+    }
+}
+
+/// Where the first of some definitions is declared.
+fn first_of<'s, 'a>(declared: &Declared<'s, 'a>, names: &[String]) -> Option<Near<'s, 'a>> {
+    declared.of(names.first()?.as_str())
+}
+
+/// The name in the package clause of a source.
+fn clause_of<'s, 'a>(source: &'s Source<'a>) -> Option<Near<'s, 'a>> {
+    let first = Near::at(source, 0)?;
+    match first.here().text {
+        "package" => first.moved(1),
+        _ => None,
+    }
+}
+
+/// How many levels are on the way through a part to a value directly in it, from its bracket on.
+fn own_height(part: Part<'_, '_>, inside: Inside) -> usize {
+    let is_level = matches!(inside, Inside::Struct | Inside::List | Inside::Parentheses);
+    let short = part.count(Colon).saturating_sub(1);
+    short
+        .saturating_add(usize::from(is_level))
+        .saturating_add(part.count(Amp).min(1))
+        .saturating_add(part.count(Bar).min(1))
+}
+
+/// Whether a token directly in a part is an expression without parts, or the literal of a limit.
+fn has_leaf(part: Part<'_, '_>) -> bool {
+    successors(part.first(), |near| near.next())
+        .take(part.to)
+        .take_while(|near| near.place < part.to)
+        .any(|near| is_leaf(near))
+}
+
+/// Whether a token is an expression without parts, or the literal of a limit: in a struct or a file behind a colon.
+fn is_leaf(near: Near<'_, '_>) -> bool {
+    let token = near.here();
+    let is_single = token.sort != Sort::Mark && ends_value(token);
+    is_single
+        && !follows_label(near.behind(1))
+        && (matches!(near.inside(), Inside::List | Inside::Parentheses) || near.colon().is_some())
+}
+
+/// Whether a node shows at a token: at the bracket of a struct or a list, a colon, the first operator of its operands, or any other one at itself.
+fn is_node(near: Near<'_, '_>) -> bool {
+    let (source, place, part) = (near.source, near.place, near.part());
+    match near.here().text.as_bytes() {
+        [b'{'] => true,
+        [b'['] => source.bracket(source.own(place)).inside == Inside::List,
+        [b'|'] => part.part_around(Bar, place).from == part.from,
+        [b'&'] => part.part_around(Amp, place).from <= part.part_around(Bar, place).from,
+        [b':'] => near.colon().is_some(),
+        _ => is_leaf(near),
+    }
+}
