@@ -41,10 +41,7 @@ type Found = Result<Findings, Fault>;
 /// What is found in the sources: a line for each fault, 50 at most; where there is none, one for each definition that is found to have
 /// no instance. `named` has the sources with their names, in their order.
 ///
-/// That what is told is so is proved where it is found: by `check` and `warned`. The words and the places in lines are tested.
-///
-/// # Errors
-/// Memory alone.
+/// That what is told is so is proved where it is found: by `check` and `warned`. The words and the places in lines are tested. Only memory can run out.
 pub fn source_findings<'a>(
     alloc: Global,
     sources: &[&[u8]],
@@ -54,7 +51,7 @@ pub fn source_findings<'a>(
     ensures accepted { IfOk result (λ f. ¬ (f.checked ≡ Checked.Faulty) → AreAccepted (bytes_in sources.now)) }
     ensures refused { root.entry ≡ None → IfOk result (λ f. f.checked ≡ Checked.Faulty → ¬ (AreAccepted (bytes_in sources.now))) }
 {
-    let about = known(Profile::Default, named, root);
+    let about = About::of(named, root.unwrap_or(""));
     let faults = check(alloc, sources)?;
     if !faults.is_empty() {
         return faulty(alloc, &faults, about);
@@ -64,10 +61,7 @@ pub fn source_findings<'a>(
 
 /// What is found in the sources in the wide profile, as by [`source_findings`].
 ///
-/// That what is told is so is proved where it is found: by `check_wide` and `warned`. The words and the places in lines are tested.
-///
-/// # Errors
-/// Memory alone.
+/// That what is told is so is proved where it is found: by `check_wide` and `warned`. The words and the places in lines are tested. Only memory can run out.
 pub fn wide_findings<'a>(
     alloc: Global,
     sources: &[&[u8]],
@@ -76,7 +70,9 @@ pub fn wide_findings<'a>(
 ) -> Result<Findings, Fault>
     ensures { IfOk result (λ f. ¬ (f.checked ≡ Checked.Faulty) → AreWideAccepted (bytes_in sources.now)) }
 {
-    let about = known(Profile::Wide, named, root);
+    let profile = Profile::Wide;
+    let about = About::of(named, root.unwrap_or(""));
+    let about = About { profile, ..about };
     let faults = check_wide(alloc, sources)?;
     if !faults.is_empty() {
         return faulty(alloc, &faults, about);
@@ -106,10 +102,7 @@ fn package_findings(alloc: Global, sources: &[&[u8]], root: Option<&str>, about:
 
 /// What is found in a schema: a line for each fault, 50 at most.
 ///
-/// That what is told is so is proved where it is found, by `check_schema`. The words and the places in lines are tested.
-///
-/// # Errors
-/// Memory alone.
+/// That what is told is so is proved where it is found, by `check_schema`. The words and the places in lines are tested. Only memory can run out.
 pub fn schema_findings(alloc: Global, schema: Named<'_>) -> Result<Findings, Fault>
     ensures accepted { IfOk result (λ f. ¬ (f.checked ≡ Checked.Faulty) → IsSchemaText schema.entry.text.now) }
     ensures refused { IfOk result (λ f. f.checked ≡ Checked.Faulty → ¬ (IsSchemaText schema.entry.text.now)) }
@@ -117,10 +110,7 @@ pub fn schema_findings(alloc: Global, schema: Named<'_>) -> Result<Findings, Fau
     findings_of(alloc, schema, schema.text)
 }
 
-/// What is found in the text of a schema in the wide profile, as by [`schema_findings`], of the schema that is meant.
-///
-/// # Errors
-/// Memory alone.
+/// What is found in the text of a schema in the wide profile, as by [`schema_findings`], of the schema that is meant. Only memory can run out.
 pub fn wide_schema_findings(alloc: Global, schema: Named<'_>) -> Result<Findings, Fault>
     ensures accepted { IfOk result (λ f. ¬ (f.checked ≡ Checked.Faulty) → SchemaMeans profiles.Wide schema.entry.text.now IsSchemaText) }
     ensures refused { IfOk result (λ f. f.checked ≡ Checked.Faulty
@@ -143,23 +133,8 @@ fn findings_of(alloc: Global, shown: Named<'_>, text: &[u8]) -> Found
         return Ok(Findings { checked, lines });
     }
     let schema = Some(shown);
-    let about = known(Profile::Default, &[], None);
+    let about = About::of(&[], "");
     faulty(alloc, &faults, About { schema, ..about })
-}
-
-/// What is known of a check of sources in a profile, and the root that was asked for.
-fn known<'a>(profile: Profile, sources: &'a [Named<'a>], root: Option<&'a str>) -> About<'a> {
-    About {
-        sources,
-        root: root.unwrap_or(""),
-        profile,
-        is_joined: false,
-        schema: None,
-        document: None,
-        path: None,
-        cause: "",
-        sizes: &[],
-    }
 }
 
 /// Faults of what is known, with a line for each.

@@ -31,10 +31,7 @@ pub struct Warning<'a> {
 }
 
 /// The definitions that no document is an instance of, as far as they are found: by the question of `cs_question::without_instance`,
-/// where it stays within its limits.
-///
-/// # Errors
-/// Where memory runs out.
+/// where it stays within its limits. Only memory can run out.
 pub fn warned<'a>(alloc: Global, package: &'a Guarded) -> Made<Vec<Warning<'a>>>
     ensures none { IfOk result (λ v. AllByRecursion (λ w. HasNoDocument «package».now w.definition) v.items) }
 {

@@ -2,6 +2,7 @@
 use crate::{Group, Subcommand, Word};
 use clap::ArgAction;
 use clap::builder::ValueParser;
+use cs_format::{NAMES, NAMES_BY_SCHEMA};
 
 /// A word that differs from another one in these fields, or in its name, its help and these.
 macro_rules! word {
@@ -88,11 +89,10 @@ const MOST: Word =
 /// In one of these formats an answer tells the reasons too.
 const FORMAT: Word =
     word!(VALUE, "format": "Prints an object of JSON in place of the answer, with the reasons",
-    value_names: &["FORMAT"], value_parser: ValueParser::Names(&["json"]));
+    value_names: &["FORMAT"], value_parser: ValueParser::Names(NAMES));
 
 /// The same word for a command that judges by a schema.
-const FORMAT_OF_SCHEMA: Word =
-    word!(FORMAT, value_parser: ValueParser::Names(&["json", "flag", "basic"]));
+const FORMAT_OF_SCHEMA: Word = word!(FORMAT, value_parser: ValueParser::Names(NAMES_BY_SCHEMA));
 
 /// What asks for reasons.
 const REASONS: Group = ("reasons", &["why", "format"]);

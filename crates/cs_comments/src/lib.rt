@@ -247,10 +247,7 @@ fn notes_in(alloc: Global, placed: &Placed, texts: &Texts) -> Made<(ByName, usiz
 
 /// The notes for the schema of each definition of some sources, by its name without `#`; none where a source is refused. In the default
 /// profile nothing is put together. Otherwise they are by the files that the sources stand for, or, where these would have too many nodes and
-/// comments, by the files that they spell, in which each literal has its own fields alone.
-///
-/// # Errors
-/// Memory ran out.
+/// comments, by the files that they spell, in which each literal has its own fields alone. Only memory can run out.
 pub fn notes_of(alloc: Global, profile: Profile, sources: &[&[u8]]) -> Made<ByName> {
     let texts = texts_of(alloc, sources)?;
     if profile == Profile::Wide

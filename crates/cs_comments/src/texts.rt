@@ -24,10 +24,7 @@ pub enum Line<'a> {
     Plain,
 }
 
-/// The lines of a source, which end at newlines, by its tokens. It reads the source once.
-///
-/// # Errors
-/// Memory ran out.
+/// The lines of a source, which end at newlines, by its tokens. It reads the source once. Only memory can run out.
 pub fn lines_of<'a>(alloc: Global, source: &'a str, tokens: &[Token<'_>]) -> Made<Vec<Line<'a>>> {
     let mut lines = Vec::new(alloc);
     let mut start = 0usize;
@@ -122,10 +119,7 @@ fn some_text(text: String) -> Option<String>
 }
 
 /// The text of what is declared first on a line: the comments of the run of lines that are alone right above it, each a line of the text, or else the
-/// comment on the line itself. None where that has no character but the newlines between them.
-///
-/// # Errors
-/// Memory ran out.
+/// comment on the line itself. None where that has no character but the newlines between them. Only memory can run out.
 pub fn text_at(alloc: Global, lines: &[Line<'_>], line: usize) -> Made<Option<String>>
     ensures { IfOk result (λ t. option_map string_bytes t ≡ text_at lines.now line) }
 {

@@ -5,7 +5,7 @@ use cs_meanings::EXPLANATIONS;
 use cs_place::{Named, is_hidden, position_of, put_place};
 use cs_sources::{Made, Near, Source, sources_of};
 use cs_text::{Written, put_all, put_count, put_line, put_string};
-use cs_tool::{Fault, write_fault_json};
+use cs_tool::{Fault, write_fault_json, write_text};
 use itoa::Buffer;
 use memchr::{memchr, memrchr};
 use std::alloc::{AllocError, Global};
@@ -198,10 +198,7 @@ pub fn write_refusal_json<W: Write>(
     let Ok(object) = refusal_object(alloc, fault, names, about) else {
         return write_fault_json(alloc, fault, names, output);
     };
-    if output.write_all(&object).is_err() || output.flush().is_err() {
-        return Err(Fault::WriteFailed);
-    }
-    Ok(())
+    write_text(output, &object)
 }
 
 /// The object of a fault with all that is known, and a newline.

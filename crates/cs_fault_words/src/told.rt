@@ -36,6 +36,23 @@ pub struct About<'a> {
     pub sizes: &'a [(&'a str, u64)],
 }
 
+impl<'a> About<'a> {
+    /// What is known of a call by its sources, read in the default profile, and its root; none of both where its input wasn't read.
+    pub fn of(sources: &'a [Named<'a>], root: &'a str) -> About<'a> {
+        About {
+            sources,
+            root,
+            profile: Profile::Default,
+            is_joined: false,
+            schema: None,
+            document: None,
+            path: None,
+            cause: "",
+            sizes: &[],
+        }
+    }
+}
+
 /// What is told of a refusal, as far as it is known.
 #[derive(Drop)]
 pub struct Told<'a> {

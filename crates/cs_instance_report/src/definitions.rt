@@ -1,6 +1,6 @@
 // The words of definitions, and reports in them: where causes lead, what is wrong by one that leads nowhere, and what expressions ask.
 ghost use Rattle.std.specs.Prelude.{◌≡◌, ◌++◌, true, OnOk, OnErr, is_none, string_bytes};
-ghost use Rattle.cs_reason_words.specs.Formats.{asks_standard};
+ghost use Rattle.cs_format.specs.Formats.{asks_standard};
 ghost use Rattle.cs_reason_words.specs.Valid.{flag_text, HasLines, Reports};
 
 use crate::written::{Spelled, Written};

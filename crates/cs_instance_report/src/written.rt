@@ -43,10 +43,7 @@ fn positions_of(alloc: Global, source: &Source<'_>) -> Made<Vec<Position>> {
 }
 
 impl<'a> Written<'a> {
-    /// The sources from which reasons are told in a form: in the output formats of JSON Schema nothing is told of them.
-    ///
-    /// # Errors
-    /// Memory ran out.
+    /// The sources from which reasons are told in a form: in the output formats of JSON Schema nothing is told of them. Only memory can run out.
     pub fn of(alloc: Global, form: Form, sources: &'a [Named<'a>]) -> Made<Written<'a>> {
         let named: &'a [Named<'a>] = if form.is_standard() { &[] } else { sources };
         let cut = sources_of(alloc, Profile::Wide, named)?;

@@ -1,7 +1,8 @@
 -- What is read, numbered and judged of rules is what the calls say of their bytes.
-use Rattle.std.proofs.Common.{◌≡◌, ℕ, Bool, List, Bor, Result, Err, map, string_bytes, refl, sym, subst}
+use Rattle.std.proofs.Common.{◌≡◌, ℕ, Bool, List, Bor, Option, Result, Err, map, string_bytes, refl, sym, subst}
 use Rattle.cs_document.specs.Document.{Document}
 use Rattle.cs_document.specs.declared.fault.DocFault.{DocFault}
+use Rattle.cs_format.specs.declared.Form.{Form}
 use Rattle.cs_json.specs.Refusal as unread
 use Rattle.cs_package.specs.Environment.{Environment}
 use Rattle.cs_profile.specs.SchemaDocument.{document_of}
@@ -18,7 +19,6 @@ use Rattle.cs_tool.specs.declared.fault.Fault.TheVariants.{OutOfMemory}
 use Rattle.cs_tool.specs.declared.rules.Rules.{Rules}
 use Rattle.cs_tool.specs.declared.rules.Rules.TheVariants as rules
 use Rattle.cs_judge.specs.declared.text_judge.ReadRules.TheVariants as read
-use Rattle.cs_judge.specs.declared.verdict.Case.{Case}
 use Rattle.cs_judge.specs.declared.verdict.NumberedRules.{NumberedRules}
 use Rattle.cs_judge.specs.declared.verdict.NumberedRules.TheVariants as numbered
 use Rattle.cs_judge.specs.declared.verdict.Side.TheVariants as side
@@ -37,11 +37,11 @@ module _ (text : List ℕ) (d : Document) (is_read : IsReadAs text d) (result : 
   by_schema (rules.Root sources root) s is of = absurd is
   by_schema (rules.Both sources root) s is of = absurd is
 
-  pub by_both : (case : Case) (old new : List ℕ) (R : Rules) (r : Environment × List ℕ) (s : Document) → AreNumbersOf R (numbered.Both r s)
-      → ((ss : List (List ℕ)) (root t : List ℕ) → AreSidesOf ss root r.0 r.1 s → IsReadAs t d → IsCallVerdict (agree ss root t) case old new result) → IsCallVerdict (call_on R text) case old new result
-  by_both case old new (rules.Both sources root) r s is of = of _ _ text is is_read
-  by_both case old new (rules.Root sources root) r s is of = absurd is
-  by_both case old new (rules.Schema schema) r s is of = absurd is
+  pub by_both : (form : Option Form) (old new : List ℕ) (R : Rules) (r : Environment × List ℕ) (s : Document) → AreNumbersOf R (numbered.Both r s)
+      → ((ss : List (List ℕ)) (root t : List ℕ) → AreSidesOf ss root r.0 r.1 s → IsReadAs t d → IsCallVerdict (agree ss root t) form old new result) → IsCallVerdict (call_on R text) form old new result
+  by_both form old new (rules.Both sources root) r s is of = of _ _ text is is_read
+  by_both form old new (rules.Root sources root) r s is of = absurd is
+  by_both form old new (rules.Schema schema) r s is of = absurd is
 
 -- a text that isn't read is refused
 pub not_read : (text : List ℕ) (R : Rules) (numbers : NumberedRules) → AreNumbersOf R numbers → (e : DocFault) → unread.IsRefusal e text → IsOf (call_on R text) (Err (of_document e))

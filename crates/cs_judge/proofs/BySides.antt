@@ -1,6 +1,7 @@
 -- The verdicts of the sides are what the calls answer, and their refusals are those of the calls.
-use Rattle.std.proofs.Common.{◌≡◌, ℕ, Bool, true, false, List, Bor, Result, Ok, Err, IsErrOf, refl, sym, subst}
+use Rattle.std.proofs.Common.{◌≡◌, ℕ, Bool, true, false, List, Bor, Option, Result, Ok, Err, IsErrOf, refl, sym, subst}
 use Rattle.cs_document.specs.Document.{Document}
+use Rattle.cs_format.specs.declared.Form.{Form}
 use Rattle.cs_document.specs.declared.fault.DocFault.{DocFault}
 use Rattle.cs_instance.specs.Refusal.{AreManyPairs as AreManyByRoot}
 use Rattle.cs_instance.specs.declared.fault.InstanceFault.{InstanceFault}
@@ -22,10 +23,9 @@ use Rattle.cs_tool.specs.declared.fault.Fault.TheVariants.{OutOfMemory, NotJson,
 use Rattle.cs_validate.specs.Refusal.{IsRefusal}
 use Rattle.cs_tool.proofs.BothSides.{vet-and-validate-agree}
 use Rattle.cs_tool.proofs.Judging.{Refuses as RefusesText, ManyPairs, ManyOfRoot, ManyOfSchema, ManyOfBoth, memory_alone, by_text, by_schema, few_of_vet, few_of_validate, few_of_agree, verdict, validated}
-use Rattle.cs_judge.specs.Explained.{asked_form, root_form, schema_form, ReportsAsked}
+use Rattle.cs_judge.specs.Explained.{root_form, schema_form, ReportsAsked}
 use Rattle.cs_judge.specs.Judged.{IsOf}
 use Rattle.cs_judge.specs.Verdicts.{Judges, Refuses, IsVerdict, IsReadAs, IsCallVerdict}
-use Rattle.cs_judge.specs.declared.verdict.Case.{Case}
 use Rattle.cs_judge.specs.declared.verdict.Side.TheVariants.{Root, Schema}
 use Rattle.cs_judge.proofs.ExplainedRuns.{one_side, reports_same}
 
@@ -133,11 +133,11 @@ module _ (sources : List (List ℕ)) (root text : List ℕ) where
   agree_unread E n declares e h = not_agreed E n declares (of_document e) (by_text text (ManyOfBoth sources root text) e h)
 
   module _ (r : Bor (Environment × List ℕ)) (s : Bor Document) (is : AreSidesOf sources root r.now.0 r.now.1 s.now) (d : Document) (read : IsReadAs text d) where
-    pub refused_by_root : (case : Case) (old new : List ℕ) (e : Fault) → Refuses (Root r) d e → IsCallVerdict (agree sources root text) case old new (Err e)
-    refused_by_root case old new e h = record { of = not_agreed _ _ is.declares e (root_refuses text (ManyOfBoth sources root text) d read sources root r is.declares (λ i k many. many) e h); told = tt }
+    pub refused_by_root : (form : Option Form) (old new : List ℕ) (e : Fault) → Refuses (Root r) d e → IsCallVerdict (agree sources root text) form old new (Err e)
+    refused_by_root form old new e h = record { of = not_agreed _ _ is.declares e (root_refuses text (ManyOfBoth sources root text) d read sources root r is.declares (λ i k many. many) e h); told = tt }
 
-    pub refused_by_schema : (case : Case) (old new : List ℕ) (e : Fault) → Refuses (Schema s) d e → IsCallVerdict (agree sources root text) case old new (Err e)
-    refused_by_schema case old new e h = record { of = not_agreed _ _ is.declares e (schema_refuses text (ManyOfBoth sources root text) d read is.schema_text s is.read (by_export is) e h); told = tt }
+    pub refused_by_schema : (form : Option Form) (old new : List ℕ) (e : Fault) → Refuses (Schema s) d e → IsCallVerdict (agree sources root text) form old new (Err e)
+    refused_by_schema form old new e h = record { of = not_agreed _ _ is.declares e (schema_refuses text (ManyOfBoth sources root text) d read is.schema_text s is.read (by_export is) e h); told = tt }
 
     -- both sides answer, and so the same
     pub same_truth : (a b : Bool) → Judges (Root r) d a → Judges (Schema s) d b → a ≡ b
@@ -154,9 +154,9 @@ module _ (sources : List (List ℕ)) (root text : List ℕ) where
         record { verdict = vetted; schema_text = is.schema_text; exported = is.exported; translated = is.translated; validated = subst (IsValidated is.schema_text text) (sym same) valid }
 
     -- and the report of one side tells it
-    pub agreed : (case : Case) (old mid new : List ℕ) (a b truth : Bool) → Judges (Root r) d a → Judges (Schema s) d b
-        → ReportsAsked (root_form (asked_form case.why)) a old mid → ReportsAsked (schema_form (asked_form case.why)) b mid new → truth ≡ a → IsCallVerdict (agree sources root text) case old new (Ok truth)
-    agreed case old mid new a b truth by_root by_schema from_root from_schema is_truth = record {
+    pub agreed : (form : Option Form) (old mid new : List ℕ) (a b truth : Bool) → Judges (Root r) d a → Judges (Schema s) d b
+        → ReportsAsked (root_form form) a old mid → ReportsAsked (schema_form form) b mid new → truth ≡ a → IsCallVerdict (agree sources root text) form old new (Ok truth)
+    agreed form old mid new a b truth by_root by_schema from_root from_schema is_truth = record {
       of = record { found = (subst (IsAgreement sources root text) (sym is_truth) (agreement a b by_root by_schema), refl); refused = tt; only = λ ready. tt };
-      told = reports_same (asked_form case.why) _ _ _ _ (sym is_truth) (one_side (asked_form case.why) a b old mid new (same_truth a b by_root by_schema) from_root from_schema);
+      told = reports_same form _ _ _ _ (sym is_truth) (one_side form a b old mid new (same_truth a b by_root by_schema) from_root from_schema);
     }

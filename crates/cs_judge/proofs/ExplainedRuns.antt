@@ -1,19 +1,17 @@
 -- What is told of answers, written and left.
 use Rattle.std.proofs.Common.{◌≡◌, ℕ, ◌+◌, ◌-◌, ◌^◌, min, List, [], ◌∷◌, ◌++◌, length, Bool, true, false, Option, None, Some, Ok, Err, IfOk, IfErr, refl, sym, ap, subst, ◌∙◌, arith, append_assoc, length-append, codes, if◌then◌else◌}
 use Rattle.cs_place.specs.Shown.{shown}
-use Rattle.cs_reason_words.specs.Formats.{asks_standard}
+use Rattle.cs_format.specs.Formats.{asks_standard}
 use Rattle.cs_reason_words.specs.Valid.{Reports}
-use Rattle.cs_reason_words.specs.declared.form.Form.{Form}
-use Rattle.cs_reason_words.specs.declared.form.Form.TheVariants.{Lines, Object}
-use Rattle.cs_reason_words.specs.declared.form.Format.{Format}
+use Rattle.cs_format.specs.declared.Form.{Form}
+use Rattle.cs_format.specs.declared.Form.TheVariants.{Lines, Object}
+use Rattle.cs_format.specs.declared.Format.{Format}
 use Rattle.cs_tool.specs.declared.rules.Rules.{Rules}
-use Rattle.cs_judge.specs.Answering.{AreAnswered, StandsAt}
-use Rattle.cs_judge.specs.declared.lines.LineRun.{LineRun}
-use Rattle.cs_judge.specs.Explained.{IsTold, Tells, root_form, schema_form, IsReport, ReportsAsked, IsLabelled, members_text, input_member, IsDocumentFront, IsBehindFront, IsWrittenOf, behind, told_line, line_number, no_object, one_object, AreTold, IsWritten, AreToldTo}
+use Rattle.cs_judge.specs.Explained.{IsTold, Tells, root_form, schema_form, IsReport, ReportsAsked, IsLabelled, members_text, input_member, IsDocumentFront, IsBehindFront, IsWrittenOf, behind, told_line, line_number, no_object, one_object, AreTold, IsWritten}
 use Rattle.cs_judge.specs.Judged.{call_on}
-use Rattle.cs_judge.specs.Lines.{Answer, IsTextAnswer, IsLineAnswer, answer_line, worse, outcome_of_answer, Hands}
+use Rattle.cs_judge.specs.Lines.{Answer, IsTextAnswer, AreAnswerLines, answer_line}
 use Rattle.cs_tool.specs.Runs.{IsCallAnswer, IsCallRefusal, verdict_text}
-use Rattle.cs_judge.proofs.LineRuns.{line_told, one_more, weaker}
+use Rattle.cs_judge.proofs.LineLists.{text_push}
 
 -- nothing was told before
 pub told_first : (form : Option Form) (truth : Bool) (told : List ℕ) → Tells form truth [] told → IsTold form truth told
@@ -55,7 +53,11 @@ pub written_object : (format : Format) (name label told : List ℕ) (answer : An
     → (text : List ℕ) → IsBehindFront name (members_text answer told) text → IsWrittenOf (Some (Object format)) label answer text
 written_object format name label told answer same h text b = (b.0, subst (λ n. IsDocumentFront n b.0) same b.1, (told, h, b.2))
 
--- ---- the objects of lines
+-- ---- the lines, or the objects of lines
+
+-- the line of an answer is what is told of it
+line_told : (answer : Answer) (answers : List Answer) (text : List ℕ) → AreAnswerLines answers text → AreAnswerLines (answers ++ answer ∷ []) (text ++ answer_line answer)
+line_told answer answers text is = ap (λ t. t ++ answer_line answer) is ∙ sym (text_push answers answer)
 
 -- no line is answered
 pub told_none : (form : Option Form) → AreTold form [] []
@@ -64,7 +66,7 @@ told_none (Some Lines) = refl
 told_none (Some (Object format)) = no_object
 
 -- one more is
-told_more : (form : Option Form) (answers : List Answer) (text : List ℕ) (answer : Answer) (more : List ℕ) → AreTold form answers text → IsWritten form (line_number answers) answer more → AreTold form (answers ++ answer ∷ []) (text ++ more)
+pub told_more : (form : Option Form) (answers : List Answer) (text : List ℕ) (answer : Answer) (more : List ℕ) → AreTold form answers text → IsWritten form (line_number answers) answer more → AreTold form (answers ++ answer ∷ []) (text ++ more)
 told_more None answers text answer more h w = ap (λ m. text ++ m) w ∙ line_told answer answers text h
 told_more (Some Lines) answers text answer more h w = ap (λ m. text ++ m) w ∙ line_told answer answers text h
 told_more (Some (Object format)) answers text answer more h w = one_object answer more h w
@@ -72,26 +74,8 @@ told_more (Some (Object format)) answers text answer more h w = one_object answe
 next : (n m most : ℕ) → m ≡ min (n + 1) most → min (m + 1) most ≡ min (n + 1 + 1) most
 next n m most is = omega arith
 
-next_number : (answers : List Answer) (answer : Answer) (number : ℕ) → number ≡ line_number answers → min (number + 1) (2 ^ 64 - 1) ≡ line_number (answers ++ answer ∷ [])
+pub next_number : (answers : List Answer) (answer : Answer) (number : ℕ) → number ≡ line_number answers → min (number + 1) (2 ^ 64 - 1) ≡ line_number (answers ++ answer ∷ [])
 next_number answers answer number is = next (length answers) number (2 ^ 64 - 1) is ∙ ap (λ n. min (n + 1) (2 ^ 64 - 1)) (sym (length-append answers (answer ∷ [])))
-
-module _ (form : Option Form) (number : ℕ) (answer : Answer) (more : List ℕ) (w : IsWritten form number answer more) (answers : List Answer) (text : List ℕ) (h : AreToldTo form number answers text) where
-  pub written : AreTold form (answers ++ answer ∷ []) (text ++ more)
-  written = told_more form answers text answer more h.0 (subst (λ n. IsWritten form n answer more) h.1 w)
-
-  pub written_to : AreToldTo form (min (number + 1) (2 ^ 64 - 1)) (answers ++ answer ∷ []) (text ++ more)
-  written_to = (written, next_number answers answer number h.1)
-
--- one more line is answered, and the next one is begun
-pub next_line : (form : Option Form) (number : ℕ) (answer : Answer) (more : List ℕ) → IsWritten form number answer more
-    → (rules : Rules) (start mid now : Option (List ℕ)) (lines : List (List ℕ)) (line : List ℕ) (run : LineRun) → AreAnswered (AreToldTo form number) rules start mid lines run → IsLineAnswer rules line answer
-    → (after : LineRun) → after.line.line ≡ min (number + 1) (2 ^ 64 - 1) → Hands mid now (run.held ++ more) after.held → after.outcome ≡ worse run.outcome (outcome_of_answer answer) → StandsAt form rules start now (lines ++ line ∷ []) after
-next_line form number answer more w rules start mid now lines line run a is after next handed outcome =
-    subst (λ n. AreAnswered (AreToldTo form n) rules start now (lines ++ line ∷ []) after) (sym next) (one_more rules start mid now lines line answer more run (written_to form number answer more w) a is after handed outcome)
-
--- whatever the number of the next line is
-pub at_any_line : (form : Option Form) (number : ℕ) (rules : Rules) (start now : Option (List ℕ)) (lines : List (List ℕ)) (run : LineRun) → AreAnswered (AreToldTo form number) rules start now lines run → AreAnswered (AreTold form) rules start now lines run
-at_any_line form number rules start now lines run = weaker rules start now lines run (λ answers text told. told.0)
 
 -- something is written of each answer
 pub some_written : (form : Option Form) (number : ℕ) (answer : Answer) (told : List ℕ) → IfOk answer (λ b. IsTold form b told) → (more : List ℕ) × IsWritten form number answer more

@@ -6,12 +6,12 @@ pub mod BySides
 pub mod ByRules
 -- lines of bytes, and the answers to them
 pub mod LineLists
+-- what is told of documents and lines
+pub mod ExplainedRuns
 pub mod LineRuns
 pub mod Newlines
 pub mod OneSplit
 pub mod RulesRefused
 pub mod WrittenTexts
--- documents with what is told of them
-pub mod ExplainedRuns
 -- samples
 mod LineSamples

@@ -86,22 +86,12 @@ begins_more bytes more lines h = (h.0 ++ more, ap (λ b. b ++ more) h.1 ∙ appe
 -- a byte before bytes: a newline ends an empty line, another one begins the first line
 other_byte : (b : ℕ) (bytes : List ℕ) → b ≢ 10 → (lines : List (List ℕ)) (rest : List ℕ) → Splits bytes lines rest → (ls : List (List ℕ)) × (r : List ℕ) × Splits (b ∷ bytes) ls r
 other_byte b bytes other [] rest split = ([], b ∷ rest, record { whole = ap (λ t. b ∷ t) split.whole; each = split.each; open_end = All-cons (λ b. b ≢ 10) b rest other split.open_end })
-other_byte b bytes other (l ∷ lines) rest split = (
-  (b ∷ l) ∷ lines,
-  rest,
-  record {
-    whole = ap (λ t. b ∷ t) split.whole;
-    each = All-cons IsLine (b ∷ l) lines (All-cons (λ b. b ≢ 10) b l other (All-head IsLine l lines split.each)) (All-tail IsLine l lines split.each);
-    open_end = split.open_end;
-  },
-)
+other_byte b bytes other (l ∷ lines) rest split =
+    let each = All-cons IsLine (b ∷ l) lines (All-cons (λ b. b ≢ 10) b l other (All-head IsLine l lines split.each)) (All-tail IsLine l lines split.each) in
+    ((b ∷ l) ∷ lines, rest, record { whole = ap (λ t. b ∷ t) split.whole; each = each; open_end = split.open_end })
 
 newline : (bytes : List ℕ) (lines : List (List ℕ)) (rest : List ℕ) → Splits bytes lines rest → Splits (10 ∷ bytes) ([] ∷ lines) rest
-newline bytes lines rest split = record {
-  whole = ap (λ t. 10 ∷ t) split.whole;
-  each = All-cons IsLine [] lines (All-nil (λ b. b ≢ 10)) split.each;
-  open_end = split.open_end;
-}
+newline bytes lines rest split = record { whole = ap (λ t. 10 ∷ t) split.whole; each = All-cons IsLine [] lines (All-nil (λ b. b ≢ 10)) split.each; open_end = split.open_end }
 
 -- all bytes are lines and a rest
 pub split_of : (bytes : List ℕ) → (lines : List (List ℕ)) × (rest : List ℕ) × Splits bytes lines rest

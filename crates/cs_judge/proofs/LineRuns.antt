@@ -1,20 +1,24 @@
 -- The steps of a run over lines, and how it ends: at the input's end, where a read fails, and where a write fails.
-use Rattle.std.proofs.Common.{◌≡◌, ◌≢◌, ℕ, ◌+◌, ◌≤◌, List, [], ◌∷◌, ◌++◌, length, take, drop, Option, None, Some, Result, Err, IfErr, refl, sym, ap, subst, ◌∙◌, arith, append-nil, append_assoc, length-append}
+use Rattle.std.proofs.Common.{◌≡◌, ◌≢◌, ℕ, ◌+◌, ◌-◌, ◌^◌, ◌≤◌, min, List, [], ◌∷◌, ◌++◌, length, take, drop, Option, None, Some, Result, Err, IfErr, refl, sym, ap, subst, ◌∙◌, arith, append-nil, append_assoc, length-append}
 use Rattle.std.specs.Option.{IfSome}
 use Rattle.std.specs.Io.KnownBytes.{Appends, Consumes, IsAtEnd}
 use Rattle.std.proofs.KnownBytes.{Appends-nil, Appends-trans, Consumes-trans}
 use Rattle.std.proofs.Math.Seq.{take-append-add}
 use Rattle.std.proofs.lemmas.List.{take-append-drop, take-append-le}
 use Rattle.cs_judge.specs.declared.answers.LinesOutcome.TheVariants.{AllValid}
+use Rattle.cs_format.specs.declared.Form.{Form}
 use Rattle.cs_tool.specs.declared.fault.Fault.{Fault}
 use Rattle.cs_tool.specs.declared.fault.Fault.TheVariants.{WriteFailed}
 use Rattle.cs_judge.specs.declared.lines.LineRun.{LineRun}
 use Rattle.cs_tool.specs.declared.rules.Rules.{Rules}
 use Rattle.cs_judge.specs.Answering.{AreAnswered, IsAnswered, AreCutOff, IsCutOffIn, BeginsWith}
 use Rattle.cs_judge.specs.Begun.{HoldsFront}
-use Rattle.cs_judge.specs.Lines.{Answer, IsLine, Splits, last_line, AreLines, AreFirstLines, IsLineAnswer, AreAnswerLines, answer_line, worse, outcome_of_answer, IsDone, IsCutOff, LeavesLines, Hands}
+use Rattle.cs_judge.specs.Explained.{IsWritten}
+use Rattle.cs_judge.specs.Lines.{Answer, IsLine, Splits, last_line, AreLines, AreFirstLines, IsLineAnswer, worse, outcome_of_answer, Hands}
+use Rattle.cs_judge.specs.Runs.{Answered, IsDone, IsCutOff, IsStopped, LeavesLines}
 use Rattle.cs_tool.specs.Streams.{AppendsFront}
-use Rattle.cs_judge.proofs.LineLists.{answers_push, outcome_push, text_push, hands_both, hands_more, no_bytes, piece_more, line_more, split_begins, begins_more, first_lines}
+use Rattle.cs_judge.proofs.ExplainedRuns.{told_none, told_more, next_number}
+use Rattle.cs_judge.proofs.LineLists.{answers_push, outcome_push, hands_both, hands_more, no_bytes, piece_more, line_more, split_begins, begins_more, first_lines}
 
 -- ---- what was written
 
@@ -37,9 +41,9 @@ front_more old new text more w =
     let short : w.0 ≤ length (text ++ more) = omega (arith, w.1, length-append text more) in
     (w.0, short, subst (Appends old new) (sym (take-append-le w.0 text more w.1)) w.2)
 
-module _ {IsTextOf : List Answer → List ℕ → Type 0} (rules : Rules) (start mid now : Option (List ℕ)) (lines : List (List ℕ)) (run : LineRun) (a : AreAnswered IsTextOf rules start mid lines run) where
-  pub lines_cut_off : AppendsFront mid now run.held → AreCutOff IsTextOf rules lines start now
-  lines_cut_off w = record { answers = a.answers; answered = a.answered; text = a.text; told = a.told; written = front_written start mid now a.text run.held a.handed w }
+module _ {form : Option Form} (rules : Rules) (start mid now : Option (List ℕ)) (lines : List (List ℕ)) (run : LineRun) (a : AreAnswered form rules start mid lines run) where
+  pub lines_cut_off : AppendsFront mid now run.held → AreCutOff form rules lines start now
+  lines_cut_off w = record { said = a.said; written = front_written start mid now a.said.text run.held a.handed w }
 
 -- nothing more is written
 pub none_written : (now : Option (List ℕ)) (text : List ℕ) → AppendsFront now now text
@@ -47,19 +51,10 @@ none_written now text = (0, omega arith, Appends-nil now)
 
 -- ---- what was read
 
-pub lines_of_whole : (remaining left : Option (List ℕ)) (bytes : List ℕ) (lines : List (List ℕ)) → Consumes remaining left bytes → IsAtEnd left → AreLines bytes lines → IfSome remaining (λ xs. AreLines xs lines)
-lines_of_whole None left bytes lines given end h = tt
-lines_of_whole (Some xs) None bytes lines given end h = absurd given
-lines_of_whole (Some xs) (Some ys) bytes lines given end h =
-    let same : xs ≡ bytes = given ∙ ap (λ t. bytes ++ t) end ∙ append-nil bytes in
-    subst (λ b. AreLines b lines) (sym same) h
-
-pub first_of_whole : (remaining left : Option (List ℕ)) (bytes : List ℕ) (lines : List (List ℕ)) → Consumes remaining left bytes → IsAtEnd left → AreFirstLines bytes lines → IfSome remaining (λ xs. AreFirstLines xs lines)
-first_of_whole None left bytes lines given end h = tt
-first_of_whole (Some xs) None bytes lines given end h = absurd given
-first_of_whole (Some xs) (Some ys) bytes lines given end h =
-    let same : xs ≡ bytes = given ∙ ap (λ t. bytes ++ t) end ∙ append-nil bytes in
-    subst (λ b. AreFirstLines b lines) (sym same) h
+pub of_whole : (P : List ℕ → Type 0) (remaining left : Option (List ℕ)) (bytes : List ℕ) → Consumes remaining left bytes → IsAtEnd left → P bytes → IfSome remaining P
+of_whole P None left bytes given end h = tt
+of_whole P (Some xs) None bytes given end h = absurd given
+of_whole P (Some xs) (Some ys) bytes given end h = subst P (sym (given ∙ ap (λ t. bytes ++ t) end ∙ append-nil bytes)) h
 
 pub first_of_input : (remaining left : Option (List ℕ)) (bytes : List ℕ) (lines : List (List ℕ)) → Consumes remaining left bytes → BeginsWith bytes lines → IfSome remaining (λ xs. AreFirstLines xs lines)
 first_of_input None left bytes lines given h = tt
@@ -68,112 +63,57 @@ first_of_input (Some xs) (Some ys) bytes lines given h = subst (λ b. AreFirstLi
 
 -- ---- how a run ends
 
-module _ {IsTextOf : List Answer → List ℕ → Type 0} (rules : Rules) (remaining left start now : Option (List ℕ)) (bytes : List ℕ) (given : Consumes remaining left bytes) where
-  pub cut_off : IsCutOffIn IsTextOf rules bytes start now → IsCutOff IsTextOf rules remaining start now
-  cut_off h = record {
-    lines = h.0;
-    answers = h.2.answers;
-    read = first_of_input remaining left bytes h.0 given h.1;
-    answered = h.2.answered;
-    text = h.2.text;
-    told = h.2.told;
-    written = h.2.written;
-  }
+module _ {form : Option Form} (rules : Rules) (remaining left start now : Option (List ℕ)) (bytes : List ℕ) (given : Consumes remaining left bytes) where
+  pub cut_off : IsCutOffIn form rules bytes start now → IsCutOff form rules remaining start now
+  cut_off h = record { lines = h.0; read = first_of_input remaining left bytes h.0 given h.1; said = h.2.said; written = h.2.written }
 
-  pub cut_off_at_end : IsAtEnd left → IsCutOff IsTextOf rules (Some bytes) start now → IsCutOff IsTextOf rules remaining start now
-  cut_off_at_end end h = record {
-    lines = h.lines;
-    answers = h.answers;
-    read = first_of_whole remaining left bytes h.lines given end h.read;
-    answered = h.answered;
-    text = h.text;
-    told = h.told;
-    written = h.written;
-  }
+  pub cut_off_at_end : IsAtEnd left → IsCutOff form rules (Some bytes) start now → IsCutOff form rules remaining start now
+  cut_off_at_end end h = record { lines = h.lines; read = of_whole (λ b. AreFirstLines b h.lines) remaining left bytes given end h.read; said = h.said; written = h.written }
 
-  pub done : IsAtEnd left → {outcome : _} → IsDone IsTextOf rules (Some bytes) start now outcome → IsDone IsTextOf rules remaining start now outcome
-  done end h = record {
-    lines = h.lines;
-    answers = h.answers;
-    read = lines_of_whole remaining left bytes h.lines given end h.read;
-    answered = h.answered;
-    text = h.text;
-    told = h.told;
-    written = h.written;
-    outcome_is = h.outcome_is;
-  }
+  pub done : IsAtEnd left → {outcome : _} → IsDone form rules (Some bytes) start now outcome → IsDone form rules remaining start now outcome
+  done end h = record { lines = h.lines; read = of_whole (λ b. AreLines b h.lines) remaining left bytes given end h.read; said = h.said; written = h.written; outcome_is = h.outcome_is }
 
 -- ---- the steps of a run
 
 -- before the first read
-pub nothing_read : {IsTextOf : List Answer → List ℕ → Type 0} (rules : Rules) (now : Option (List ℕ)) (run : LineRun) → IsTextOf [] [] → HoldsFront run.begun [] → run.held ≡ [] → run.outcome ≡ AllValid → IsAnswered IsTextOf rules now now [] run
-nothing_read rules now run told begun none outcome = record {
+pub nothing_read : {form : Option Form} (rules : Rules) (now : Option (List ℕ)) (run : LineRun) → HoldsFront run.begun [] → run.held ≡ [] → run.outcome ≡ AllValid → run.line.line ≡ 1 → IsAnswered form rules now now [] run
+nothing_read {form} rules now run begun none outcome first = record {
   lines = [];
   rest = [];
   split = no_bytes;
   begun = begun;
-  answered = record { answers = []; answered = tt; text = []; told = told; handed = ([], Appends-nil now, sym none); outcome_is = outcome };
+  answered = record { said = record { answers = []; answered = tt; text = []; told = told_none form }; handed = ([], Appends-nil now, sym none); outcome_is = outcome; number_is = first };
 }
 
 -- nothing of the answers changes
-pub same_answers : {IsTextOf : List Answer → List ℕ → Type 0} (rules : Rules) (start now : Option (List ℕ)) (lines : List (List ℕ)) (run after : LineRun) → AreAnswered IsTextOf rules start now lines run → after.held ≡ run.held → after.outcome ≡ run.outcome → AreAnswered IsTextOf rules start now lines after
-same_answers rules start now lines run after a held outcome = record {
-  answers = a.answers;
-  answered = a.answered;
-  text = a.text;
-  told = a.told;
-  handed = subst (Hands start now a.text) (sym held) a.handed;
-  outcome_is = outcome ∙ a.outcome_is;
-}
+pub same_answers : {form : Option Form} (rules : Rules) (start now : Option (List ℕ)) (lines : List (List ℕ)) (run after : LineRun) → AreAnswered form rules start now lines run → after.held ≡ run.held → after.outcome ≡ run.outcome → after.line.line ≡ run.line.line → AreAnswered form rules start now lines after
+same_answers rules start now lines run after a held outcome number = record { said = a.said; handed = subst (Hands start now a.said.text) (sym held) a.handed; outcome_is = outcome ∙ a.outcome_is; number_is = number ∙ a.number_is }
 
 -- what was held is written
-pub written_out : {IsTextOf : List Answer → List ℕ → Type 0} (rules : Rules) (start mid now : Option (List ℕ)) (bytes : List ℕ) (run after : LineRun) → IsAnswered IsTextOf rules start mid bytes run → Appends mid now run.held
-    → after.begun ≡ run.begun → after.held ≡ [] → after.outcome ≡ run.outcome → IsAnswered IsTextOf rules start now bytes after
-written_out rules start mid now bytes run after a w begun none outcome =
+pub written_out : {form : Option Form} (rules : Rules) (start mid now : Option (List ℕ)) (bytes : List ℕ) (run after : LineRun) → IsAnswered form rules start mid bytes run → Appends mid now run.held
+    → after.begun ≡ run.begun → after.held ≡ [] → after.outcome ≡ run.outcome → after.line.line ≡ run.line.line → IsAnswered form rules start now bytes after
+written_out rules start mid now bytes run after a w begun none outcome number =
     let b = a.answered in
-    record {
-      lines = a.lines;
-      rest = a.rest;
-      split = a.split;
-      begun = subst (λ l. HoldsFront l a.rest) (sym begun) a.begun;
-      answered = record {
-        answers = b.answers;
-        answered = b.answered;
-        text = b.text;
-        told = b.told;
-        handed = subst (Hands start now b.text) (sym none) (b.text, held_written start mid now b.text run.held b.handed w, sym (append-nil b.text));
-        outcome_is = outcome ∙ b.outcome_is;
-      };
-    }
+    let handed = subst (Hands start now b.said.text) (sym none) (b.said.text, held_written start mid now b.said.text run.held b.handed w, sym (append-nil b.said.text)) in
+    let front = subst (λ l. HoldsFront l a.rest) (sym begun) a.begun in
+    record { lines = a.lines; rest = a.rest; split = a.split; begun = front; answered = record { said = b.said; handed = handed; outcome_is = outcome ∙ b.outcome_is; number_is = number ∙ b.number_is } }
 
-module _ {IsTextOf : List Answer → List ℕ → Type 0} (rules : Rules) (start mid now : Option (List ℕ)) (bytes piece : List ℕ) (run after : LineRun) (a : IsAnswered IsTextOf rules start mid bytes run) (clean : IsLine piece) where
+module _ {form : Option Form} (rules : Rules) (start mid now : Option (List ℕ)) (bytes piece : List ℕ) (run after : LineRun) (a : IsAnswered form rules start mid bytes run) (clean : IsLine piece) where
   -- the piece ends a line, which is answered
-  pub line_answered : {After : List Answer → List ℕ → Type 0} → AreAnswered After rules start now (a.lines ++ (a.rest ++ piece) ∷ []) after → HoldsFront after.begun [] → IsAnswered After rules start now (bytes ++ piece ++ 10 ∷ []) after
-  line_answered answered begun = record {
-    lines = a.lines ++ (a.rest ++ piece) ∷ [];
-    rest = [];
-    split = line_more bytes a.lines a.rest a.split piece clean;
-    begun = begun;
-    answered = answered;
-  }
+  pub line_answered : AreAnswered form rules start now (a.lines ++ (a.rest ++ piece) ∷ []) after → HoldsFront after.begun [] → IsAnswered form rules start now (bytes ++ piece ++ 10 ∷ []) after
+  line_answered answered begun = record { lines = a.lines ++ (a.rest ++ piece) ∷ []; rest = []; split = line_more bytes a.lines a.rest a.split piece clean; begun = begun; answered = answered }
 
   -- the piece is kept
-  pub piece_kept : AreAnswered IsTextOf rules start now a.lines after → HoldsFront after.begun (a.rest ++ piece) → IsAnswered IsTextOf rules start now (bytes ++ piece) after
-  piece_kept answered begun = record {
-    lines = a.lines;
-    rest = a.rest ++ piece;
-    split = piece_more bytes a.lines a.rest a.split piece clean;
-    begun = begun;
-    answered = answered;
-  }
+  pub piece_kept : AreAnswered form rules start now a.lines after → HoldsFront after.begun (a.rest ++ piece) → IsAnswered form rules start now (bytes ++ piece) after
+  piece_kept answered begun = record { lines = a.lines; rest = a.rest ++ piece; split = piece_more bytes a.lines a.rest a.split piece clean; begun = begun; answered = answered }
 
-module _ {IsTextOf : List Answer → List ℕ → Type 0} (rules : Rules) (start mid now : Option (List ℕ)) (bytes : List ℕ) (run : LineRun) (a : IsAnswered IsTextOf rules start mid bytes run) where
+module _ {form : Option Form} (rules : Rules) (start mid now : Option (List ℕ)) (bytes : List ℕ) (run : LineRun) (a : IsAnswered form rules start mid bytes run) where
   -- a write fails while lines of these bytes are answered
-  pub answers_cut_off : {After : List Answer → List ℕ → Type 0} → AreCutOff After rules a.lines start now → IsCutOffIn After rules bytes start now
+  pub answers_cut_off : AreCutOff form rules a.lines start now → IsCutOffIn form rules bytes start now
   answers_cut_off cut = (a.lines, split_begins bytes a.lines a.rest a.split, cut)
 
   -- a write fails while the line is answered that a piece ends
-  pub line_cut_off : (piece : List ℕ) → IsLine piece → {After : List Answer → List ℕ → Type 0} → AreCutOff After rules (a.lines ++ (a.rest ++ piece) ∷ []) start now → IsCutOffIn After rules (bytes ++ piece ++ 10 ∷ []) start now
+  pub line_cut_off : (piece : List ℕ) → IsLine piece → AreCutOff form rules (a.lines ++ (a.rest ++ piece) ∷ []) start now → IsCutOffIn form rules (bytes ++ piece ++ 10 ∷ []) start now
   line_cut_off piece clean cut = (a.lines ++ (a.rest ++ piece) ∷ [], split_begins (bytes ++ piece ++ 10 ∷ []) (a.lines ++ (a.rest ++ piece) ∷ []) [] (line_more bytes a.lines a.rest a.split piece clean), cut)
 
 last_is_one : (rest : List ℕ) → rest ≢ [] → last_line rest ≡ (rest ++ []) ∷ []
@@ -185,114 +125,69 @@ last_lines : (bytes : List ℕ) (lines : List (List ℕ)) (rest : List ℕ) → 
 last_lines bytes lines rest split some = (lines, rest, split, ap (λ l. lines ++ l) (sym (last_is_one rest some)))
 
 -- the lines of the whole input are answered
-abbrev pub AreAllAnswered : (List Answer → List ℕ → Type 0) → Rules → Option (List ℕ) → Option (List ℕ) → List ℕ → LineRun → Type 0
-AreAllAnswered IsTextOf rules start now bytes run = (lines : List (List ℕ)) × AreLines bytes lines × AreAnswered IsTextOf rules start now lines run
+abbrev pub AreAllAnswered : Option Form → Rules → Option (List ℕ) → Option (List ℕ) → List ℕ → LineRun → Type 0
+AreAllAnswered form rules start now bytes run = (lines : List (List ℕ)) × AreLines bytes lines × AreAnswered form rules start now lines run
 
-module _ {IsTextOf : List Answer → List ℕ → Type 0} (rules : Rules) (start now : Option (List ℕ)) (bytes : List ℕ) (run : LineRun) (a : IsAnswered IsTextOf rules start now bytes run) where
+module _ {form : Option Form} (rules : Rules) (start now : Option (List ℕ)) (bytes : List ℕ) (run : LineRun) (a : IsAnswered form rules start now bytes run) where
   -- no line is begun
-  pub none_begun : a.rest ≡ [] → AreAllAnswered IsTextOf rules start now bytes run
+  pub none_begun : a.rest ≡ [] → AreAllAnswered form rules start now bytes run
   none_begun none = (a.lines, (a.lines, a.rest, a.split, sym (ap (λ r. a.lines ++ last_line r) none ∙ append-nil a.lines)), a.answered)
 
   -- the line that is begun is answered
-  pub last_answered : {After : List Answer → List ℕ → Type 0} (later : Option (List ℕ)) (after : LineRun) → a.rest ≢ [] → AreAnswered After rules start later (a.lines ++ (a.rest ++ []) ∷ []) after → AreAllAnswered After rules start later bytes after
+  pub last_answered : (later : Option (List ℕ)) (after : LineRun) → a.rest ≢ [] → AreAnswered form rules start later (a.lines ++ (a.rest ++ []) ∷ []) after → AreAllAnswered form rules start later bytes after
   last_answered later after some answered = (a.lines ++ (a.rest ++ []) ∷ [], last_lines bytes a.lines a.rest a.split some, answered)
 
   -- a write fails while the last line is answered
-  pub last_cut_off : (later : Option (List ℕ)) → AreCutOff IsTextOf rules a.lines start later → IsCutOff IsTextOf rules (Some bytes) start later
-  last_cut_off later cut = record {
-    lines = a.lines;
-    answers = cut.answers;
-    read = first_lines bytes a.lines (split_begins bytes a.lines a.rest a.split);
-    answered = cut.answered;
-    text = cut.text;
-    told = cut.told;
-    written = cut.written;
-  }
+  pub last_cut_off : (later : Option (List ℕ)) → AreCutOff form rules a.lines start later → IsCutOff form rules (Some bytes) start later
+  last_cut_off later cut = record { lines = a.lines; read = first_lines bytes a.lines (split_begins bytes a.lines a.rest a.split); said = cut.said; written = cut.written }
 
   -- the same, where a part of it may be written
-  pub last_broken_off : {After : List Answer → List ℕ → Type 0} (later : Option (List ℕ)) → a.rest ≢ [] → AreCutOff After rules (a.lines ++ (a.rest ++ []) ∷ []) start later → IsCutOff After rules (Some bytes) start later
-  last_broken_off later some cut = record {
-    lines = a.lines ++ (a.rest ++ []) ∷ [];
-    answers = cut.answers;
-    read = ([], subst (AreLines bytes) (sym (append-nil (a.lines ++ (a.rest ++ []) ∷ []))) (last_lines bytes a.lines a.rest a.split some));
-    answered = cut.answered;
-    text = cut.text;
-    told = cut.told;
-    written = cut.written;
-  }
+  pub last_broken_off : (later : Option (List ℕ)) → a.rest ≢ [] → AreCutOff form rules (a.lines ++ (a.rest ++ []) ∷ []) start later → IsCutOff form rules (Some bytes) start later
+  last_broken_off later some cut =
+      let lines = a.lines ++ (a.rest ++ []) ∷ [] in
+      record { lines = lines; read = ([], subst (AreLines bytes) (sym (append-nil lines)) (last_lines bytes a.lines a.rest a.split some)); said = cut.said; written = cut.written }
 
-module _ {IsTextOf : List Answer → List ℕ → Type 0} (rules : Rules) (start mid now : Option (List ℕ)) (bytes : List ℕ) (run : LineRun) (a : AreAllAnswered IsTextOf rules start mid bytes run) where
-  pub all_done : Appends mid now run.held → IsDone IsTextOf rules (Some bytes) start now run.outcome
-  all_done w = record {
-    lines = a.0;
-    answers = a.2.answers;
-    read = a.1;
-    answered = a.2.answered;
-    text = a.2.text;
-    told = a.2.told;
-    written = held_written start mid now a.2.text run.held a.2.handed w;
-    outcome_is = a.2.outcome_is;
-  }
+module _ {form : Option Form} (rules : Rules) (start mid now : Option (List ℕ)) (bytes : List ℕ) (run : LineRun) (a : AreAllAnswered form rules start mid bytes run) where
+  pub all_done : Appends mid now run.held → IsDone form rules (Some bytes) start now run.outcome
+  all_done w = record { lines = a.0; read = a.1; said = a.2.said; written = held_written start mid now a.2.said.text run.held a.2.handed w; outcome_is = a.2.outcome_is }
 
-  pub all_cut_off : AppendsFront mid now run.held → IsCutOff IsTextOf rules (Some bytes) start now
-  all_cut_off w = record {
-    lines = a.0;
-    answers = a.2.answers;
-    read = ([], subst (AreLines bytes) (sym (append-nil a.0)) a.1);
-    answered = a.2.answered;
-    text = a.2.text;
-    told = a.2.told;
-    written = front_written start mid now a.2.text run.held a.2.handed w;
-  }
+  pub all_cut_off : AppendsFront mid now run.held → IsCutOff form rules (Some bytes) start now
+  all_cut_off w = record { lines = a.0; read = ([], subst (AreLines bytes) (sym (append-nil a.0)) a.1); said = a.2.said; written = front_written start mid now a.2.said.text run.held a.2.handed w }
 
-pub cut_off_more : {IsTextOf : List Answer → List ℕ → Type 0} (rules : Rules) (bytes more : List ℕ) (start now : Option (List ℕ)) → IsCutOffIn IsTextOf rules bytes start now → IsCutOffIn IsTextOf rules (bytes ++ more) start now
+pub cut_off_more : {form : Option Form} (rules : Rules) (bytes more : List ℕ) (start now : Option (List ℕ)) → IsCutOffIn form rules bytes start now → IsCutOffIn form rules (bytes ++ more) start now
 cut_off_more rules bytes more start now h = (h.0, begins_more bytes more h.0 h.1, h.2)
 
--- less is said of what is written
-pub weaker : {Before After : List Answer → List ℕ → Type 0} (rules : Rules) (start now : Option (List ℕ)) (lines : List (List ℕ)) (run : LineRun) → ((answers : List Answer) (text : List ℕ) → Before answers text → After answers text) → AreAnswered Before rules start now lines run → AreAnswered After rules start now lines run
-weaker rules start now lines run told a = record {
-  answers = a.answers;
-  answered = a.answered;
-  text = a.text;
-  told = told a.answers a.text a.told;
-  handed = a.handed;
-  outcome_is = a.outcome_is;
-}
+-- one more line is answered, and what is written of it stands behind the texts before
+module _ {form : Option Form} (rules : Rules) (start mid now : Option (List ℕ)) (lines : List (List ℕ)) (line : List ℕ) (answer : Answer) (more : List ℕ) (run : LineRun) (a : AreAnswered form rules start mid lines run) (is : IsLineAnswer rules line answer) (w : IsWritten form run.line.line answer more) where
+  abbrev all_said : Answered form rules (lines ++ line ∷ [])
+  all_said = record {
+    answers = a.said.answers ++ answer ∷ [];
+    answered = answers_push rules lines a.said.answers line answer a.said.answered is;
+    text = a.said.text ++ more;
+    told = told_more form a.said.answers a.said.text answer more a.said.told (subst (λ n. IsWritten form n answer more) a.number_is w);
+  }
 
--- one more line is answered, and what is written of it is told behind the texts before
-module _ {Before After : List Answer → List ℕ → Type 0} (rules : Rules) (start mid now : Option (List ℕ)) (lines : List (List ℕ)) (line : List ℕ) (answer : Answer) (more : List ℕ) (run : LineRun) (told : (answers : List Answer) (text : List ℕ) → Before answers text → After (answers ++ answer ∷ []) (text ++ more)) (a : AreAnswered Before rules start mid lines run) (is : IsLineAnswer rules line answer) where
-  pub one_more : (after : LineRun) → Hands mid now (run.held ++ more) after.held → after.outcome ≡ worse run.outcome (outcome_of_answer answer) → AreAnswered After rules start now (lines ++ line ∷ []) after
-  one_more after handed outcome = record {
-    answers = a.answers ++ answer ∷ [];
-    answered = answers_push rules lines a.answers line answer a.answered is;
-    text = a.text ++ more;
-    told = told a.answers a.text a.told;
-    handed = hands_more start mid now a.text run.held more after.held a.handed handed;
-    outcome_is = outcome ∙ ap (λ o. worse o (outcome_of_answer answer)) a.outcome_is ∙ sym (outcome_push a.answers answer);
+  pub one_more : (after : LineRun) → Hands mid now (run.held ++ more) after.held → after.outcome ≡ worse run.outcome (outcome_of_answer answer)
+      → after.line.line ≡ min (run.line.line + 1) (2 ^ 64 - 1) → AreAnswered form rules start now (lines ++ line ∷ []) after
+  one_more after handed outcome next = record {
+    said = all_said;
+    handed = hands_more start mid now a.said.text run.held more after.held a.handed handed;
+    outcome_is = outcome ∙ ap (λ o. worse o (outcome_of_answer answer)) a.outcome_is ∙ sym (outcome_push a.said.answers answer);
+    number_is = next ∙ next_number a.said.answers answer run.line.line a.number_is;
   }
 
   -- a write fails before all of it is written
-  pub more_cut_off : AppendsFront mid now (run.held ++ more) → AreCutOff After rules (lines ++ line ∷ []) start now
-  more_cut_off w = record {
-    answers = a.answers ++ answer ∷ [];
-    answered = answers_push rules lines a.answers line answer a.answered is;
-    text = a.text ++ more;
-    told = told a.answers a.text a.told;
-    written = front_written start mid now (a.text ++ more) (run.held ++ more) (hands_both start mid a.text run.held more a.handed) w;
-  }
-
--- the line of the answer is what is told of it
-pub line_told : (answer : Answer) (answers : List Answer) (text : List ℕ) → AreAnswerLines answers text → AreAnswerLines (answers ++ answer ∷ []) (text ++ answer_line answer)
-line_told answer answers text is = ap (λ t. t ++ answer_line answer) is ∙ sym (text_push answers answer)
+  pub more_cut_off : AppendsFront mid now (run.held ++ more) → AreCutOff form rules (lines ++ line ∷ []) start now
+  more_cut_off w = record { said = all_said; written = front_written start mid now (a.said.text ++ more) (run.held ++ more) (hands_both start mid a.said.text run.held more a.handed) w }
 
 pub regrouped : (bytes front piece more : List ℕ) → bytes ++ front ++ piece ++ more ≡ bytes ++ (front ++ piece ++ more)
 regrouped bytes front piece more = ap (λ t. t ++ more) (append_assoc bytes front piece) ∙ append_assoc bytes (front ++ piece) more
 
 -- a write fails within a chunk
-pub chunk_cut_off : {IsTextOf : List Answer → List ℕ → Type 0} (rules : Rules) (bytes chunk : List ℕ) (at : ℕ) (start now : Option (List ℕ)) → IsCutOffIn IsTextOf rules (bytes ++ take at chunk) start now → IsCutOffIn IsTextOf rules (bytes ++ chunk) start now
-chunk_cut_off {IsTextOf} rules bytes chunk at start now h =
+pub chunk_cut_off : {form : Option Form} (rules : Rules) (bytes chunk : List ℕ) (at : ℕ) (start now : Option (List ℕ)) → IsCutOffIn form rules (bytes ++ take at chunk) start now → IsCutOffIn form rules (bytes ++ chunk) start now
+chunk_cut_off {form} rules bytes chunk at start now h =
     let whole = append_assoc bytes (take at chunk) (drop at chunk) ∙ ap (λ t. bytes ++ t) (take-append-drop at chunk) in
-    subst (λ b. IsCutOffIn IsTextOf rules b start now) whole (cut_off_more rules (bytes ++ take at chunk) (drop at chunk) start now h)
+    subst (λ b. IsCutOffIn form rules b start now) whole (cut_off_more rules (bytes ++ take at chunk) (drop at chunk) start now h)
 
 -- a read that gave nothing
 pub read_nothing : (a b c : Option (List ℕ)) (bytes chunk : List ℕ) (count : ℕ) → Consumes a b bytes → Consumes b c (take count chunk) → count ≡ 0 → Consumes a c bytes
@@ -300,10 +195,17 @@ read_nothing a b c bytes chunk count before now none =
     let same : bytes ++ take count chunk ≡ bytes = ap (λ n. bytes ++ take n chunk) none ∙ append-nil bytes in
     subst (Consumes a c) same (Consumes-trans a b c bytes (take count chunk) before now)
 
+-- a read failed, where nothing is held
+pub stopped : {form : Option Form} (rules : Rules) (remaining left start now : Option (List ℕ)) (bytes : List ℕ) (run : LineRun) → Consumes remaining left bytes → IsAnswered form rules start now bytes run → run.held ≡ [] → IsStopped form rules remaining left start now
+stopped rules remaining left start now bytes run given a none =
+    let handed = a.answered.handed in
+    let whole = handed.2 ∙ ap (λ t. handed.0 ++ t) none ∙ append-nil handed.0 in
+    record { bytes = bytes; given = given; lines = a.lines; rest = a.rest; split = a.split; said = a.answered.said; written = subst (Appends start now) (sym whole) handed.1 }
+
 -- a write failed
-pub write_failed : {T : Type 0} {IsTextOf : List Answer → List ℕ → Type 0} (r : Result T Fault) (e : Fault) (rules : Rules) (remaining left old new : Option (List ℕ)) → r ≡ Err e → e ≡ WriteFailed → IsCutOff IsTextOf rules remaining old new → IfErr r (λ f. LeavesLines IsTextOf rules f remaining left old new)
-write_failed {T} {IsTextOf} r e rules remaining left old new is kind cut =
-    subst (λ q. IfErr q (λ f. LeavesLines IsTextOf rules f remaining left old new)) (sym is) (subst (λ f. LeavesLines IsTextOf rules f remaining left old new) (sym kind) cut)
+pub write_failed : {T : Type 0} {form : Option Form} (r : Result T Fault) (e : Fault) (rules : Rules) (remaining left old new : Option (List ℕ)) → r ≡ Err e → e ≡ WriteFailed → IsCutOff form rules remaining old new → IfErr r (λ f. LeavesLines form rules f remaining left old new)
+write_failed {T} {form} r e rules remaining left old new is kind cut =
+    subst (λ q. IfErr q (λ f. LeavesLines form rules f remaining left old new)) (sym is) (subst (λ f. LeavesLines form rules f remaining left old new) (sym kind) cut)
 
 -- ---- two writes, one after the other
 

@@ -1,7 +1,7 @@
 -- What refuses the rules of a run.
 use Rattle.std.proofs.Common.{◌≡◌, ◌⊎◌, inl, inr, ℕ, List, Result, Ok, Err, IfErr, subst}
 use Rattle.cs_judge.specs.Judged.{call_on}
-use Rattle.cs_judge.specs.Lines.{IsOfRules}
+use Rattle.cs_judge.specs.Runs.{IsOfRules}
 use Rattle.cs_tool.specs.Runs.{IsCallRefusal}
 use Rattle.cs_tool.specs.declared.fault.Fault.{Fault}
 use Rattle.cs_tool.specs.declared.fault.Fault.TheVariants.{OutOfMemory, ReadFailed, WriteFailed}

@@ -3,10 +3,10 @@ use Rattle.std.specs.Prelude.{◌≡◌, ◌⊎◌, ℕ, ◌+◌, ◌-◌, ◌^�
 use Rattle.std.specs.Io.KnownBytes.{Appends, Keeps}
 use Rattle.json.specs.Print.{quoted}
 use Rattle.cs_place.specs.Shown.{shown}
-use Rattle.cs_reason_words.specs.Formats.{asks_standard}
+use Rattle.cs_format.specs.Formats.{asks_standard}
 use Rattle.cs_reason_words.specs.Valid.{EndsInLine, Says, Reports}
-use Rattle.cs_reason_words.specs.declared.form.Form.{Form}
-use Rattle.cs_reason_words.specs.declared.form.Form.TheVariants.{Lines, Object}
+use Rattle.cs_format.specs.declared.Form.{Form}
+use Rattle.cs_format.specs.declared.Form.TheVariants.{Lines, Object}
 use Rattle.cs_judge.specs.declared.text_judge.Why.{Why}
 use Rattle.cs_judge.specs.Judged.{call_on}
 use Rattle.cs_judge.specs.Lines.{Answer, AreAnswerLines, answer_line, labelled}
@@ -147,7 +147,3 @@ abbrev pub IsWritten : Option Form → ℕ → Answer → List ℕ → Type 0
 IsWritten None number answer text = text ≡ answer_line answer
 IsWritten (Some Lines) number answer text = text ≡ answer_line answer
 IsWritten (Some (Object format)) number answer text = IsObject (Object format) (input_member number) answer text
-
--- what is written of the answers, up to the line of that number
-abbrev pub AreToldTo : Option Form → ℕ → List Answer → List ℕ → Type 0
-AreToldTo form number answers text = AreTold form answers text × (number ≡ line_number answers)

@@ -3,6 +3,7 @@ pub mod Judged
 pub mod Prepared
 pub mod Lines
 pub mod Explained
+pub mod Runs
 pub mod Verdicts
 pub mod Writing
 pub mod Begun

@@ -1,17 +1,16 @@
--- What a run over lines answers, writes and leaves.
-use Rattle.std.specs.Prelude.{◌≡◌, ◌≢◌, ℕ, ◌<◌, ◌≤◌, List, [], ◌∷◌, ◌++◌, length, Bool, true, false, Option, Result, Ok, Err, codes, decimal, IfSome}
+-- The lines of an input, and the answers to them.
+use Rattle.std.specs.Prelude.{◌≡◌, ◌≢◌, ℕ, ◌<◌, ◌≤◌, List, [], ◌∷◌, ◌++◌, length, Bool, true, false, Option, Result, Ok, Err, codes, decimal}
 use Rattle.std.specs.List.{All, flat_map}
-use Rattle.std.specs.Io.KnownBytes.{Appends, Consumes}
+use Rattle.std.specs.Io.KnownBytes.{Appends}
 use Rattle.cs_place.specs.Shown.{shown}
 use Rattle.cs_tool.specs.declared.fault.Fault.{Fault}
-use Rattle.cs_tool.specs.declared.fault.Fault.TheVariants.{OutOfMemory, InputTooLong, ReadFailed, WriteFailed}
+use Rattle.cs_tool.specs.declared.fault.Fault.TheVariants.{OutOfMemory, InputTooLong}
 use Rattle.cs_tool.specs.declared.rules.Rules.{Rules}
 use Rattle.cs_judge.specs.declared.answers.LinesOutcome.{LinesOutcome}
 use Rattle.cs_judge.specs.declared.answers.LinesOutcome.TheVariants.{AllValid, SomeInvalid, SomeRefused}
 use Rattle.cs_judge.specs.Judged.{call_on}
 use Rattle.cs_tool.specs.Refusals.{number_of}
 use Rattle.cs_tool.specs.Runs.{IsCallAnswer, IsCallRefusal, most_input_bytes, verdict_text, line_of}
-use Rattle.cs_tool.specs.Streams.{AppendsFront}
 
 -- ---- the lines of an input
 
@@ -95,54 +94,6 @@ worse SomeRefused other = SomeRefused
 abbrev pub outcome_of : List Answer → LinesOutcome
 outcome_of [] = AllValid
 outcome_of (a ∷ answers) = worse (outcome_of_answer a) (outcome_of answers)
-
--- ---- a run, and what it writes of answers
-
--- what a run that ends answers and has written: what stands for the lines of the whole input, in order
-pub record IsDone (IsTextOf : List Answer → List ℕ → Type 0) (rules : Rules) (remaining old new : Option (List ℕ)) (outcome : LinesOutcome) : Type 0 where
-  pub lines : List (List ℕ)
-  pub answers : List Answer
-  pub read : IfSome remaining (λ bytes. AreLines bytes lines)
-  pub answered : AreAnswers rules lines answers
-  pub text : List ℕ
-  pub told : IsTextOf answers text
-  pub written : Appends old new text
-  pub outcome_is : outcome ≡ outcome_of answers
-
--- the writer took a front of what is written of the first lines
-pub record IsCutOff (IsTextOf : List Answer → List ℕ → Type 0) (rules : Rules) (remaining old new : Option (List ℕ)) : Type 0 where
-  pub lines : List (List ℕ)
-  pub answers : List Answer
-  pub read : IfSome remaining (λ bytes. AreFirstLines bytes lines)
-  pub answered : AreAnswers rules lines answers
-  pub text : List ℕ
-  pub told : IsTextOf answers text
-  pub written : AppendsFront old new text
-
--- the reader gave some bytes, and the writer has the answers to the lines that end among them
-pub record IsStopped (IsTextOf : List Answer → List ℕ → Type 0) (rules : Rules) (remaining left old new : Option (List ℕ)) : Type 0 where
-  pub bytes : List ℕ
-  pub given : Consumes remaining left bytes
-  pub lines : List (List ℕ)
-  pub rest : List ℕ
-  pub split : Splits bytes lines rest
-  pub answers : List Answer
-  pub answered : AreAnswers rules lines answers
-  pub text : List ℕ
-  pub told : IsTextOf answers text
-  pub written : Appends old new text
-
--- what a refusal says of a run, of what the reader has left, and of what the writer has
-abbrev pub LeavesLines : (List Answer → List ℕ → Type 0) → Rules → Fault → Option (List ℕ) → Option (List ℕ) → Option (List ℕ) → Option (List ℕ) → Type 0
-LeavesLines IsTextOf rules WriteFailed remaining left old new = IsCutOff IsTextOf rules remaining old new
-LeavesLines IsTextOf rules ReadFailed remaining left old new = IsStopped IsTextOf rules remaining left old new
-LeavesLines IsTextOf rules fault remaining left old new = (text : List ℕ) → IsCallRefusal (call_on rules text) fault
-
--- the rules are refused before the input is read
-abbrev pub IsOfRules : Fault → Type 0
-IsOfRules WriteFailed = ⊥
-IsOfRules ReadFailed = ⊥
-IsOfRules fault = Unit {0}
 
 -- ---- an answer for a file
 

@@ -1,5 +1,5 @@
 -- What a verdict on a document says on each side, and each refusal of it. It is a truth value, or what has one, as reasons that are told.
-use Rattle.std.specs.Prelude.{◌≡◌, ℕ, List, Bool, true, false, Result, IfOk, IfErr, is_none}
+use Rattle.std.specs.Prelude.{◌≡◌, ℕ, List, Bool, true, false, Option, Result, IfOk, IfErr, is_none}
 use Rattle.cs_document.specs.Document.{Document, IsDocument}
 use Rattle.cs_instance.specs.Instance.{Rule, definition, IsInstance, OneMeaning as OneInstance}
 use Rattle.cs_instance.specs.Refusal.{AreManyPairs as AreManyByRoot}
@@ -10,9 +10,9 @@ use Rattle.cs_profile.specs.Validity.{IsValidity, OneMeaning as OneValidity}
 use Rattle.cs_validate.specs.Refusal.{AreManyPairs as AreManyBySchema}
 use Rattle.cs_validate.specs.Rules.{HasManyPairs as HasManyBySchema}
 use Rattle.cs_validity_reasons.specs.WhyTold.{says_valid}
-use Rattle.cs_judge.specs.Explained.{asked_form, ReportsAsked}
+use Rattle.cs_judge.specs.Explained.{ReportsAsked}
 use Rattle.cs_judge.specs.Judged.{IsOf}
-use Rattle.cs_judge.specs.declared.verdict.Case.{Case}
+use Rattle.cs_format.specs.declared.Form.{Form}
 use Rattle.cs_judge.specs.declared.verdict.Side.{Side}
 use Rattle.cs_judge.specs.declared.verdict.Side.TheVariants.{Root, Schema}
 use Rattle.cs_judge.specs.declared.verdict.Told.{Told}
@@ -63,6 +63,6 @@ abbrev pub IsReadAs : List ℕ → Document → Type 0
 IsReadAs text d = Reads text d × IsDocument d
 
 -- the result is that of the call, and the report tells it
-pub record IsCallVerdict (call : Call) (case : Case) (old new : List ℕ) (result : Result Bool Fault) : Type 0 where
+pub record IsCallVerdict (call : Call) (form : Option Form) (old new : List ℕ) (result : Result Bool Fault) : Type 0 where
   pub of : IsOf call result
-  pub told : IfOk result (λ b. ReportsAsked (asked_form case.why) b old new)
+  pub told : IfOk result (λ b. ReportsAsked form b old new)

@@ -7,7 +7,7 @@ ghost use Rattle.cs_judge.specs.Lines.{Answer, IsTextAnswer, answer_line, worse,
 ghost use Rattle.cs_judge.specs.Writing.{Writes, WritesSome, Holds};
 ghost use Rattle.cs_tool.specs.Runs.{IsReadyCall};
 
-use crate::text_judge::{Judged, TextJudge, Why, form_of, verdict_line};
+use crate::text_judge::{Done, Judged, TextJudge, Why, form_of, verdict_line};
 use cs_place::{Label, Named};
 use cs_reason_words::Form;
 use cs_tool::{Fault, MEMBER_ROOM, put, put_error, write_part, write_text};
@@ -151,7 +151,7 @@ fn write_told<W: Write>(
     label: &Label<'_>,
     told: &[u8],
     output: &mut W,
-) -> Result<(), Fault>
+) -> Done
     ensures { IfOk answer.now (λ b. IsTold form b told.now) → WritesSome result (W.contents output.old) (W.contents output.new)
         (IsWrittenOf form label.now answer.now) }
 {
@@ -163,12 +163,7 @@ fn write_told<W: Write>(
 }
 
 /// Writes what is told of an answer behind a label, or of a refusal the line; then flushes.
-fn write_line<W: Write>(
-    answer: &Judged,
-    label: &Label<'_>,
-    told: &[u8],
-    output: &mut W,
-) -> Result<(), Fault>
+fn write_line<W: Write>(answer: &Judged, label: &Label<'_>, told: &[u8], output: &mut W) -> Done
     ensures { Writes result (W.contents output.old) (W.contents output.new) (behind label.now (told_line answer.now told.now)) }
 {
     match answer {
@@ -181,7 +176,7 @@ fn write_line<W: Write>(
 }
 
 /// Writes a text behind a label; then flushes.
-fn write_behind<W: Write>(label: &Label<'_>, told: &[u8], output: &mut W) -> Result<(), Fault>
+fn write_behind<W: Write>(label: &Label<'_>, told: &[u8], output: &mut W) -> Done
     ensures { Writes result (W.contents output.old) (W.contents output.new) (behind label.now told.now) }
 {
     write_part(output, label.shown().as_bytes())?;
@@ -196,7 +191,7 @@ fn write_object<W: Write>(
     name: &str,
     told: &[u8],
     output: &mut W,
-) -> Result<(), Fault>
+) -> Done
     ensures { WritesSome result (W.contents output.old) (W.contents output.new)
         (IsBehindFront name.now (members_text answer.now told.now)) }
 {
@@ -206,7 +201,7 @@ fn write_object<W: Write>(
 }
 
 /// Writes what the object of a document of that name begins with. The name is left out where memory runs out.
-fn write_front<W: Write>(alloc: Global, name: &str, output: &mut W) -> Result<(), Fault>
+fn write_front<W: Write>(alloc: Global, name: &str, output: &mut W) -> Done
     ensures { WritesSome result (W.contents output.old) (W.contents output.new) (IsDocumentFront name.now) }
 {
     match document_front(alloc, name) {
@@ -274,7 +269,7 @@ impl HeldAnswers {
     }
 
     /// Holds the line of one more answer.
-    pub(crate) fn hold<W: Write>(&mut self, answer: &Judged, output: &mut W) -> Result<(), Fault>
+    pub(crate) fn hold<W: Write>(&mut self, answer: &Judged, output: &mut W) -> Done
         ensures { Holds result (W.contents output.old) (W.contents output.new) (self.old ++ answer_line answer.now) self.new }
     {
         let mut room = [0u8; ANSWER_ROOM];
@@ -287,7 +282,7 @@ impl HeldAnswers {
         first: &[u8],
         second: &[u8],
         output: &mut W,
-    ) -> Result<(), Fault>
+    ) -> Done
         ensures { Holds result (W.contents output.old) (W.contents output.new) (self.old ++ first.now ++ second.now) self.new }
     {
         self.hold_text(first, output)?;
@@ -295,7 +290,7 @@ impl HeldAnswers {
     }
 
     /// Holds one more text. Writes what is held where there is no room, and the text too where it is longer than what may be held.
-    pub(crate) fn hold_text<W: Write>(&mut self, text: &[u8], output: &mut W) -> Result<(), Fault>
+    pub(crate) fn hold_text<W: Write>(&mut self, text: &[u8], output: &mut W) -> Done
         ensures { Holds result (W.contents output.old) (W.contents output.new) (self.old ++ text.now) self.new }
     {
         if text.len() > HELD - self.end {
@@ -310,7 +305,7 @@ impl HeldAnswers {
     }
 
     /// Writes what is held, and flushes.
-    pub(crate) fn write_out<W: Write>(&mut self, output: &mut W) -> Result<(), Fault>
+    pub(crate) fn write_out<W: Write>(&mut self, output: &mut W) -> Done
         ensures written { Writes result (W.contents output.old) (W.contents output.new) self.old }
         ensures empty { OnOk result (self.new ≡ []) }
     {

@@ -1,13 +1,14 @@
 // A run over the lines of an input, which is read in pieces.
 ghost use Rattle.std.specs.Prelude.{◌≡◌, ◌↔◌, ◌⊎◌, ◌+◌, ◌-◌, ◌^◌, ◌<◌, ◌≤◌, ◌++◌, ◌∷◌, [], ℕ, List, Option, Some, min, length, take, Err, OnOk, OnErr, IfOk, IfErr, IsTrue};
-ghost use Rattle.cs_judge.specs.Answering.{Stands, GoesOver, AnswersLine, Finishes};
+ghost use Rattle.cs_judge.specs.Answering.{IsAnswered, GoesOver, AnswersLine, Finishes};
 ghost use Rattle.cs_judge.specs.Begun.{HoldsFront};
-ghost use Rattle.cs_judge.specs.Explained.{asked_form, IsTold, Tells, input_member, AreTold, IsWritten};
-ghost use Rattle.cs_judge.specs.Lines.{IsDone, IsCutOff, LeavesLines, IsOfRules, IsLineAnswer};
+ghost use Rattle.cs_judge.specs.Explained.{asked_form, IsTold, Tells, input_member, IsWritten};
+ghost use Rattle.cs_judge.specs.Lines.{IsLineAnswer};
+ghost use Rattle.cs_judge.specs.Runs.{IsDone, LeavesLines, IsOfRules};
 ghost use Rattle.cs_judge.specs.Writing.{HoldsSome};
 
 use crate::answers::{HeldAnswers, LinesOutcome, members_of, outcome_of};
-use crate::text_judge::{Judged, TextJudge, Why, form_of, verdict_line};
+use crate::text_judge::{Done, Judged, TextJudge, Why, form_of, verdict_line};
 use cs_place::Named;
 use cs_reason_words::Form;
 use cs_tool::{Fault, MEMBER_ROOM, MOST_INPUT_BYTES, put};
@@ -54,9 +55,9 @@ pub fn run_lines<R: Read, W: Write, E: Write>(
     output: &mut W,
     notes: &mut E,
 ) -> Result<LinesOutcome, Fault>
-    ensures done { IfOk result (IsDone (AreTold (asked_form why.entry)) judge.entry
+    ensures done { IfOk result (IsDone (asked_form why.entry) judge.entry
         (R.remaining input.old) (W.contents output.old) (W.contents output.new)) }
-    ensures refused { IfErr result (λ e. LeavesLines (AreTold (asked_form why.entry)) judge.entry e
+    ensures refused { IfErr result (λ e. LeavesLines (asked_form why.entry) judge.entry e
         (R.remaining input.old) (R.remaining input.new) (W.contents output.old) (W.contents output.new)) }
     ensures unread { IfErr result (λ e. IsOfRules e → (input.new ≡ input.old) × (output.new ≡ output.old)) }
     ensures only { IfErr result (λ e. (e ≡ Fault.OutOfMemory) ⊎ (e ≡ Fault.ReadFailed) ⊎ (e ≡ Fault.WriteFailed)) }
@@ -77,11 +78,11 @@ fn answer_chunks<R: Read, W: Write, E: Write>(
     notes: &mut E,
 ) -> Result<LinesOutcome, Fault>
     requires room { 0 < length chunk.old }
-    requires start { Stands (asked_form why) judge.old (W.contents output.old) (W.contents output.old) [] run.old }
+    requires start { IsAnswered (asked_form why) judge.old (W.contents output.old) (W.contents output.old) [] run.old }
     requires none { run.old.held ≡ [] }
-    ensures done { IfOk result (IsDone (AreTold (asked_form why.entry)) judge.old
+    ensures done { IfOk result (IsDone (asked_form why.entry) judge.old
         (R.remaining input.old) (W.contents output.old) (W.contents output.new)) }
-    ensures refused { IfErr result (λ e. LeavesLines (AreTold (asked_form why.entry)) judge.old e
+    ensures refused { IfErr result (λ e. LeavesLines (asked_form why.entry) judge.old e
         (R.remaining input.old) (R.remaining input.new) (W.contents output.old) (W.contents output.new)) }
     ensures kind { IfErr result (λ e. (e ≡ Fault.ReadFailed) ⊎ (e ≡ Fault.WriteFailed)) }
 {
@@ -128,7 +129,7 @@ impl<'a> LineRun<'a> {
         chunk: &[u8],
         output: &mut W,
         notes: &mut E,
-    ) -> Result<(), Fault>
+    ) -> Done
         ensures over { GoesOver result (asked_form why.entry) judge.old chunk.now
             (W.contents output.old) (W.contents output.new) self.old self.new }
         ensures same { judge.new ≡ judge.old }
@@ -150,7 +151,7 @@ impl<'a> LineRun<'a> {
         piece: &[u8],
         output: &mut W,
         notes: &mut E,
-    ) -> Result<(), Fault>
+    ) -> Done
         ensures line { AnswersLine result (asked_form why.entry) judge.old piece.now
             (W.contents output.old) (W.contents output.new) self.old self.new }
         ensures begun { HoldsFront self.new.begun [] }
@@ -176,7 +177,7 @@ impl<'a> LineRun<'a> {
         why: Option<Why<'_>>,
         output: &mut W,
         notes: &mut E,
-    ) -> Result<(), Fault>
+    ) -> Done
         ensures { Finishes result (asked_form why.entry) judge.old
             (W.contents output.old) (W.contents output.new) self.old self.new }
     {
@@ -189,12 +190,7 @@ impl<'a> LineRun<'a> {
 }
 
 /// Holds the reasons of a line, in lines.
-fn note<E: Write>(
-    held: &mut HeldAnswers,
-    form: Option<Form>,
-    told: &[u8],
-    notes: &mut E,
-) -> Result<(), Fault>
+fn note<E: Write>(held: &mut HeldAnswers, form: Option<Form>, told: &[u8], notes: &mut E) -> Done
     ensures kind { OnErr result (result ≡ Err Fault.WriteFailed) }
 {
     match form {
@@ -214,7 +210,7 @@ fn hold_told<W: Write>(
     answer: &Judged,
     told: &[u8],
     output: &mut W,
-) -> Result<(), Fault>
+) -> Done
     ensures { IfOk answer.now (λ b. IsTold form b told.now) → HoldsSome result (W.contents output.old) (W.contents output.new)
         held.old held.new (IsWritten form number answer.now) }
 {

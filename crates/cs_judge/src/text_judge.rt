@@ -4,7 +4,7 @@ use cs_flat::flatten;
 use cs_guard::Guarded;
 use cs_instance_report::Written;
 use cs_json::{Document, Scratch, read_document};
-use cs_place::Named;
+use cs_place::{Made, Named};
 use cs_reason_words::Form;
 use cs_reasons::Telling;
 use cs_schema::SchemaDoc;
@@ -15,10 +15,10 @@ use cs_tool::{
 use std::alloc::{AllocError, Global};
 use std::marker::Model;
 
-/// What is made where memory doesn't run out.
-pub(crate) type Made<T> = Result<T, AllocError>;
 /// A verdict, or the refusal of a text.
 pub(crate) type Judged = Result<bool, Fault>;
+/// What writing gives, or holding what is written.
+pub(crate) type Done = Result<(), Fault>;
 
 /// How documents are explained.
 #[derive(Clone, Copy)]
@@ -77,9 +77,10 @@ impl<'a> Model for TextJudge<'a> {
 }
 
 ghost use Rattle.std.specs.Prelude.{◌≡◌, ◌++◌, ℕ, List, OnOk, OnErr, IfOk, IfErr, IsOkUnless};
-ghost use Rattle.cs_judge.specs.Explained.{asked_form, IsReport, ReportsAsked, Tells};
-ghost use Rattle.cs_judge.specs.Judged.{call_on, AreReadable, IsOf};
+ghost use Rattle.cs_judge.specs.Explained.{asked_form, IsReport, Tells};
+ghost use Rattle.cs_judge.specs.Judged.{call_on, AreReadable};
 ghost use Rattle.cs_judge.specs.Prepared.{IsReadOf, AreNumbersOf};
+ghost use Rattle.cs_judge.specs.Verdicts.{IsCallVerdict};
 ghost use Rattle.cs_tool.specs.Runs.{IsCallAnswer, IsCallRefusal, IsReadyCall, verdict_text, line_of};
 
 /// Reads rules once for any number of documents.
@@ -156,21 +157,6 @@ fn number_rules<'a>(
 }
 
 impl TextJudge<'_> {
-    /// What the call on the text answers: `vet`, `validate` or `agree`.
-    ///
-    /// # Errors
-    /// Those of that call. The next text is judged all the same.
-    pub fn judge(&mut self, text: &[u8]) -> Result<bool, Fault>
-        ensures found { IfOk result (λ b. IsCallAnswer (call_on self.old text.now) b (verdict_text b)) }
-        ensures refused { IfErr result (IsCallRefusal (call_on self.old text.now)) }
-        ensures only { IsReadyCall (call_on self.old text.now) → IsOkUnless result Fault.OutOfMemory }
-        ensures same { self.new ≡ self.old }
-    {
-        let (name, line) = ("", 1);
-        let mut report = Vec::new(self.alloc);
-        self.answer(Named { name, text, line }, None, &mut report)
-    }
-
     /// What the call on the document's text answers: `vet`, `validate` or `agree`. Adds the verdict's line, where no reasons are asked for.
     /// Else it adds what is told in the form that is asked for: in lines the verdict's line, and behind `invalid` a line for each reason;
     /// in the others one line, the object of JSON. `agree` takes the reasons of the definition, and in the output formats of JSON Schema
@@ -198,15 +184,9 @@ impl TextJudge<'_> {
     }
 
     /// What the call on the document's text answers. The reasons that are asked for are added to the report.
-    fn answer(
-        &mut self,
-        document: Named<'_>,
-        why: Option<Why<'_>>,
-        report: &mut Vec<u8>,
-    ) -> Result<bool, Fault>
-        ensures of { IsOf (call_on self.old document.entry.text.now) result }
+    fn answer(&mut self, document: Named<'_>, why: Option<Why<'_>>, report: &mut Vec<u8>) -> Judged
+        ensures verdict { IsCallVerdict (call_on self.old document.entry.text.now) (asked_form why.entry) report.old.items report.new.items result }
         ensures same { self.new ≡ self.old }
-        ensures told { IfOk result (λ b. ReportsAsked (asked_form why.entry) b report.old.items report.new.items) }
     {
         let (alloc, rules, table) = (self.alloc, &self.numbered, &mut self.table);
         match read_document(alloc, document.text, &mut self.scratch)? {

@@ -10,12 +10,12 @@ ghost use Rattle.cs_tool.specs.Runs.{agree};
 ghost use Rattle.cs_tool.specs.Sides.{AreSidesOf};
 ghost use Rattle.cs_tool.specs.declared.rules.Rules.{Rules};
 
-use crate::text_judge::{Made, Why};
+use crate::text_judge::Why;
 use cs_flat::{Flat, Item};
 use cs_instance::RootRules;
 use cs_instance_reasons::{InstanceCause, explain_instance};
 use cs_instance_report::report_instance;
-use cs_place::Named;
+use cs_place::{Made, Named};
 use cs_reasons::{Reasons, Telling};
 use cs_table::Verdicts;
 use cs_tool::Fault;
@@ -72,7 +72,7 @@ pub(crate) fn verdict(
     report: &mut Vec<u8>,
 ) -> Result<bool, Fault>
     ensures { (R : Rules) (text : List ℕ) → AreNumbersOf R rules.now → IsReadAs text (document_in case.entry.flat.now)
-        → IsCallVerdict (call_on R text) case.entry report.old.items report.new.items result }
+        → IsCallVerdict (call_on R text) (asked_form case.entry.why) report.old.items report.new.items result }
 {
     match rules {
         NumberedRules::Root(rules) => Side::Root(rules).verdict(case, table, report),
@@ -93,7 +93,7 @@ fn both_verdicts(
 ) -> Result<bool, Fault>
     ensures { (sources : List (List ℕ)) (root text : List ℕ) → AreSidesOf sources root root_side.now.0 root_side.now.1 schema_side.now
         → IsReadAs text (document_in case.entry.flat.now)
-        → IsCallVerdict (agree sources root text) case.entry report.old.items report.new.items result }
+        → IsCallVerdict (agree sources root text) (asked_form case.entry.why) report.old.items report.new.items result }
 {
     let why = asked_of_root(case.why);
     let is_instance = Side::Root(root_side).verdict(Case { why, ..case }, table, report)?;

@@ -42,10 +42,7 @@ fn kinds_at(alloc: Global, numbers: &[usize], known: &[ByKind]) -> Made<Vec<ByKi
 /// For each definition, by its number, the kinds of documents that its instances can have: those on which the verdict isn't no. They are
 /// found by the form of its bodies: a kind, a literal, a bound, a struct and a list have theirs, `&` and several bodies those that all their
 /// operands have, `|` those of all its operands together, and a reference those of its definition. So a kind that isn't among them is none
-/// that an instance has; a kind that is among them may be one that none has, as where bounds leave no integer.
-///
-/// # Errors
-/// Memory has run out.
+/// that an instance has; a kind that is among them may be one that none has, as where bounds leave no integer. Only memory can run out.
 pub fn kinds_of(alloc: Global, package: &Guarded) -> Made<Vec<ByKind>>
     ensures count { IfOk result (λ v. length v.items ≡ length «package».now) }
     ensures sound { IfOk result (λ v. (i : ℕ) (k : ByKind) → slice_get v.items i ≡ Some k
@@ -111,10 +108,7 @@ fn entries_of<'a>(alloc: Global, named: &[Named<'a>], package: &Guarded) -> Made
 /// first declaration, and the kinds are those of `kinds_of`, as an expression of CUE has them but for the words `list` and `struct`: parted by ` | `,
 /// `_` where all are among them, and `_|_` where none is. `sources` are those that the package was made of, in their order.
 ///
-/// That an instance has one of these kinds is proved of `kinds_of`. The words and the places in lines are tested.
-///
-/// # Errors
-/// Memory has run out.
+/// That an instance has one of these kinds is proved of `kinds_of`. The words and the places in lines are tested. Only memory can run out.
 pub fn put_listing(
     alloc: Global,
     sources: &[Named<'_>],
@@ -136,10 +130,7 @@ pub fn put_listing(
 }
 
 /// Puts what [`crate::put_listing`] tells as one object, and a newline. Its member `definitions` is a list with an object for each
-/// definition: `name`, `file`, `line`, `column`, and `kinds`, a list of the words of the kinds.
-///
-/// # Errors
-/// Memory has run out.
+/// definition: `name`, `file`, `line`, `column`, and `kinds`, a list of the words of the kinds. Only memory can run out.
 pub fn put_listing_json(
     alloc: Global,
     sources: &[Named<'_>],

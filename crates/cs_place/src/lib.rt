@@ -12,4 +12,11 @@ pub use named::Named;
 pub use position::{Position, position_of};
 pub use positions::Positions;
 pub use shown::{Label, is_hidden, put_in_string, put_place, put_quoted, put_shown};
+use std::alloc::AllocError;
 pub use values::{Place, Step, ValuePath, places, pointer_at};
+
+/// What is made in memory, which can run out.
+pub type Made<T> = Result<T, AllocError>;
+
+/// What writing into a text gives: that memory ran out is all that can go wrong.
+pub type Written = Made<()>;

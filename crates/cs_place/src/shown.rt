@@ -3,8 +3,9 @@
 ghost use Rattle.std.specs.Prelude.{◌≡◌, ◌++◌, ◌/◌, OnOk, string_bytes, encode_utf8, encode_utf8_all};
 ghost use Rattle.cs_place.specs.Shown.{is_hidden, last_digit, letter_or_digits, shown_by, quoted_by, shown, quoted, place_text};
 
+use crate::{Made, Written};
 use itoa::Buffer;
-use std::alloc::{AllocError, Global};
+use std::alloc::Global;
 use std::marker::Model;
 
 /// Whether a character isn't shown as it is: a control character, one that changes the direction of what is around it, a separator of
@@ -33,7 +34,7 @@ fn hex_digit(number: u32) -> char
 }
 
 /// Puts what follows the backslash of an escape (RFC 8259, section 7).
-fn put_escape(text: &mut String, hidden: char) -> Result<(), AllocError>
+fn put_escape(text: &mut String, hidden: char) -> Written
     ensures { OnOk result (string_bytes text.new
         ≡ string_bytes text.old ++ encode_utf8_all (letter_or_digits hidden)) }
 {
@@ -46,7 +47,7 @@ fn put_escape(text: &mut String, hidden: char) -> Result<(), AllocError>
 }
 
 /// Puts the number of a character in four digits.
-fn put_digits(text: &mut String, number: u32) -> Result<(), AllocError>
+fn put_digits(text: &mut String, number: u32) -> Written
     ensures { OnOk result (string_bytes text.new ≡ string_bytes text.old
         ++ encode_utf8 117
         ++ encode_utf8 (last_digit (number / 4096))
@@ -62,7 +63,7 @@ fn put_digits(text: &mut String, number: u32) -> Result<(), AllocError>
 }
 
 /// Puts a character as it is shown.
-fn put_character(text: &mut String, character: char) -> Result<(), AllocError>
+fn put_character(text: &mut String, character: char) -> Written
     ensures { OnOk result (string_bytes text.new
         ≡ string_bytes text.old ++ encode_utf8_all (shown_by character)) }
 {
@@ -73,11 +74,8 @@ fn put_character(text: &mut String, character: char) -> Result<(), AllocError>
     put_escape(text, character)
 }
 
-/// Puts a text as it is shown: each of its characters that isn't shown as it is in its escape (RFC 8259, section 7).
-///
-/// # Errors
-/// Memory ran out.
-pub fn put_shown(text: &mut String, inside: &str) -> Result<(), AllocError>
+/// Puts a text as it is shown: each of its characters that isn't shown as it is in its escape (RFC 8259, section 7). Only memory can run out.
+pub fn put_shown(text: &mut String, inside: &str) -> Written
     ensures { OnOk result (string_bytes text.new ≡ string_bytes text.old ++ shown inside.now) }
 {
     for character in inside.chars() {
@@ -86,11 +84,8 @@ pub fn put_shown(text: &mut String, inside: &str) -> Result<(), AllocError>
     Ok(())
 }
 
-/// Puts a character as it is shown in a string of JSON (RFC 8259, section 7).
-///
-/// # Errors
-/// Memory ran out.
-pub fn put_in_string(text: &mut String, character: char) -> Result<(), AllocError>
+/// Puts a character as it is shown in a string of JSON (RFC 8259, section 7). Only memory can run out.
+pub fn put_in_string(text: &mut String, character: char) -> Written
     ensures { OnOk result (string_bytes text.new
         ≡ string_bytes text.old ++ encode_utf8_all (quoted_by character)) }
 {
@@ -101,11 +96,8 @@ pub fn put_in_string(text: &mut String, character: char) -> Result<(), AllocErro
     put_character(text, character)
 }
 
-/// Puts a text as a string of JSON that is shown.
-///
-/// # Errors
-/// Memory ran out.
-pub fn put_quoted(text: &mut String, inside: &str) -> Result<(), AllocError>
+/// Puts a text as a string of JSON that is shown. Only memory can run out.
+pub fn put_quoted(text: &mut String, inside: &str) -> Written
     ensures { OnOk result (string_bytes text.new ≡ string_bytes text.old ++ quoted inside.now) }
 {
     text.push_str("\"")?;
@@ -115,16 +107,8 @@ pub fn put_quoted(text: &mut String, inside: &str) -> Result<(), AllocError>
     text.push_str("\"")
 }
 
-/// Puts a place in a text of that name: `NAME:LINE:COLUMN`.
-///
-/// # Errors
-/// Memory ran out.
-pub fn put_place(
-    text: &mut String,
-    name: &str,
-    line: usize,
-    column: usize,
-) -> Result<(), AllocError>
+/// Puts a place in a text of that name: `NAME:LINE:COLUMN`. Only memory can run out.
+pub fn put_place(text: &mut String, name: &str, line: usize, column: usize) -> Written
     ensures { OnOk result (string_bytes text.new
         ≡ string_bytes text.old ++ place_text name.now line column) }
 {
@@ -159,11 +143,8 @@ impl<'a> Label<'a> {
     ghost use Rattle.std.specs.Str.{NoCharPasses};
     ghost use Rattle.cs_place.specs.Shown.{is_hidden, shown};
 
-    /// The label of a name.
-    ///
-    /// # Errors
-    /// Memory ran out.
-    pub fn of(alloc: Global, name: &'a str) -> Result<Label<'a>, AllocError>
+    /// The label of a name. Only memory can run out.
+    pub fn of(alloc: Global, name: &'a str) -> Made<Label<'a>>
         ensures { IfOk result (λ l. l ≡ name.now) }
     {
         let mut line = String::new(alloc);

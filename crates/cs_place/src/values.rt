@@ -3,7 +3,8 @@ ghost use Rattle.std.specs.Prelude.{◌≡◌, ◌+◌, length, vec_len, IfOk};
 
 mod walk;
 
-use std::alloc::{AllocError, Global};
+use crate::Made;
+use std::alloc::Global;
 pub use walk::pointer_at;
 use walk::{Found, found_in};
 
@@ -37,11 +38,7 @@ pub struct Place {
 /// The places of these values in the text of a document, by one walk over it: the last one where a key comes twice, and
 /// none where the text has no such value. First the place of the document itself, then those of the values, in their order.
 /// Of a text that isn't JSON it finds what is before that shows, and nothing where it isn't UTF-8. Only memory can run out.
-pub fn places(
-    alloc: Global,
-    text: &[u8],
-    paths: &[ValuePath<'_>],
-) -> Result<Vec<Option<Place>>, AllocError>
+pub fn places(alloc: Global, text: &[u8], paths: &[ValuePath<'_>]) -> Made<Vec<Option<Place>>>
     ensures { IfOk result (λ v. vec_len v ≡ length paths.now + 1) }
 {
     let mut numbers = Vec::new(alloc);
@@ -60,7 +57,7 @@ fn places_of(
     paths: &[ValuePath<'_>],
     numbers: &[usize],
     found: &[Option<Found>],
-) -> Result<Vec<Option<Place>>, AllocError>
+) -> Made<Vec<Option<Place>>>
     ensures { IfOk result (λ v. vec_len v ≡ length paths.now + 1) }
 {
     let mut places: Vec<Option<Place>> = Vec::with_capacity(alloc, numbers.len())?;

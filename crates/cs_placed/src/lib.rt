@@ -30,9 +30,7 @@ impl Placed {
 }
 
 /// The files that sources stand for, in either profile: what the default one accepts stands for itself. None where one of the sources spells no file.
-///
-/// # Errors
-/// Memory ran out.
+/// Only memory can run out.
 pub fn placed_files(alloc: Global, sources: &[&[u8]]) -> Result<Option<Placed>, AllocError> {
     let Some(Placed { files, bases }) = spelled_files(alloc, sources)? else {
         return Ok(None);
@@ -51,10 +49,7 @@ pub fn placed_files(alloc: Global, sources: &[&[u8]]) -> Result<Option<Placed>, 
     }
 }
 
-/// The files that sources spell, in either profile. None where one of the sources spells no file.
-///
-/// # Errors
-/// Memory ran out.
+/// The files that sources spell, in either profile. None where one of the sources spells no file. Only memory can run out.
 pub fn spelled_files(alloc: Global, sources: &[&[u8]]) -> Result<Option<Placed>, AllocError> {
     let mut files = Vec::with_capacity(alloc, sources.len())?;
     let mut bases = Vec::with_capacity(alloc, sources.len())?;

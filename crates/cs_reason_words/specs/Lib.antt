@@ -1,4 +1,3 @@
 -- What reports name.
 pub mod Pointer
-pub mod Formats
 pub mod Valid

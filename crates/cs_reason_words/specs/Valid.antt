@@ -1,8 +1,8 @@
 -- What is told of a verdict, and by the format `flag` nothing else (JSON Schema Core 2020-12, section 12.4.1).
 use Rattle.std.specs.Prelude.{◌≡◌, ◌≢◌, ℕ, Bool, true, false, List, [], ◌∷◌, ◌++◌, codes, if◌then◌else◌}
-use Rattle.cs_reason_words.specs.declared.form.Form.{Form}
-use Rattle.cs_reason_words.specs.declared.form.Form.TheVariants.{Lines, Object}
-use Rattle.cs_reason_words.specs.Formats.{has_reasons}
+use Rattle.cs_format.specs.declared.Form.{Form}
+use Rattle.cs_format.specs.declared.Form.TheVariants.{Lines, Object}
+use Rattle.cs_format.specs.Formats.{has_reasons}
 
 -- an object that says it, and a newline
 abbrev pub flag_text : Bool → List ℕ

@@ -1,91 +1,14 @@
-// The forms in which reasons are told, and what is told of a verdict in each: lines for people, and objects of JSON for programs.
+// What is told of a verdict in each form: lines for people, and objects of JSON for programs.
 ghost use Rattle.std.specs.Prelude.{◌≡◌, ◌++◌, true, false, IfOk, OnOk, OnErr, string_bytes};
-ghost use Rattle.cs_reason_words.specs.Formats.{asks_standard, asks_reasons, is_standard, has_reasons};
+ghost use Rattle.cs_format.specs.Formats.{asks_standard};
 ghost use Rattle.cs_reason_words.specs.Valid.{flag_text, valid_text, invalid_object, report_text, HasLines, EndsInLine};
 
 use crate::entry::{Entry, Told};
 use crate::wording::put_between;
+use cs_format::Form;
 use cs_place::{Named, put_place, put_quoted, put_shown};
 use cs_text::{Made, Written, put_all, put_count, put_number, put_string};
 use std::alloc::Global;
-
-/// How reasons are written.
-#[derive(Clone, Copy)]
-pub enum Form {
-    /// A line for each, for people and for problem matchers.
-    Lines,
-    /// One object of JSON.
-    Object(Format),
-}
-
-impl Form {
-    /// Whether it is one of the output formats of JSON Schema ([`Format::is_standard`]).
-    pub fn is_standard(self) -> bool
-        ensures { result ≡ asks_standard self }
-    {
-        match self {
-            Form::Lines => false,
-            Form::Object(format) => format.is_standard(),
-        }
-    }
-
-    /// Whether reasons are told in it at all ([`Format::has_reasons`]).
-    pub fn has_reasons(self) -> bool
-        ensures { result ≡ asks_reasons self }
-    {
-        match self {
-            Form::Lines => true,
-            Form::Object(format) => format.has_reasons(),
-        }
-    }
-}
-
-/// How reasons are told as an object of JSON.
-#[derive(Clone, Copy)]
-pub enum Format {
-    /// What the lines tell.
-    Json,
-    /// The output format `flag` (JSON Schema Core 2020-12, section 12.4.1).
-    Flag,
-    /// The output format `basic` (Core, section 12.4.2).
-    Basic,
-}
-
-/// The formats by their names.
-const NAMES: &[(&str, Format)] = &[
-    ("json", Format::Json),
-    ("flag", Format::Flag),
-    ("basic", Format::Basic),
-];
-
-impl Format {
-    /// The format of a name.
-    pub fn named(name: &str) -> Option<Format> {
-        let (_, format) = NAMES.iter().find(|(known, _)| *known == name)?;
-        Some(*format)
-    }
-
-    /// Whether it is one of the output formats of JSON Schema (JSON Schema Core 2020-12, section 12.4). These tell reasons by the keywords
-    /// of a schema alone: a definition tells the verdict and no more, and a refusal of a call has its number and no more.
-    pub fn is_standard(self) -> bool
-        ensures { result ≡ is_standard self }
-    {
-        match self {
-            Format::Json => false,
-            Format::Flag | Format::Basic => true,
-        }
-    }
-
-    /// Whether reasons are told in it at all.
-    pub fn has_reasons(self) -> bool
-        ensures { result ≡ has_reasons self }
-    {
-        match self {
-            Format::Flag => false,
-            Format::Json | Format::Basic => true,
-        }
-    }
-}
 
 /// The objects that say whether a document is valid, and no more (JSON Schema Core 2020-12, section 12.4.1).
 const VALID: &str = "{\"valid\":true}\n";
@@ -118,9 +41,7 @@ pub fn put_told(text: &mut String, form: Form, document: Named<'_>, told: &Told<
 
 /// Adds what is told of a verdict, whatever was judged: of a valid document nothing for people, and else the object that says so.
 /// Of an invalid one what is told of its reasons: for people lines, and for programs the members behind the verdict's.
-///
-/// # Errors
-/// Memory alone; nothing is added then.
+/// Only memory can run out; nothing is added then.
 pub fn report_verdict(
     alloc: Global,
     form: Form,
@@ -236,15 +157,10 @@ fn put_more(text: &mut String, more: usize) -> Written
 
 /// Puts a line for each entry, and one that says how many reasons are left out, if any are; where there is no entry, that is one at
 /// least.
-pub fn put_lines(
-    text: &mut String,
-    document: Named<'_>,
-    entries: &[Entry<'_>],
-    more: usize,
-) -> Written
+pub fn put_lines(text: &mut String, document: Named<'_>, told: &[Entry<'_>], more: usize) -> Written
     ensures { OnOk result (EndsInLine (string_bytes text.new)) }
 {
-    let Some((last, others)) = entries.split_last() else {
+    let Some((last, others)) = told.split_last() else {
         return put_more(text, more.max(1));
     };
     for entry in others {

@@ -4,11 +4,10 @@
 mod replaced;
 
 use crate::replaced::replace_file;
-use cs_export::{Layout, Profile, export_all_in, export_root_in, write_all_in, write_root_in};
-use cs_run_input::{Call, Status, Unread, read_sources};
-use cs_run_refusals::{about_input, or_told, over_sources};
+use cs_export::{Layout, Profile, write_all_in, write_root_in};
+use cs_run_call::{Call, Status, about_unread, or_told, over_sources, read_sources};
 use cs_tool::{Fault, Request, run};
-use std::io::ErrorKind;
+use std::io::{ErrorKind, Write};
 
 /// The status of `export`. A refusal is told where the words ask for it.
 pub fn export(call: Call<'_, '_>) -> Status {
@@ -20,13 +19,10 @@ pub fn export(call: Call<'_, '_>) -> Status {
 
 /// Whether the words ask for more than the schema of a root on standard output.
 fn is_shaped(call: Call<'_, '_>) -> bool {
-    let (words, layout) = (call.words, layout_of(call));
-    layout.is_described
-        || layout.is_openapi
-        || layout.is_pretty
-        || words.get_str("profile").is_some()
-        || words.get_flag("all")
-        || words.get_str("output").is_some()
+    let is_asked = |flag: &&str| call.words.get_flag(*flag);
+    let is_given = |word: &&str| call.words.get_str(*word).is_some();
+    let flags = ["all", "describe", "openapi", "pretty"];
+    flags.iter().any(is_asked) || ["output", "profile"].iter().any(is_given)
 }
 
 /// How the words ask for a schema.
@@ -44,46 +40,40 @@ fn export_plainly(call: Call<'_, '_>) -> Status {
     let root = String::from_str(call.alloc(), call.word("root"))?;
     let files = read_sources(call.rt, call.paths("FILE"))?;
     let request = Request::Export { files, root };
-    run(
-        call.alloc(),
-        request,
-        &mut call.rt.stdin(),
-        &mut call.rt.stdout(),
-    )?;
+    let (input, output) = (&mut call.rt.stdin(), &mut call.rt.stdout());
+    run(call.alloc(), request, input, output)?;
     Ok(0)
 }
 
 /// Writes the schema of these sources as the words ask for it. Nothing is written, and no file is made, before it is whole.
 fn write_schema(call: Call<'_, '_>, sources: &[&[u8]]) -> Status {
     let Some(path) = call.words.get_str("output") else {
-        print_schema(call, sources)?;
+        put_schema(call, sources, &mut call.rt.stdout())?;
         return Ok(0);
     };
-    let schema = schema_of(call, sources)?;
+    let mut schema = Vec::new(call.alloc());
+    match put_schema(call, sources, &mut schema) {
+        // Only memory stops a write to a list.
+        Err(Fault::WriteFailed) => return Err(Fault::OutOfMemory),
+        put => put?,
+    }
     match replace_file(call.rt, path, &schema) {
         Ok(()) => Ok(0),
         Err(error) => unwritten(call, path, error.kind()),
     }
 }
 
-/// Writes the schema on standard output.
-fn print_schema(call: Call<'_, '_>, sources: &[&[u8]]) -> Result<(), Fault> {
+/// Writes the schema of the root, or those of all definitions where none is given.
+fn put_schema<W: Write>(
+    call: Call<'_, '_>,
+    sources: &[&[u8]],
+    output: &mut W,
+) -> Result<(), Fault> {
     let (alloc, profile, layout) = (call.alloc(), call.profile(), layout_of(call));
     match call.words.get_str("root") {
-        Some(root) => write_root_in(alloc, profile, sources, root, layout, &mut call.rt.stdout()),
-        None => write_all_in(alloc, profile, sources, layout, &mut call.rt.stdout()),
+        Some(root) => write_root_in(alloc, profile, sources, root, layout, output),
+        None => write_all_in(alloc, profile, sources, layout, output),
     }
-}
-
-/// The line with the schema of the root, or with those of all definitions where none is given.
-fn schema_of(call: Call<'_, '_>, sources: &[&[u8]]) -> Result<Vec<u8>, Fault> {
-    let (alloc, profile, layout) = (call.alloc(), call.profile(), layout_of(call));
-    let mut schema = match call.words.get_str("root") {
-        Some(root) => export_root_in(alloc, profile, sources, root, layout)?,
-        None => export_all_in(alloc, profile, sources, layout)?,
-    };
-    schema.push(b'\n')?;
-    Ok(schema)
 }
 
 /// The status where the file that was asked for can't be written. Why is told.
@@ -97,10 +87,6 @@ fn unwritten(call: Call<'_, '_>, path: &str, kind: ErrorKind) -> Status {
         ErrorKind::StorageFull | ErrorKind::QuotaExceeded => "the disk is full",
         _ => "it can't be written: look at the path and its rights",
     };
-    let path = Some(path);
-    or_told(
-        call,
-        about_input(Unread { path, cause }, &[]),
-        Err(Fault::WriteFailed),
-    )
+    let about = about_unread(Some(path), cause, &[]);
+    or_told(call, about, Err(Fault::WriteFailed))
 }

@@ -1,21 +1,24 @@
 // The commands that judge no given document. `check` and `explain` speak of sources and refusals alone.
 #![tactic(auto)]
 
-mod compared;
-
-pub use compared::compare;
 use cs_check::{
     Checked, Findings, schema_findings, source_findings, wide_findings, wide_schema_findings,
 };
-use cs_compare::write_lines;
-use cs_fault_words::explained;
+use cs_compare::{
+    CompareRefusal, Comparison, Side, Told, compare as compare_sources, write_both,
+    write_comparison, write_lines,
+};
+use cs_fault_words::{About, explained};
+use cs_judge::{Why, Written, prepare};
 use cs_listing::{put_listing, put_listing_json};
 use cs_place::Named;
 use cs_reason_words::Form;
-use cs_run_input::{COMMAND_LINE, Call, Status, named_text, read_input};
-use cs_run_refusals::{Teller, over_sources};
+use cs_run_call::{
+    COMMAND_LINE, Call, Reasons, Status, Teller, named_sources, named_text, over_meant,
+    over_sources, read_input, read_sources, sources_of,
+};
 use cs_samples::{QuestionFault, SampleTexts, Sampled, samples};
-use cs_tool::{Fault, accepted_package, read_root, write_text};
+use cs_tool::{Fault, Rules, accepted_package, read_root, slices_of, write_text};
 use cs_widen::{Profile, widen, widen_in};
 use std::alloc::{AllocError, Global};
 use std::io::Write;
@@ -38,7 +41,10 @@ pub fn check(call: Call<'_, '_>) -> Status {
         None => over_sources(call, |sources, named| check_sources(call, sources, named)),
     };
     match answer {
-        Err(Fault::ReadFailed) => Teller::of(call, Form::Lines).tell_unread(&Fault::ReadFailed),
+        Err(Fault::ReadFailed) => Teller::of(call, Form::Lines).tell(
+            &Fault::ReadFailed,
+            About::of(&[], ""),
+        ),
         answer => answer,
     }
 }
@@ -85,17 +91,9 @@ pub fn explain(call: Call<'_, '_>) -> Status {
     call.print(text.as_bytes())
 }
 
-/// The status of `list`: a refusal is told as the words ask for it.
+/// The status of `list`: a refusal is told as the words ask for it. Places are in the sources as they were read.
 pub fn list(call: Call<'_, '_>) -> Status {
-    over_sources(call, |sources, named| list_meant(call, sources, named))
-}
-
-/// Writes the definitions of what these sources stand for, whose places are in those that are named.
-fn list_meant(call: Call<'_, '_>, sources: &[&[u8]], named: &[Named<'_>]) -> Status {
-    match call.meant_source(sources)? {
-        Some(meant) => write_listing(call, &[&meant], named),
-        None => write_listing(call, sources, named),
-    }
+    over_meant(call, |sources, named| write_listing(call, sources, named))
 }
 
 /// Writes the definitions of the package of these sources, in lines or as an object.
@@ -112,13 +110,10 @@ fn write_listing(call: Call<'_, '_>, sources: &[&[u8]], named: &[Named<'_>]) -> 
 
 /// The status of `widen`: a refusal is told as the words ask for it.
 pub fn write_widened(call: Call<'_, '_>) -> Status {
-    over_sources(call, |sources, _| write_source(call, sources))
-}
-
-/// Writes the source that these sources stand for.
-fn write_source(call: Call<'_, '_>, sources: &[&[u8]]) -> Status {
-    let source = source_of(call.alloc(), call.profile(), sources)?;
-    call.print(source.as_bytes())
+    over_sources(call, |sources, _| {
+        let source = source_of(call.alloc(), call.profile(), sources)?;
+        call.print(source.as_bytes())
+    })
 }
 
 /// The source that sources stand for in a profile. In the default one they are refused for their size as a package is, with how many
@@ -133,15 +128,7 @@ fn source_of(alloc: Global, profile: Profile, sources: &[&[u8]]) -> Result<Strin
 /// The status of `samples`: 0, or 1 where there is no document, and with `--strict` where something is left. A refusal is told where
 /// the words ask for it.
 pub fn write_samples(call: Call<'_, '_>) -> Status {
-    over_sources(call, |sources, _| sample_meant(call, sources))
-}
-
-/// Writes documents of the root of what these sources stand for.
-fn sample_meant(call: Call<'_, '_>, sources: &[&[u8]]) -> Status {
-    match call.meant_source(sources)? {
-        Some(meant) => write_found(call, &[&meant]),
-        None => write_found(call, sources),
-    }
+    over_meant(call, |sources, _| write_found(call, sources))
 }
 
 /// Writes the documents of the root of these sources, and says what is left. What can't be said changes no status.
@@ -197,4 +184,184 @@ fn left_of(alloc: Global, found: &SampleTexts, most: usize) -> Result<String, Al
         write!(left, "rules without a document: {}\n", found.untried)?;
     }
     Ok(left)
+}
+
+/// What comes of comparing editions, unless a side refuses.
+type Compared<T> = Result<T, CompareRefusal>;
+
+/// The name of the document that is shown, in what is told of it.
+const SHOWN: &str = "document";
+
+/// An edition of a definition.
+#[derive(Clone, Copy)]
+struct Edition<'a> {
+    /// What is judged by: the sources, or what they stand for.
+    rules: &'a Rules,
+    /// The sources as they were given.
+    sources: &'a [Named<'a>],
+    root: &'a str,
+}
+
+impl<'a> Edition<'a> {
+    fn of(rules: &'a Rules, sources: &'a [Named<'a>], root: &'a str) -> Edition<'a> {
+        Edition {
+            rules,
+            sources,
+            root,
+        }
+    }
+
+    /// The same by other rules, where there are some.
+    fn by(self, meant: Option<&'a Rules>) -> Edition<'a> {
+        Edition::of(meant.unwrap_or(self.rules), self.sources, self.root)
+    }
+}
+
+/// The status of `compare`: 0, or 1 where an answer is `breaking`. A refusal is told as the answer would be.
+pub fn compare(call: Call<'_, '_>) -> Status {
+    match compared(call) {
+        Ok(status) => Ok(status),
+        Err(refusal) => tell_refusal(call, refusal, About::of(&[], "")),
+    }
+}
+
+/// The same, where the refusals of the input aren't told.
+fn compared(call: Call<'_, '_>) -> Compared<u8> {
+    let old = rules_of(call, Side::Old)?;
+    let new = rules_of(call, Side::New)?;
+    let old_sources = named_sources(call.alloc(), call.paths("old"), sources_of(&old))?;
+    let new_sources = named_sources(call.alloc(), call.paths("new"), sources_of(&new))?;
+    let before = Edition::of(&old, &old_sources, root_of(call, Side::Old));
+    let after = Edition::of(&new, &new_sources, root_of(call, Side::New));
+    Ok(compare_editions(call, before, after)?)
+}
+
+/// The word of a side, for its files and before what is told of it.
+fn word_of(side: Side) -> &'static str {
+    match side {
+        Side::Old => "old",
+        Side::New => "new",
+    }
+}
+
+/// The root of a side: the new one may have a name of its own.
+fn root_of<'w>(call: Call<'_, 'w>, side: Side) -> &'w str {
+    match (side, call.words.get_str("new-root")) {
+        (Side::New, Some(root)) => root,
+        (Side::Old | Side::New, _) => call.word("root"),
+    }
+}
+
+/// The refusal of a side.
+fn refusal_of(side: Side, fault: Fault) -> CompareRefusal {
+    let side = Some(side);
+    CompareRefusal { side, fault }
+}
+
+/// The rules of a side, read from its files.
+fn rules_of(call: Call<'_, '_>, side: Side) -> Compared<Rules> {
+    let root = String::from_str(call.alloc(), root_of(call, side))?;
+    match read_sources(call.rt, call.paths(word_of(side))) {
+        Ok(sources) => Ok(Rules::Root { sources, root }),
+        Err(fault) => Err(refusal_of(side, fault)),
+    }
+}
+
+/// The status of `compare` by the editions of both sides, whose refusals are told by them.
+fn compare_editions<'a>(call: Call<'_, '_>, before: Edition<'a>, after: Edition<'a>) -> Status {
+    let refusal = match write_meant(call, before, after) {
+        Ok(is_compatible) => return Ok(if is_compatible { 0 } else { INVALID }),
+        Err(refusal) => refusal,
+    };
+    let about = match refusal.side {
+        Some(Side::Old) => About::of(before.sources, before.root),
+        Some(Side::New) => About::of(after.sources, after.root),
+        None => About::of(&[], ""),
+    };
+    tell_refusal(call, refusal, about)
+}
+
+/// Tells a refusal as it is asked for, and gives its status. Which file can't be read is told in any case.
+fn tell_refusal(call: Call<'_, '_>, refusal: CompareRefusal, about: About<'_>) -> Status {
+    let CompareRefusal { side, fault } = refusal;
+    let form = match call.told_form() {
+        Some(form) => form,
+        None if matches!(fault, Fault::ReadFailed) => Form::Lines,
+        None => return Err(fault),
+    };
+    let side = side.map(word_of);
+    Teller { call, form, side }.tell(&fault, about)
+}
+
+/// Writes the answers for what the editions stand for in the profile that the words ask for.
+fn write_meant(call: Call<'_, '_>, before: Edition<'_>, after: Edition<'_>) -> Compared<bool> {
+    let of_old = |fault| refusal_of(Side::Old, fault);
+    let of_new = |fault| refusal_of(Side::New, fault);
+    let old = call.meant_rules(before.rules).map_err(of_old)?;
+    let new = call.meant_rules(after.rules).map_err(of_new)?;
+    write_answers(call, before.by(old.as_ref()), after.by(new.as_ref()))
+}
+
+/// Writes whether old documents are new ones, and where both directions are asked for whether new documents are old ones.
+fn write_answers(call: Call<'_, '_>, before: Edition<'_>, after: Edition<'_>) -> Compared<bool> {
+    let (alloc, output) = (call.alloc(), &mut call.rt.stdout());
+    let is_json = matches!(call.told_form(), Some(Form::Object(_)));
+    let backward = told_answer(call, before, after)?;
+    if !call.words.get_flag("both") {
+        return Ok(write_comparison(alloc, &backward, is_json, output)?);
+    }
+    let forward = told_answer(call, after, before)?;
+    Ok(write_both(alloc, &backward, &forward, is_json, output)?)
+}
+
+/// Whether each document of an edition is one of the other edition, and where it is asked for why one isn't.
+fn told_answer(call: Call<'_, '_>, from: Edition<'_>, to: Edition<'_>) -> Compared<Told> {
+    let alloc = call.alloc();
+    let admitting = slices_of(alloc, sources_of(from.rules))?;
+    let refusing = slices_of(alloc, sources_of(to.rules))?;
+    let comparison = compare_sources(alloc, &admitting, from.root, &refusing, to.root)?;
+    let reasons = match (&comparison, call.reasons()) {
+        (Comparison::Breaking(shown), Some(reasons)) => reasons_told(alloc, shown, to, reasons)?,
+        _ => Vec::new(alloc),
+    };
+    Ok(Told {
+        comparison,
+        reasons,
+    })
+}
+
+/// What an edition tells of the text of a document that it refuses: the lines below the verdict, or the object without its newline.
+fn reasons_told(
+    alloc: Global,
+    shown: &[u8],
+    to: Edition<'_>,
+    reasons: Reasons,
+) -> Result<Vec<u8>, Fault> {
+    let written = Written::of(alloc, reasons.form, to.sources)?;
+    told_from(alloc, shown, to.rules, &written, reasons)
+}
+
+/// The same from these sources.
+fn told_from(
+    alloc: Global,
+    shown: &[u8],
+    rules: &Rules,
+    sources: &Written<'_>,
+    reasons: Reasons,
+) -> Result<Vec<u8>, Fault> {
+    let Reasons { form, telling } = reasons;
+    let why = Why {
+        sources,
+        form,
+        telling,
+    };
+    let prepared = prepare(alloc, rules)?;
+    let mut judge = prepared.judge(alloc)?;
+    let mut told = Vec::new(alloc);
+    judge.explain(named_text(SHOWN, shown), Some(why), &mut told)?;
+    let bare = match form {
+        Form::Object(_) => told.trim_ascii_end(),
+        Form::Lines => told.strip_prefix(b"invalid\n").unwrap_or(&told),
+    };
+    Ok(bare.to_vec(alloc)?)
 }

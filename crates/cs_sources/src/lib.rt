@@ -7,6 +7,7 @@ mod source;
 mod tokens;
 
 pub use cs_grammar::Profile;
+pub use cs_place::Made;
 pub use near::{Declared, Near, Part, declared_in};
 pub use source::{Bracket, Inside, MOST_AROUND, Separator, Source, sources_of};
-pub use tokens::{Made, begins_value, end_of, ends_value, follows_label, is_mark, separates};
+pub use tokens::{begins_value, end_of, ends_value, follows_label, is_mark, separates};

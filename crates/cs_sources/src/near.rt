@@ -1,8 +1,9 @@
 // A token of a source and what is near it, a part of a source and its parts, and where sources declare definitions.
 use crate::source::Separator::{Amp, Bar, Colon, Comma};
 use crate::source::{Bracket, Inside, Separation, Separator, Source};
-use crate::tokens::{Made, end_of, is_mark, precedes_declaration};
+use crate::tokens::{end_of, is_mark, precedes_declaration};
 use cs_grammar::{Sort, Token};
+use cs_place::Made;
 use std::alloc::Global;
 use std::iter::successors;
 use std::mem;

@@ -1,8 +1,8 @@
 // Sources with their tokens, the brackets that these are in, and what separates the parts inside of each.
 use crate::near::{Near, Part};
-use crate::tokens::{Made, is_behind_label, is_mark, precedes_declaration, tokens_of};
+use crate::tokens::{is_behind_label, is_mark, precedes_declaration, tokens_of};
 use cs_grammar::{Profile, Sort, Token};
-use cs_place::Named;
+use cs_place::{Made, Named};
 use std::alloc::Global;
 use std::str;
 

@@ -1,10 +1,8 @@
 // The tokens of any text, and what they are, each by itself. Where a text can't be cut, cutting goes on behind what no token begins with.
 use cs_grammar::{Profile, Sort, SyntaxFault, Token};
 use cs_lexer::lex_in;
+use cs_place::Made;
 use std::alloc::{AllocError, Global};
-
-/// What is made in memory, which can run out.
-pub type Made<T> = Result<T, AllocError>;
 
 /// The tokens of a text in a profile, and its end. What no token begins with is one too: an integer, a text, or a mark that is left
 /// out. Each byte is read three times at most, however often the text is stuck.

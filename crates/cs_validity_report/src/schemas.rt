@@ -9,9 +9,8 @@ use cs_flat::{Flat, Item};
 use cs_place::{Named, Step};
 use cs_profile::{JsonKind, Keyword, Keywords, Schema};
 use cs_reason_words::{
-    Finding, Form, Format, Found, Kinds, MOST_COMPARISONS, MOST_WANTED, Made, Way, Words, Written,
-    item_at, put_between, put_integer, put_more, put_steps, put_told, report_verdict, told_apart,
-    told_by,
+    Finding, Form, Found, Kinds, MOST_COMPARISONS, MOST_WANTED, Made, Way, Words, Written, item_at,
+    put_between, put_integer, put_more, put_steps, put_told, report_verdict, told_apart, told_by,
 };
 use cs_reasons::Telling;
 use cs_validate::SchemaRules;
@@ -361,10 +360,11 @@ pub fn report_validity<'t>(
                 comparisons: MOST_COMPARISONS,
             };
             let told = told_by(alloc, &mut words, telling, document, reasons)?;
-            if let Form::Object(Format::Basic) = form {
-                put_basic(&mut text, &words, document, reasons, &told)?;
-            } else {
-                put_told(&mut text, form, document, &told)?;
+            match form {
+                Form::Object(format) if format.has_units() => {
+                    put_basic(&mut text, &words, document, reasons, &told)?;
+                }
+                Form::Lines | Form::Object(_) => put_told(&mut text, form, document, &told)?,
             }
         }
         Explanation::Invalid(_) => {}
@@ -372,8 +372,7 @@ pub fn report_validity<'t>(
     report_verdict(alloc, form, explanation.is_valid(), text.as_str(), output)
 }
 
-/// That the reasons of a document aren't told: for people, and the members for programs and in the output format `basic` (JSON
-/// Schema Core 2020-12, section 12.4.2).
+/// That the reasons of a document aren't told, for people.
 const UNTOLD_LINE: &str =
     "the reasons aren't told: values and required names make more than 67,108,864 pairs\n";
 
@@ -386,8 +385,6 @@ fn put_untold(text: &mut String, form: Form) -> Written
             text.push_str(UNTOLD_LINE)?;
             Ok(())
         }
-        Form::Object(Format::Json) => text.push_str(",\"errors\":[],\"more\":1"),
-        Form::Object(Format::Flag) => Ok(()),
-        Form::Object(Format::Basic) => text.push_str(",\"errors\":[]"),
+        Form::Object(format) => text.push_str(format.untold()),
     }
 }

@@ -33,10 +33,7 @@ impl Walk<'_> {
     /// The package with copies of the definitions on the way to a place, the root's last, where each step of the way is forced and
     /// the change is made at the place; none where such a package isn't guarded. What the root doesn't reach has no bodies there.
     /// Where the change is made everywhere, the definition of the place is changed itself. What a document may lack is left out
-    /// where the least is asked for: its questions lead to far fewer others.
-    ///
-    /// # Errors
-    /// Where memory runs out.
+    /// where the least is asked for: its questions lead to far fewer others. Only memory can run out.
     pub fn variant(&self, place: &Place<'_>, at: Where, is_least: bool) -> Made<Option<Guarded>> {
         let mut draft = Draft::new(self, is_least);
         for definition in 0..self.package.count() {
@@ -50,10 +47,7 @@ impl Walk<'_> {
         draft.guarded()
     }
 
-    /// The package of one definition, `_`, in place of the root.
-    ///
-    /// # Errors
-    /// Where memory runs out.
+    /// The package of one definition, `_`, in place of the root. Only memory can run out.
     pub fn of_everything(&self) -> Made<Option<Guarded>> {
         let mut draft = Draft::new(self, false);
         let anything = vec![in self.alloc; Shape::Top]?;

@@ -36,10 +36,7 @@ pub struct Walk<'a> {
     steps: Vec<usize>,
 }
 
-/// The places of what the root reaches.
-///
-/// # Errors
-/// Where memory runs out.
+/// The places of what the root reaches. Only memory can run out.
 pub fn walk_of(alloc: Global, package: &Package, root: usize, which: Sampled) -> Made<Walk<'_>> {
     let mut walk = Walk {
         alloc,
@@ -286,10 +283,7 @@ impl Walk<'_> {
     /// The numbers of the places, in the order in which they get their turns, each behind its turn and the number of places of its
     /// definition that come before it in that turn. Each rule gets its first turn before any gets its second one. In a turn each
     /// definition gives one place, then each a second one, and so on; those of a definition come from the outside in, and in the
-    /// order of the text.
-    ///
-    /// # Errors
-    /// Where memory runs out.
+    /// order of the text. Only memory can run out.
     pub fn in_turns(&self) -> Made<Vec<(usize, usize, usize)>> {
         let mut ranked = Vec::with_capacity(self.alloc, self.places.len())?;
         for (number, place) in self.places.iter().enumerate() {

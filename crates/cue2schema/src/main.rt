@@ -2,8 +2,9 @@
 #![tactic(auto)]
 
 use clap::ArgMatches;
+use cs_fault_words::About;
+use cs_run_call::{COMMAND_LINE, Call, Status, or_told, process_words, show};
 use cs_run_export::export;
-use cs_run_input::{COMMAND_LINE, Call, Status, process_words, show};
 use cs_run_judge::judge;
 use cs_run_questions::{check, compare, explain, list, write_samples, write_widened};
 use cs_tool::{command, write_fault};
@@ -44,7 +45,7 @@ fn answered<'m>(rt: &'m HostRuntime, matches: &'m ArgMatches<'_>) -> Status {
         );
         return Ok(COMMAND_LINE);
     }
-    match command {
+    let answer = match command {
         "export" => export(call),
         "vet" | "validate" | "agree" => judge(call, command),
         "check" => check(call),
@@ -54,5 +55,6 @@ fn answered<'m>(rt: &'m HostRuntime, matches: &'m ArgMatches<'_>) -> Status {
         "samples" => write_samples(call),
         "widen" => write_widened(call),
         _ => Ok(COMMAND_LINE),
-    }
+    };
+    or_told(call, About::of(&[], ""), answer)
 }

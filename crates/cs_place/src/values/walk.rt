@@ -1,8 +1,9 @@
 // A walk over the values of a JSON text, by its tokens.
 use super::{Place, Step, ValuePath, number_place};
+use crate::{Made, Written};
 use itoa::Buffer;
 use json::{Reader, Scratch, Token};
-use std::alloc::{AllocError, Global};
+use std::alloc::Global;
 use std::collections::BTreeMap;
 use std::str;
 
@@ -49,7 +50,7 @@ pub(super) fn found_in<'a>(
     text: &'a [u8],
     paths: &[ValuePath<'a>],
     numbers: &mut Vec<usize>,
-) -> Result<Vec<Option<Found>>, AllocError> {
+) -> Made<Vec<Option<Found>>> {
     let mut scratch = Scratch::new(alloc);
     let mut walk = Walk::new(alloc);
     walk.look_for(paths, numbers)?;
@@ -58,7 +59,7 @@ pub(super) fn found_in<'a>(
 }
 
 /// The pointer of the value that begins at an offset of a JSON text (RFC 6901). Only memory can run out.
-pub fn pointer_at(alloc: Global, text: &[u8], offset: usize) -> Result<String, AllocError> {
+pub fn pointer_at(alloc: Global, text: &[u8], offset: usize) -> Made<String> {
     let mut scratch = Scratch::new(alloc);
     let mut walk = Walk::new(alloc);
     walk.go(text, &mut scratch, offset)?;
@@ -75,7 +76,7 @@ pub fn pointer_at(alloc: Global, text: &[u8], offset: usize) -> Result<String, A
 }
 
 /// Puts a key with the escapes of pointers (RFC 6901, section 3).
-fn put_key(alloc: Global, pointer: &mut String, key: &str) -> Result<(), AllocError> {
+fn put_key(alloc: Global, pointer: &mut String, key: &str) -> Written {
     let key = key.replace(alloc, "~", "~0")?;
     let key = key.replace(alloc, "/", "~1")?;
     pointer.push_str(key.as_str())
@@ -91,11 +92,7 @@ impl<'a> Walk<'a> {
     }
 
     /// Looks for values, and adds their numbers behind that of the document: two paths that are the same have the same one.
-    fn look_for(
-        &mut self,
-        paths: &[ValuePath<'a>],
-        numbers: &mut Vec<usize>,
-    ) -> Result<(), AllocError> {
+    fn look_for(&mut self, paths: &[ValuePath<'a>], numbers: &mut Vec<usize>) -> Written {
         numbers.push(DOCUMENT)?;
         self.found.push(None)?;
         for path in paths {
@@ -113,12 +110,7 @@ impl<'a> Walk<'a> {
     }
 
     /// Goes to the token that begins at an offset of a text, or to the end of its first value.
-    fn go(
-        &mut self,
-        text: &'a [u8],
-        scratch: &'a mut Scratch,
-        end: usize,
-    ) -> Result<(), AllocError> {
+    fn go(&mut self, text: &'a [u8], scratch: &'a mut Scratch, end: usize) -> Written {
         let json = text.strip_prefix(MARK).unwrap_or(text);
         let front = text.len().saturating_sub(json.len());
         let Ok(json) = str::from_utf8(json) else {
@@ -140,7 +132,7 @@ impl<'a> Walk<'a> {
     }
 
     /// Goes behind a token that begins at an offset.
-    fn pass(&mut self, token: Token<'a>, offset: usize) -> Result<(), AllocError> {
+    fn pass(&mut self, token: Token<'a>, offset: usize) -> Written {
         match token {
             Token::BeginObject => self.enter(offset, None),
             Token::BeginArray => self.enter(offset, Some(Step::Element(0))),
@@ -166,7 +158,7 @@ impl<'a> Walk<'a> {
     }
 
     /// Goes into the map or list that begins at an offset.
-    fn enter(&mut self, start: usize, step: Option<Step<'a>>) -> Result<(), AllocError> {
+    fn enter(&mut self, start: usize, step: Option<Step<'a>>) -> Written {
         let number = self.note(start);
         self.open.push(Level {
             number,

@@ -1,7 +1,7 @@
 use Rattle.std.proofs.Common.{◌≡◌, ℕ, List, Option, Some, Result, IfOk}
-use Rattle.cs_reason_words.specs.declared.form.Form.{Form}
-use Rattle.cs_reason_words.specs.declared.form.Form.TheVariants.{Lines, Object}
-use Rattle.cs_reason_words.specs.declared.form.Format.{Format}
+use Rattle.cs_format.specs.declared.Form.{Form}
+use Rattle.cs_format.specs.declared.Form.TheVariants.{Lines, Object}
+use Rattle.cs_format.specs.declared.Format.{Format}
 use Rattle.cs_judge.specs.Explained.{IsTold, IsBehindFront, IsWrittenOf, behind, told_line, members_text}
 use Rattle.cs_judge.specs.Lines.{Answer}
 use Rattle.cs_judge.specs.Writing.{Writes, WritesSome}

@@ -1,7 +1,7 @@
 use Rattle.std.proofs.Common.{◌≡◌, ℕ, List, ◌++◌, Option, Some, Result, IfOk, refl, ap₂, ◌∙◌, append_assoc}
-use Rattle.cs_reason_words.specs.declared.form.Form.{Form}
-use Rattle.cs_reason_words.specs.declared.form.Form.TheVariants.{Lines, Object}
-use Rattle.cs_reason_words.specs.declared.form.Format.{Format}
+use Rattle.cs_format.specs.declared.Form.{Form}
+use Rattle.cs_format.specs.declared.Form.TheVariants.{Lines, Object}
+use Rattle.cs_format.specs.declared.Format.{Format}
 use Rattle.cs_judge.specs.Explained.{IsTold, IsWritten, input_member, members_text}
 use Rattle.cs_judge.specs.Lines.{Answer, answer_line}
 use Rattle.cs_judge.specs.Writing.{Holds, HoldsSome}

@@ -1,4 +1,5 @@
 use Rattle.std.proofs.Common.{subst}
+use Rattle.cs_judge.specs.Explained.{asked_form}
 use Rattle.cs_judge.specs.Prepared.{AreNumbersOf}
 use Rattle.cs_judge.proofs.ByRules.{by_root, by_schema, by_both}
 use Rattle.cs_judge.proofs.verdict.verdict.Goals as goal
@@ -16,4 +17,4 @@ returns-in-Schema c = λ R text is read. record {
 }
 
 pub returns-in-Both : goal.returns-in-Both
-returns-in-Both c = λ R text is read. by_both text _ read c.both_verdicts.result c.args.case _ _ R _ _ (subst (AreNumbersOf R) c.in-Both.is is) c.both_verdicts.ensures
+returns-in-Both c = λ R text is read. by_both text _ read c.both_verdicts.result (asked_form c.args.case.why) _ _ R _ _ (subst (AreNumbersOf R) c.in-Both.is is) c.both_verdicts.ensures

@@ -1,9 +1,8 @@
 use Rattle.std.proofs.Common.{List, [], Option, ◌≢◌, ℕ, rules}
 use Rattle.cs_judge.specs.Answering.{IsAnswered}
-use Rattle.cs_judge.specs.Explained.{asked_form, AreTold, AreToldTo}
+use Rattle.cs_judge.specs.Explained.{asked_form}
 use Rattle.cs_judge.proofs.LineLists.{on_ok, on_err, on_error}
 use Rattle.cs_judge.proofs.LineRuns.{AreAllAnswered, none_begun, none_written, last_answered, last_broken_off, all_done, all_cut_off}
-use Rattle.cs_judge.proofs.ExplainedRuns.{at_any_line}
 use Rattle.cs_judge.proofs.lines.LineRun.finish.Given.{Over}
 use Rattle.cs_judge.proofs.lines.LineRun.finish.Goals.{After-write_out, then-not-is_empty+in_ok-answer_line, else-not-is_empty}
 use Rattle.cs_judge.proofs.lines.LineRun.finish.Goals as goal
@@ -19,18 +18,17 @@ returns-in_err-answer_line g c = record {
 
 module _ (g : Over) (c : After-write_out g) where
   -- all lines are answered where the run writes out
-  all_lines : (start : Option (List ℕ)) (bytes : List ℕ) → IsAnswered (AreToldTo (asked_form c.args.why) c.args.self.now.line.line) c.args.judge.now start (g.W.Write.contents c.args.output.now) bytes c.args.self.now
-      → AreAllAnswered (AreTold (asked_form c.args.why)) c.args.judge.now start (g.W.Write.contents c.if-not-is_empty.output) bytes c.if-not-is_empty.self
+  all_lines : (start : Option (List ℕ)) (bytes : List ℕ) → IsAnswered (asked_form c.args.why) c.args.judge.now start (g.W.Write.contents c.args.output.now) bytes c.args.self.now
+      → AreAllAnswered (asked_form c.args.why) c.args.judge.now start (g.W.Write.contents c.if-not-is_empty.output) bytes c.if-not-is_empty.self
   all_lines start bytes a =
       elim c.if-not-is_empty.branch [
         | then-not-is_empty+in_ok-answer_line w ↦
             let some : a.rest ≢ [] = λ none. cc ((c.is_empty.ensures.tells a.rest a.begun).1 none, w.if-not-is_empty.true) in
-            let answered = at_any_line (asked_form c.args.why) _ _ start _ _ _ (w.in_ok-answer_line.ensures.line.all start a.lines a.rest a.answered a.begun) in
+            let answered = w.in_ok-answer_line.ensures.line.all start a.lines a.rest a.answered a.begun in
             rw (w.self-is, w.output-is) (last_answered c.args.judge.now start _ bytes c.args.self.now a _ _ some answered)
         | else-not-is_empty w ↦
             let none = (c.is_empty.ensures.tells a.rest a.begun).0 w.if-not-is_empty.false in
-            let all = none_begun c.args.judge.now start _ bytes c.args.self.now a none in
-            rw (w.self-is, w.output-is) (all.0, all.1, at_any_line (asked_form c.args.why) _ _ start _ _ _ all.2)
+            rw (w.self-is, w.output-is) (none_begun c.args.judge.now start _ bytes c.args.self.now a none)
       ]
 
 pub returns : goal.returns

@@ -10,44 +10,23 @@ use Rattle.cs_judge.proofs.text_judge.TextJudge.answer.Goals as goal
 flattened : (text : List ℕ) (d e : Document) → e ≡ d → Reads text d → IsDocument d → IsReadAs text e
 flattened text d e same read proper = (subst (Reads text) (sym same) read, subst IsDocument (sym same) proper)
 
-pub returns-clause-of : goal.returns-clause-of
-returns-clause-of c =
+pub returns-clause-verdict : goal.returns-clause-verdict
+returns-clause-verdict c =
     let t = c.args.document.text.now in
     let numbers = subst₂ AreNumbersOf c.self.view_is refl c.self.invariant in
     let read = c.in_ok-flat.ensures in
     elim c.match-branch-2.branch [
-      | in-Listed w ↦ rw w.result-is (w.verdict.ensures c.args.self.now t numbers (rw w.in-Listed.is at read.found, rw w.in-Listed.is at read.document)).of
+      | in-Listed w ↦ rw (w.result-is, w.report-is) (w.verdict.ensures c.args.self.now t numbers (rw w.in-Listed.is at read.found, rw w.in-Listed.is at read.document))
       | in-Tree+in_ok-flat-in-Tree+in-Text-1 w ↦
           let is = flattened t _ _ w.in_ok-flat-in-Tree.ensures.found (rw w.in-Tree.is at read.found) (rw w.in-Tree.is at read.document) in
-          rw w.result-is (w.verdict-in-Tree.ensures c.args.self.now t numbers is).of
+          rw (w.result-is, w.report-is) (w.verdict-in-Tree.ensures c.args.self.now t numbers is)
       | in-Tree+in_ok-flat-in-Tree+in-List-1 w ↦
           let is = flattened t _ _ w.in_ok-flat-in-Tree.ensures.found (rw w.in-Tree.is at read.found) (rw w.in-Tree.is at read.document) in
-          rw w.result-is (w.verdict-in-Tree.ensures c.args.self.now t numbers is).of
+          rw (w.result-is, w.report-is) (w.verdict-in-Tree.ensures c.args.self.now t numbers is)
       | in-Tree+in_ok-flat-in-Tree+in-Object-1 w ↦
           let is = flattened t _ _ w.in_ok-flat-in-Tree.ensures.found (rw w.in-Tree.is at read.found) (rw w.in-Tree.is at read.document) in
-          rw w.result-is (w.verdict-in-Tree.ensures c.args.self.now t numbers is).of
+          rw (w.result-is, w.report-is) (w.verdict-in-Tree.ensures c.args.self.now t numbers is)
       | in-Tree+in_ok-flat-in-Tree+in-Null-1 w ↦
           let is = flattened t _ _ w.in_ok-flat-in-Tree.ensures.found (rw w.in-Tree.is at read.found) (rw w.in-Tree.is at read.document) in
-          rw w.result-is (w.verdict-in-Tree.ensures c.args.self.now t numbers is).of
-    ]
-
-pub returns-clause-told : goal.returns-clause-told
-returns-clause-told c =
-    let t = c.args.document.text.now in
-    let numbers = subst₂ AreNumbersOf c.self.view_is refl c.self.invariant in
-    let read = c.in_ok-flat.ensures in
-    elim c.match-branch-2.branch [
-      | in-Listed w ↦ rw (w.result-is, w.report-is) (w.verdict.ensures c.args.self.now t numbers (rw w.in-Listed.is at read.found, rw w.in-Listed.is at read.document)).told
-      | in-Tree+in_ok-flat-in-Tree+in-Text-1 w ↦
-          let is = flattened t _ _ w.in_ok-flat-in-Tree.ensures.found (rw w.in-Tree.is at read.found) (rw w.in-Tree.is at read.document) in
-          rw (w.result-is, w.report-is) (w.verdict-in-Tree.ensures c.args.self.now t numbers is).told
-      | in-Tree+in_ok-flat-in-Tree+in-List-1 w ↦
-          let is = flattened t _ _ w.in_ok-flat-in-Tree.ensures.found (rw w.in-Tree.is at read.found) (rw w.in-Tree.is at read.document) in
-          rw (w.result-is, w.report-is) (w.verdict-in-Tree.ensures c.args.self.now t numbers is).told
-      | in-Tree+in_ok-flat-in-Tree+in-Object-1 w ↦
-          let is = flattened t _ _ w.in_ok-flat-in-Tree.ensures.found (rw w.in-Tree.is at read.found) (rw w.in-Tree.is at read.document) in
-          rw (w.result-is, w.report-is) (w.verdict-in-Tree.ensures c.args.self.now t numbers is).told
-      | in-Tree+in_ok-flat-in-Tree+in-Null-1 w ↦
-          let is = flattened t _ _ w.in_ok-flat-in-Tree.ensures.found (rw w.in-Tree.is at read.found) (rw w.in-Tree.is at read.document) in
-          rw (w.result-is, w.report-is) (w.verdict-in-Tree.ensures c.args.self.now t numbers is).told
+          rw (w.result-is, w.report-is) (w.verdict-in-Tree.ensures c.args.self.now t numbers is)
     ]

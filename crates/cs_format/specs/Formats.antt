@@ -1,9 +1,9 @@
 -- What is asked of the formats of reasons.
 use Rattle.std.specs.Prelude.{Bool, true, false}
-use Rattle.cs_reason_words.specs.declared.form.Form.{Form}
-use Rattle.cs_reason_words.specs.declared.form.Form.TheVariants.{Lines, Object}
-use Rattle.cs_reason_words.specs.declared.form.Format.{Format}
-use Rattle.cs_reason_words.specs.declared.form.Format.TheVariants.{Json, Flag, Basic}
+use Rattle.cs_format.specs.declared.Form.{Form}
+use Rattle.cs_format.specs.declared.Form.TheVariants.{Lines, Object}
+use Rattle.cs_format.specs.declared.Format.{Format}
+use Rattle.cs_format.specs.declared.Format.TheVariants.{Json, Flag, Basic}
 
 -- whether it is an output format of JSON Schema (JSON Schema Core 2020-12, section 12.4)
 abbrev pub is_standard : Format → Bool

@@ -1,8 +1,9 @@
-// What a command is given: its words, the files that they name, and standard input, read under the limits; and what it writes.
+// What a command is given: its words, the files that they name, and standard input, read under the limits; and how refusals are told.
 #![tactic(auto)]
 
 mod command_line;
 mod files;
+mod told;
 
 use clap::ArgMatches;
 pub use command_line::{COMMAND_LINE, process_words, show};
@@ -11,10 +12,10 @@ use cs_reasons::Telling;
 use cs_tool::{Fault, Rules, slices_of, write_text};
 use cs_widen::{Profile, schema_stands_for_in, stands_for_in};
 pub use files::{
-    NO_FILE, STANDARD_INPUT, Unread, named_sources, named_text, named_texts, read_input,
-    read_source, read_sources, sizes_of, unread_file,
+    STANDARD_INPUT, named_sources, named_text, read_input, read_source, read_sources, sources_of,
 };
 use std::alloc::Global;
+pub use told::{Teller, about_unread, or_told, over_meant, over_sources};
 
 /// How many reasons are told at most where the words don't say.
 const MOST_REASONS: usize = 20;
@@ -50,14 +51,6 @@ impl<'m, 'w> Call<'m, 'w> {
     /// The files that a word names.
     pub fn paths(self, name: &str) -> &'m [&'m str] {
         self.words.get_strs(name).unwrap_or(&[])
-    }
-
-    /// The sources that are named, or standard input as the one source where none is.
-    pub fn sources(self) -> Result<Vec<Vec<u8>>, Fault> {
-        match self.words.get_strs("FILE") {
-            Some(paths) => read_sources(self.rt, paths),
-            None => Ok(vec![in self.alloc(); read_source(self.rt)?]?),
-        }
     }
 
     /// Writes a text on standard output, and gives the status of a command that does so.

@@ -1,0 +1,2 @@
+-- samples
+mod Samples

@@ -1,0 +1,2 @@
+-- What is asked of the formats of reasons.
+pub mod Formats
