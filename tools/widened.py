@@ -1,14 +1,18 @@
 #!/usr/bin/env python3
 """Tries the model of tools/widening.py, and a program by it. A line for each difference, and a closing count.
 
-    tools/widened.py [--random N] [--seed N]
+    tools/widened.py [--random N] [--random-names N] [--seed N]
     tools/widened.py [--random N] [--seed N] --program PROGRAM
 
-- Each row of tools/widening.rows: a source, what it stands for (`=>`) or the number by which it is refused, and documents that are
-  instances of `#P` and that aren't.
+- Each row of tools/widening.rows, tools/naming.rows and tools/conditions.rows: a source, what it stands for (`=>`) or the number by which it
+  is refused, and documents that are instances of `#P` and that aren't, also by the reading of tools/named_reading.py. A program is tried on
+  those of tools/widening.rows alone.
 - Random packages, 200 where no number is given: each document has to be an instance by a direct reading of the source exactly where it is
   one of the package that is meant. By that reading a document is an instance of a literal with embedded expressions when, for some choice
   of an alternative for each, one for a name, every declared field is as all of them ask, and every other key is allowed by one of them.
+- Random packages of tools/named_packages.py, with names, selectors and conditions, as many as `--random-names` says, or 200 where no number is
+  given: those that the model takes are compared in the same way with the reading of tools/named_reading.py, on documents that are near to
+  instances.
 - With a program: the rows, by `widen --profile wide` and `vet --profile wide`. Then random packages with defaults and embeddings, every
   third one without embeddings, every fifth one in a file for each declaration, and every tenth one in two files. Where the model refuses,
   the program has to. Where it doesn't, `widen --profile wide` has to say of the package what `widen` says of the one that the model means:
@@ -36,10 +40,17 @@ from dataclasses import dataclass, field
 from pathlib import Path
 
 sys.path.insert(0, str(Path(__file__).resolve().parent))
+from declared_again import refuse_cycles  # noqa: E402
+from named_packages import Sources as NamedSources, mutated  # noqa: E402
+from named_reading import Reading as NamedReading  # noqa: E402
 from profile_of_cue import Package, admits, is_instance, parsed, text  # noqa: E402
-from widening import MOST_NODES, Alternative, Declaration, Quoted, Refused, Widening, WideReader, asks_joining, breaks_opening, is_plain, is_shut, parts, spelled, together, widened  # noqa: E402
+from wide_forms import MOST_NODES, Alternative, Declaration, asks_joining, breaks_opening, is_plain, is_shut, parts  # noqa: E402
+from wide_source import Quoted, Refused, WideReader  # noqa: E402
+from widening import Widening, spelled, together, widened  # noqa: E402
 
 ROWS = Path(__file__).resolve().parent / "widening.rows"
+# Those that the model alone is tried on.
+FURTHER_ROWS = [ROWS.with_name("naming.rows"), ROWS.with_name("conditions.rows")]
 LABELS = ["a", "b", "c"]
 DOCUMENTS = 60
 
@@ -69,7 +80,7 @@ class Row:
 
 
 def row_of(lines: list[str]) -> Row:
-    row = Row("\n".join(it for it in lines if it.startswith(("#", "package"))))
+    row = Row("\n".join(it for it in lines if it.partition(" ")[0] not in ("=>", "valid", "invalid")))
     for line in lines:
         word, _, rest = line.partition(" ")
         if word == "=>":
@@ -96,9 +107,12 @@ def faults_of_row(row: Row) -> Iterator[str]:
     if row.refusal() or row.differs(meant):
         yield f"stands for {spelled(meant)}"
         return
+    reading = NamedReading(WideReader(row.source).package())
     for document, verdict in row.documents:
         if is_instance(meant, "#P", document) != (verdict == "valid"):
             yield f"{json.dumps(document)} isn't {verdict}"
+        if reading.is_named("#P", document) != (verdict == "valid"):
+            yield f"{json.dumps(document)} isn't {verdict} by the direct reading"
 
 
 def read_all(texts: str) -> Iterator:
@@ -283,6 +297,48 @@ def fault_of_package(chance: random.Random, package: Package) -> str | None:
         except RecursionError:
             return ""
     return None
+
+
+def fault_of_names(chance: random.Random, verdicts: Counter, refused: Counter) -> str | None:
+    """A document that the model and the direct reading of a random source with names judge differently; nothing where it is refused."""
+    source = NamedSources(chance).package()
+    try:
+        meant = widened(source)
+        # The model leaves cycles to the program where a package has no form of names or conditions.
+        refuse_cycles(meant)
+    except Refused as why:
+        refused[why.number] += 1
+        return ""
+    reading = NamedReading(WideReader(source).package())
+    last: object = {}
+    for number in range(DOCUMENTS):
+        try:
+            found = (near(chance, meant, ("ref", "#P"), 9) for _ in range(5))
+            doc = mutated(chance, last) if number % 3 else next((it for it in found if is_instance(meant, "#P", it)), last)
+            verdict = is_instance(meant, "#P", doc)
+            last = doc if verdict else last
+            if verdict != reading.is_named("#P", doc):
+                return f"{source}\n{json.dumps(doc)} is {'valid' if verdict else 'invalid'} by\n{spelled(meant)}"
+        except RecursionError:
+            return f"{source}\nnothing can be judged by\n{spelled(meant)}"
+        verdicts[verdict] += 1
+    return None
+
+
+def try_names(seeds: range) -> tuple[int, int]:
+    """How many random packages with names pass, and how many fail."""
+    verdicts: Counter[bool] = Counter()
+    refused: Counter[int] = Counter()
+    passed = failed = 0
+    for seed in seeds:
+        fault = fault_of_names(random.Random(seed), verdicts, refused)
+        passed, failed = passed + (fault is None), failed + bool(fault)
+        if fault:
+            print(f"seed {seed}: {fault}")
+    said = ", ".join(f"{many} by {number}" for number, many in sorted(refused.items()))
+    print(f"{len(seeds) - refused.total()} of {len(seeds)} random packages with names are taken, {refused.total()} are refused: {said}")
+    print(f"{verdicts[True]} documents are instances of those that are taken, {verdicts[False]} aren't")
+    return passed, failed
 
 
 # A program, on the rows, and on random packages with defaults and embeddings.
@@ -712,7 +768,7 @@ def main(words: argparse.Namespace) -> int:
     if words.program:
         return on_program(words)
     passed = failed = refused = 0
-    for row in rows():
+    for row in [*rows(), *(row for path in FURTHER_ROWS for row in rows(path))]:
         faults = list(faults_of_row(row))
         passed, failed = passed + (not faults), failed + bool(faults)
         for it in faults:
@@ -724,6 +780,8 @@ def main(words: argparse.Namespace) -> int:
         if fault:
             print(f"seed {seed}: {fault}")
     print(f"{refused} random packages are refused")
+    named_passed, named_failed = try_names(range(words.seed, words.seed + words.random_names))
+    passed, failed = passed + named_passed, failed + named_failed
     print(f"{passed} passed, {failed} failed")
     return 1 if failed or not passed else 0
 
@@ -731,6 +789,7 @@ def main(words: argparse.Namespace) -> int:
 if __name__ == "__main__":
     parser = argparse.ArgumentParser(description=__doc__, formatter_class=argparse.RawDescriptionHelpFormatter)
     parser.add_argument("--random", type=int, default=200)
+    parser.add_argument("--random-names", type=int, default=200)
     parser.add_argument("--seed", type=int, default=1)
     parser.add_argument("--program", type=Path)
     sys.exit(main(parser.parse_args()))
