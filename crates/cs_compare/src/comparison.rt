@@ -90,9 +90,6 @@ fn read_side(
 {
     match read_root(alloc, sources, root) {
         Ok(package) => Ok(package),
-        Err(fault) => Err(CompareRefusal {
-            side: Some(side),
-            fault,
-        }),
+        Err(fault) => Err(CompareRefusal::of(side, fault)),
     }
 }

@@ -1,5 +1,5 @@
 // Why two editions aren't compared.
-ghost use Rattle.std.specs.Prelude.{◌≡◌};
+ghost use Rattle.std.specs.Prelude.{◌≡◌, Some};
 ghost use Rattle.cs_compare.specs.Refused.{fault_of_question};
 
 use cs_question::QuestionFault;
@@ -19,6 +19,17 @@ pub enum Side {
 pub struct CompareRefusal {
     pub side: Option<Side>,
     pub fault: Fault,
+}
+
+impl CompareRefusal {
+    /// The refusal of a side.
+    pub fn of(side: Side, fault: Fault) -> CompareRefusal
+        ensures side { result.side ≡ Some side }
+        ensures fault { result.fault ≡ fault }
+    {
+        let side = Some(side);
+        CompareRefusal { side, fault }
+    }
 }
 
 impl From<Fault> for CompareRefusal {

@@ -1,31 +1,26 @@
-// The commands that judge no given document. `check` and `explain` speak of sources and refusals alone.
+// The commands that judge no document, but for `compare`. `check` and `explain` speak of sources and refusals alone.
 #![tactic(auto)]
 
 use cs_check::{
     Checked, Findings, schema_findings, source_findings, wide_findings, wide_schema_findings,
 };
-use cs_compare::{
-    CompareRefusal, Comparison, Side, Told, compare as compare_sources, write_both,
-    write_comparison, write_lines,
-};
+use cs_compare::write_lines;
 use cs_fault_words::{About, explained};
-use cs_judge::{Why, Written, prepare};
 use cs_listing::{put_listing, put_listing_json};
 use cs_place::Named;
 use cs_reason_words::Form;
 use cs_run_call::{
-    COMMAND_LINE, Call, Reasons, Status, Teller, named_sources, named_text, over_meant,
-    over_sources, read_input, read_sources, sources_of,
+    COMMAND_LINE, Call, Status, Teller, named_text, over_meant, over_sources, read_input,
 };
 use cs_samples::{QuestionFault, SampleTexts, Sampled, samples};
-use cs_tool::{Fault, Rules, accepted_package, read_root, slices_of, write_text};
+use cs_tool::{Fault, accepted_package, read_root, write_text};
 use cs_widen::{Profile, widen, widen_in};
 use std::alloc::{AllocError, Global};
 use std::io::Write;
 
 /// The numbers that refusals have.
 const NUMBERS: &str = "the numbers are 1 to 17, 20 to 28, 30 and 31";
-/// The status of `breaking`, and of no sample.
+/// The status of no sample.
 const INVALID: u8 = 1;
 /// The status of warnings alone, where they count.
 const WARNED: u8 = 1;
@@ -184,184 +179,4 @@ fn left_of(alloc: Global, found: &SampleTexts, most: usize) -> Result<String, Al
         write!(left, "rules without a document: {}\n", found.untried)?;
     }
     Ok(left)
-}
-
-/// What comes of comparing editions, unless a side refuses.
-type Compared<T> = Result<T, CompareRefusal>;
-
-/// The name of the document that is shown, in what is told of it.
-const SHOWN: &str = "document";
-
-/// An edition of a definition.
-#[derive(Clone, Copy)]
-struct Edition<'a> {
-    /// What is judged by: the sources, or what they stand for.
-    rules: &'a Rules,
-    /// The sources as they were given.
-    sources: &'a [Named<'a>],
-    root: &'a str,
-}
-
-impl<'a> Edition<'a> {
-    fn of(rules: &'a Rules, sources: &'a [Named<'a>], root: &'a str) -> Edition<'a> {
-        Edition {
-            rules,
-            sources,
-            root,
-        }
-    }
-
-    /// The same by other rules, where there are some.
-    fn by(self, meant: Option<&'a Rules>) -> Edition<'a> {
-        Edition::of(meant.unwrap_or(self.rules), self.sources, self.root)
-    }
-}
-
-/// The status of `compare`: 0, or 1 where an answer is `breaking`. A refusal is told as the answer would be.
-pub fn compare(call: Call<'_, '_>) -> Status {
-    match compared(call) {
-        Ok(status) => Ok(status),
-        Err(refusal) => tell_refusal(call, refusal, About::of(&[], "")),
-    }
-}
-
-/// The same, where the refusals of the input aren't told.
-fn compared(call: Call<'_, '_>) -> Compared<u8> {
-    let old = rules_of(call, Side::Old)?;
-    let new = rules_of(call, Side::New)?;
-    let old_sources = named_sources(call.alloc(), call.paths("old"), sources_of(&old))?;
-    let new_sources = named_sources(call.alloc(), call.paths("new"), sources_of(&new))?;
-    let before = Edition::of(&old, &old_sources, root_of(call, Side::Old));
-    let after = Edition::of(&new, &new_sources, root_of(call, Side::New));
-    Ok(compare_editions(call, before, after)?)
-}
-
-/// The word of a side, for its files and before what is told of it.
-fn word_of(side: Side) -> &'static str {
-    match side {
-        Side::Old => "old",
-        Side::New => "new",
-    }
-}
-
-/// The root of a side: the new one may have a name of its own.
-fn root_of<'w>(call: Call<'_, 'w>, side: Side) -> &'w str {
-    match (side, call.words.get_str("new-root")) {
-        (Side::New, Some(root)) => root,
-        (Side::Old | Side::New, _) => call.word("root"),
-    }
-}
-
-/// The refusal of a side.
-fn refusal_of(side: Side, fault: Fault) -> CompareRefusal {
-    let side = Some(side);
-    CompareRefusal { side, fault }
-}
-
-/// The rules of a side, read from its files.
-fn rules_of(call: Call<'_, '_>, side: Side) -> Compared<Rules> {
-    let root = String::from_str(call.alloc(), root_of(call, side))?;
-    match read_sources(call.rt, call.paths(word_of(side))) {
-        Ok(sources) => Ok(Rules::Root { sources, root }),
-        Err(fault) => Err(refusal_of(side, fault)),
-    }
-}
-
-/// The status of `compare` by the editions of both sides, whose refusals are told by them.
-fn compare_editions<'a>(call: Call<'_, '_>, before: Edition<'a>, after: Edition<'a>) -> Status {
-    let refusal = match write_meant(call, before, after) {
-        Ok(is_compatible) => return Ok(if is_compatible { 0 } else { INVALID }),
-        Err(refusal) => refusal,
-    };
-    let about = match refusal.side {
-        Some(Side::Old) => About::of(before.sources, before.root),
-        Some(Side::New) => About::of(after.sources, after.root),
-        None => About::of(&[], ""),
-    };
-    tell_refusal(call, refusal, about)
-}
-
-/// Tells a refusal as it is asked for, and gives its status. Which file can't be read is told in any case.
-fn tell_refusal(call: Call<'_, '_>, refusal: CompareRefusal, about: About<'_>) -> Status {
-    let CompareRefusal { side, fault } = refusal;
-    let form = match call.told_form() {
-        Some(form) => form,
-        None if matches!(fault, Fault::ReadFailed) => Form::Lines,
-        None => return Err(fault),
-    };
-    let side = side.map(word_of);
-    Teller { call, form, side }.tell(&fault, about)
-}
-
-/// Writes the answers for what the editions stand for in the profile that the words ask for.
-fn write_meant(call: Call<'_, '_>, before: Edition<'_>, after: Edition<'_>) -> Compared<bool> {
-    let of_old = |fault| refusal_of(Side::Old, fault);
-    let of_new = |fault| refusal_of(Side::New, fault);
-    let old = call.meant_rules(before.rules).map_err(of_old)?;
-    let new = call.meant_rules(after.rules).map_err(of_new)?;
-    write_answers(call, before.by(old.as_ref()), after.by(new.as_ref()))
-}
-
-/// Writes whether old documents are new ones, and where both directions are asked for whether new documents are old ones.
-fn write_answers(call: Call<'_, '_>, before: Edition<'_>, after: Edition<'_>) -> Compared<bool> {
-    let (alloc, output) = (call.alloc(), &mut call.rt.stdout());
-    let is_json = matches!(call.told_form(), Some(Form::Object(_)));
-    let backward = told_answer(call, before, after)?;
-    if !call.words.get_flag("both") {
-        return Ok(write_comparison(alloc, &backward, is_json, output)?);
-    }
-    let forward = told_answer(call, after, before)?;
-    Ok(write_both(alloc, &backward, &forward, is_json, output)?)
-}
-
-/// Whether each document of an edition is one of the other edition, and where it is asked for why one isn't.
-fn told_answer(call: Call<'_, '_>, from: Edition<'_>, to: Edition<'_>) -> Compared<Told> {
-    let alloc = call.alloc();
-    let admitting = slices_of(alloc, sources_of(from.rules))?;
-    let refusing = slices_of(alloc, sources_of(to.rules))?;
-    let comparison = compare_sources(alloc, &admitting, from.root, &refusing, to.root)?;
-    let reasons = match (&comparison, call.reasons()) {
-        (Comparison::Breaking(shown), Some(reasons)) => reasons_told(alloc, shown, to, reasons)?,
-        _ => Vec::new(alloc),
-    };
-    Ok(Told {
-        comparison,
-        reasons,
-    })
-}
-
-/// What an edition tells of the text of a document that it refuses: the lines below the verdict, or the object without its newline.
-fn reasons_told(
-    alloc: Global,
-    shown: &[u8],
-    to: Edition<'_>,
-    reasons: Reasons,
-) -> Result<Vec<u8>, Fault> {
-    let written = Written::of(alloc, reasons.form, to.sources)?;
-    told_from(alloc, shown, to.rules, &written, reasons)
-}
-
-/// The same from these sources.
-fn told_from(
-    alloc: Global,
-    shown: &[u8],
-    rules: &Rules,
-    sources: &Written<'_>,
-    reasons: Reasons,
-) -> Result<Vec<u8>, Fault> {
-    let Reasons { form, telling } = reasons;
-    let why = Why {
-        sources,
-        form,
-        telling,
-    };
-    let prepared = prepare(alloc, rules)?;
-    let mut judge = prepared.judge(alloc)?;
-    let mut told = Vec::new(alloc);
-    judge.explain(named_text(SHOWN, shown), Some(why), &mut told)?;
-    let bare = match form {
-        Form::Object(_) => told.trim_ascii_end(),
-        Form::Lines => told.strip_prefix(b"invalid\n").unwrap_or(&told),
-    };
-    Ok(bare.to_vec(alloc)?)
 }

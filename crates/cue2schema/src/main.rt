@@ -4,9 +4,10 @@
 use clap::ArgMatches;
 use cs_fault_words::About;
 use cs_run_call::{COMMAND_LINE, Call, Status, or_told, process_words, show};
+use cs_run_compare::compare;
 use cs_run_export::export;
 use cs_run_judge::judge;
-use cs_run_questions::{check, compare, explain, list, write_samples, write_widened};
+use cs_run_questions::{check, explain, list, write_samples, write_widened};
 use cs_tool::{command, write_fault};
 use std::process::ExitCode;
 
