@@ -103,16 +103,14 @@ class Conditions:
         if values and about.default or not all(is_plain(it) for it in values):
             raise Refused(5, "a field is declared under a condition on it, with a default or with what isn't plain")
 
-    def declared_in(self, it: tuple, label: str, seen: frozenset = frozenset()) -> list[tuple]:
-        """The values that what is put together from literals declares for a label."""
-        if it[0] in ("ref", "held"):
-            name = it[1] if it[0] == "ref" else it[1].name
-            bodies = [] if name in seen else self.package.get(name, [])
-            return [value for body in bodies for value in self.declared_in(body, label, seen | {name})]
+    def declared_in(self, it: tuple, label: str) -> list[tuple]:
+        """The values that literals which are put together declare for a label, but for those of what a name stands for."""
+        if it[0] in ("ref", "held", "list"):
+            return []
         if it[0] == "struct":
             own = [value for other, mark, value in it[1] if other == label and mark in ("", "?", "!") and not isinstance(mark, Made)]
-            return own + [each for _label, mark, value in it[1] if mark in ("embed", "if") for each in self.declared_in(value, label, seen)]
-        return [value for part in parts(it) for value in self.declared_in(part, label, seen)] if it[0] != "list" else []
+            return own + [each for _label, mark, value in it[1] if mark in ("embed", "if") for each in self.declared_in(value, label)]
+        return [value for part in parts(it) for value in self.declared_in(part, label)]
 
     # What is asked.
 
@@ -132,14 +130,14 @@ class Conditions:
         else:
             yes, no = ("value", value), self.other_than(value, about)
             yes, no = (yes, no) if asked == "==" else (no, yes)
-        return (label, self.mark(yes, about), yes), (label, self.mark(no, about), no)
+        return (label, self.mark(asked, value, True, about), yes), (label, self.mark(asked, value, False, about), no)
 
     @staticmethod
-    def mark(value: tuple, about: Asked) -> Made:
-        """A field with a default may be missing where the value admits it, and only there."""
+    def mark(asked: str, value, is_met: bool, about: Asked) -> Made:
+        """A field with a default may be missing where the default is as it is asked, and only there."""
         if not about.default:
             return Made("")
-        return Made("?") if admits({}, value, about.default[0]) else Made("!")
+        return Made("?") if passes(asked, value, is_met, about.default[0]) else Made("!")
 
     def other_than(self, value, about: Asked) -> tuple:
         """Any document but a value, without the kinds that the field excludes."""
@@ -191,6 +189,16 @@ class Conditions:
         name = it[1] if it[0] == "ref" else it[1].name
         bodies = self.package.get(name, [])
         return self.default_of(bodies[0], seen | {name}) if len(bodies) == 1 and name not in seen else []
+
+
+def passes(asked: str, value, is_met: bool, document) -> bool:
+    """Whether a document meets what is asked, or doesn't, where that is so. Only a number is compared, and only a truth value is true or isn't."""
+    if asked in OPPOSITE:
+        return admits({}, ("bound", asked if is_met else OPPOSITE[asked], value), document)
+    if asked == "is":
+        return document is (value if is_met else not value)
+    is_it = not isinstance(document, (list, dict)) and kind_of(document) == kind_of(value) and document == value
+    return is_it is (is_met is (asked == "=="))
 
 
 def kinds_of_atom(it: tuple) -> frozenset:

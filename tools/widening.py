@@ -116,10 +116,10 @@ class Widening(Alternatives):
     def literal(self, one: Alternative) -> tuple:
         """The literal of declarations that are joined, with the values of a label joined where the opening rule asks for it."""
         self.refuse_names(one)
-        self.refuse_relaxed([it for it in one.declarations if not is_plain(it.value)])
+        held = [it for it in one.declarations if not is_plain(it.value) and not isinstance(it.mark, Made)]
+        self.refuse_relaxed(held)
         fields: list[tuple] = []
         done: set[str] = set()
-        held = [it for it in one.declarations if not is_plain(it.value)]
         for it in one.declarations:
             others = [other for other in held if other is not it and (it.label == other.label or "[string]" in (it.mark, other.mark))]
             beside = in_place(it.value) if others and not is_plain(it.value) else it.value
@@ -127,7 +127,7 @@ class Widening(Alternatives):
                 fields.append((it.label, it.mark, self.stands_for(beside, it.copied)))
                 continue
             same = [other for other in held if other.mark != "[string]" and other.label == it.label]
-            value = None if is_plain(it.value) else self.together(same)
+            value = self.together(same) if any(other is it for other in held) else None
             if value is None:
                 fields.append((it.label, it.mark, self.stands_for(beside, it.copied)))
             elif it.label not in done:
@@ -158,9 +158,9 @@ class Widening(Alternatives):
         """Two values of a label, as `[string]` is one of each: one was brought by an embedding and holds something shut, and the other comes
         from elsewhere. There cue opens what is shut."""
         for it in held:
-            if not it.brought or isinstance(it.mark, Made) or not holds_shut(it.value):
+            if not it.brought or not holds_shut(it.value):
                 continue
-            for other in (each for each in held if not isinstance(each.mark, Made)):
+            for other in held:
                 is_of_one = "[string]" in (it.mark, other.mark) or it.label == other.label
                 is_one = it.value[0] == "ref" and it.value == other.value
                 if is_of_one and it.brought != other.brought and not is_one:
