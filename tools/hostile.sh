@@ -782,6 +782,30 @@ try 'wide: 500,000 parentheses around a mark: export' 0 'error 7' 'export --prof
 { printf '#A: '; many 24 '{a: '; printf '{y: *1 | int, '; many 45000 'x: 1, '; printf '}'; many 24 '}'; printf '\n'; } > wide.cue
 try 'wide: 45,000 fields 25 levels deep: widen' 0 'shows y?: 1 | int' 'widen --profile=wide wide.cue'
 try 'wide: 45,000 fields 25 levels deep: export' 0 'error 14' 'export --profile=wide --root #A wide.cue'
+# Conditions of the wide profile: several of one literal, whose alternatives multiply, one behind the other, one inside of the other, and names that
+# lead to the kinds and the default of the field.
+# conditions COUNT: a literal with so many conditions
+conditions() {
+    awk -v count="$1" 'BEGIN { printf "#P: {a: int"; for (i = 0; i < count; i++) printf ", if a == %d {x%d: int}", i, i; print "}" }'
+}
+conditions 10 > wide.cue
+try 'wide: 10 conditions: widen' 0 'shows x9: int' 'widen --profile=wide wide.cue'
+conditions 20 > wide.cue
+# Alternatives are made until they weigh too much, and each condition is asked of each declaration.
+try 'wide: 20 conditions: widen' 1000000 'error 14' 'widen --profile=wide wide.cue'
+conditions 5000 > wide.cue
+try 'wide: 5,000 conditions: widen' 25000000 'error 14' 'widen --profile=wide wide.cue'
+{ printf '#P: {a: bool, '; many 26 'if a '; printf '{}}\n'; } > wide.cue
+try 'wide: a chain of 26 conditions: export' 0 'shows {"P":{"anyOf":[{' 'export --profile=wide --root #P wide.cue'
+{ printf '#P: {a: bool, '; many 27 'if a '; printf '{}}\n'; } > wide.cue
+try 'wide: a chain of 27 conditions: widen' 0 'error 7' 'widen --profile=wide wide.cue'
+{ printf '#P: {a: bool, '; many 200000 'if a '; printf '{}}\n'; } > wide.cue
+try 'wide: a chain of 200,000 conditions: widen' 0 'error 7' 'widen --profile=wide wide.cue'
+{ printf '#P: '; nested 13 '{a: bool, if a ' '{}' '}'; printf '\n'; } > wide.cue
+try 'wide: 13 conditions inside one another: widen' 0 'shows #P: {' 'widen --profile=wide wide.cue'
+awk 'BEGIN { for (i = 0; i < 900; i++) printf "#A%d: #A%d\n", i, i + 1; print "#A900: *1 | int\n#P: {a: #A0, if a == 1 {b: int}}" }' > wide.cue
+# In 65 rounds each definition is asked what it may be.
+try 'wide: 900 definitions on the way to a kind: widen' 1000000 'error 16' 'widen --profile=wide wide.cue'
 # Embeddings of the wide profile: chains, circles and doublings of definitions, many literals, many alternatives, and what is high or large
 # with what is embedded alone.
 # embeds COUNT FORM: so many definitions that embed the next one, by a form of printf that has its number once or twice, and a last one

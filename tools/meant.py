@@ -1,6 +1,6 @@
 #!/usr/bin/env python3
-"""Asks a program about the rows of tools/widening.rows that it takes, each by itself. A line for each wrong answer, and a closing count of
-answers.
+"""Asks a program about the rows of tools/widening.rows and tools/conditions.rows that it takes, each by itself. A line for each wrong answer,
+and a closing count of answers.
 
     tools/meant.py PROGRAM [FILE]        FILE: other rows of that form
 
@@ -28,7 +28,7 @@ sys.path.insert(0, str(Path(__file__).resolve().parent))
 from peers import Package, Refused, judged  # noqa: E402
 from prefixes import WIDE  # noqa: E402
 from profile_of_cue import parsed  # noqa: E402
-from widened import ROWS, Row, rows  # noqa: E402
+from widened import Row, rows, taken_rows  # noqa: E402
 
 ROOT = "#P"
 Judges = dict[str, Callable[[str, list[str]], list[str]]]
@@ -107,10 +107,10 @@ def faults_of(ask: Callable[[], Iterator[str]]) -> list[str]:
         return [f"is refused: {refusal}"]
 
 
-def main(program: str, path: Path) -> int:
+def main(program: str, found: list[Row]) -> int:
     judges = found_judges()
     passed = failed = 0
-    for row in (row for row in rows(path) if not row.refusal()):
+    for row in (row for row in found if not row.refusal()):
         with tempfile.TemporaryDirectory() as room:
             for asked, ask in Asked(program, Path(room), row, judges).questions().items():
                 faults = faults_of(ask)
@@ -124,4 +124,4 @@ def main(program: str, path: Path) -> int:
 if __name__ == "__main__":
     if len(sys.argv) not in (2, 3):
         sys.exit(__doc__)
-    sys.exit(main(str(Path(sys.argv[1]).resolve()), Path(sys.argv[2]) if len(sys.argv) == 3 else ROWS))
+    sys.exit(main(str(Path(sys.argv[1]).resolve()), rows(Path(sys.argv[2])) if len(sys.argv) == 3 else taken_rows()))

@@ -14,6 +14,7 @@ cd "$(dirname "$0")/.."
 # at most, and what is put together is at most 28 levels high.
 limited='crates/cs_check/proofs/schema/+cut
 crates/cs_check/proofs/warnings/Search/+why
+crates/cs_conditions/proofs/defaults/+default_within
 crates/cs_defaults/proofs/leading/+hands_on
 crates/cs_embeddings/proofs/joined/Joiner/+joined
 crates/cs_embeddings/proofs/joining/Joining/+join

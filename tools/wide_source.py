@@ -21,7 +21,9 @@ WIDE_TOKEN = re.compile(
     r'\s+|//[^\n]*|("(?:[^"\\]|\\.)*"|_\|_|_?#?[A-Za-z_][A-Za-z_0-9]*\b|-?\d+|\.\.\.|<=|>=|!=|==|[_<>&|{}\[\]():,?!;*.=])'
 )
 IDENTIFIER = re.compile(r"_?#?[A-Za-z_]\w*")
-OPERATORS = ("==", "!=", "<", "<=", ">", ">=")
+FLOAT = re.compile(r"\d+\.\d")
+RELATIONS = ("<", "<=", ">", ">=")
+RESERVED = ("for", "if", "let")
 
 
 class Refused(Exception):
@@ -50,6 +52,8 @@ class WideReader(Reader):
                 place = end_of_attribute(source, attribute.end())
                 tokens.append("@")
                 continue
+            if FLOAT.match(source, place):
+                raise Refused(3, "a number with a fraction")
             found = WIDE_TOKEN.match(source, place)
             if not found:
                 raise ValueError(f"no token: {source[place:place + 20]!r}")
@@ -143,7 +147,7 @@ class WideReader(Reader):
         if self.peek() == "if":
             return self.conditional()
         if self.peek() == "for":
-            raise Refused(5, "`for`")
+            raise Refused(4, "`for`")
         return ("", "embed", self.alternatives())
 
     def begins_field(self) -> bool:
@@ -210,23 +214,45 @@ class WideReader(Reader):
 
 def condition_of(asked: list[str]) -> tuple:
     """What is asked of a field of the literal: the field, an operator, and a scalar."""
-    if len(asked) == 1 and is_label(asked[0]):
-        return (asked[0], "is", True)
-    if len(asked) == 2 and asked[0] == "!" and is_label(asked[1]):
-        return (asked[1], "is", False)
-    if len(asked) != 3 or not is_label(asked[0]) or asked[1] not in OPERATORS:
-        raise Refused(5, "a condition that isn't of one field and a scalar")
-    label, operator, token = asked
-    if token == "_|_" and operator in ("==", "!="):
+    left = [*asked, ""]
+    is_denied = left[0] == "!"
+    label = left.pop(is_denied)
+    if not is_label(label):
+        raise misplaced(label, "what is no label of a field")
+    if is_denied or len(left) == 1:
+        expect_end(left[is_denied:])
+        return (label, "is", not is_denied)
+    operator = left.pop(0)
+    if operator not in ("==", "!=", *RELATIONS):
+        raise misplaced(operator, "what is no comparison")
+    token = left.pop(0)
+    expect_scalar(operator, token)
+    expect_end(left)
+    if token == "_|_":
         return (label, "absent" if operator == "==" else "present", None)
-    is_number = bool(re.fullmatch(r"-?\d+", token))
-    if not is_number and (operator not in ("==", "!=") or not token.startswith('"') and token not in ("true", "false", "null")):
-        raise Refused(5, "a condition with what is no scalar, or a bound that is no integer")
     return (label, operator, json.loads(token))
 
 
+def expect_scalar(operator: str, token: str) -> None:
+    """Refuses what no condition compares with: by `<` and its like integers alone are."""
+    is_number = bool(re.fullmatch(r"-?\d+", token))
+    if not is_number and (operator in RELATIONS or not token.startswith('"') and token not in ("true", "false", "null", "_|_")):
+        raise misplaced(token, "what is no scalar, or a bound that is no integer")
+
+
+def expect_end(left: list[str]) -> None:
+    if left[0]:
+        raise misplaced(left[0], "more than one field and a scalar")
+
+
+def misplaced(token: str, why: str) -> Refused:
+    """A token out of place is refused by 5 where other forms alone have it, as a selector or a hidden name has."""
+    is_left_out = token in (".", "=", "*", *RESERVED) or bool(re.match(r"_[A-Za-z_#]", token))
+    return Refused(5 if is_left_out else 4, f"a condition with {why}")
+
+
 def is_label(token: str) -> bool:
-    return bool(re.fullmatch(r"[A-Za-z]\w*", token)) and token not in ("true", "false", "null")
+    return bool(re.fullmatch(r"[A-Za-z]\w*", token)) and token not in ("true", "false", "null", *RESERVED)
 
 
 def end_of_attribute(source: str, place: int) -> int:

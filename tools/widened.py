@@ -6,23 +6,24 @@
 
 - Each row of tools/widening.rows, tools/naming.rows and tools/conditions.rows: a source, what it stands for (`=>`) or the number by which it
   is refused, and documents that are instances of `#P` and that aren't, also by the reading of tools/named_reading.py. A program is tried on
-  those of tools/widening.rows alone.
+  those of tools/widening.rows and tools/conditions.rows that have no names, `let` and selectors.
 - Random packages, 200 where no number is given: each document has to be an instance by a direct reading of the source exactly where it is
   one of the package that is meant. By that reading a document is an instance of a literal with embedded expressions when, for some choice
   of an alternative for each, one for a name, every declared field is as all of them ask, and every other key is allowed by one of them.
 - Random packages of tools/named_packages.py, with names, selectors and conditions, as many as `--random-names` says, or 200 where no number is
   given: those that the model takes are compared in the same way with the reading of tools/named_reading.py, on documents that are near to
   instances.
-- With a program: the rows, by `widen --profile wide` and `vet --profile wide`. Then random packages with defaults and embeddings, every
-  third one without embeddings, every fifth one in a file for each declaration, and every tenth one in two files. Where the model refuses,
+- With a program: the rows, by `widen --profile wide` and `vet --profile wide`. Then random packages with defaults, embeddings and conditions,
+  every third one without embeddings, every second one without conditions, every fifth one in a file for each declaration, and every tenth one
+  in two files. Where the model refuses,
   the program has to. Where it doesn't, `widen --profile wide` has to say of the package what `widen` says of the one that the model means:
   the number of the same refusal, or a text that is read as the same package; `export` writes the same schemas, to the byte, and `vet`
   judges documents as the model does. More than 64 values of a label, or bodies of a definition, aren't joined. `check` has to tell the same
   number first.
 
-Numbers are compared in the order of the program's conditions: what can't be embedded (9, 11), then what an embedding brings together
-(11) or too many nodes with it (14), then marks (5), then the package that is meant, where 9 and 10 come before 11. They aren't told
-apart in one case: 9 and 11 where some name isn't declared.
+Numbers are compared in the order of the program's conditions: what an `if` asks (5, 10), then what can't be embedded (9, 11), then what an
+embedding brings together (11) or too many nodes with it (14), then marks (5), then the package that is meant, where 9 and 10 come before 11.
+They aren't told apart in two cases: 5 and 10 where several conditions are refused, and 9 and 11 where some name isn't declared.
 """
 from __future__ import annotations
 
@@ -40,8 +41,9 @@ from dataclasses import dataclass, field
 from pathlib import Path
 
 sys.path.insert(0, str(Path(__file__).resolve().parent))
+from conditions import Conditions  # noqa: E402
 from declared_again import refuse_cycles  # noqa: E402
-from named_packages import Sources as NamedSources, mutated  # noqa: E402
+from named_packages import ASKED, Sources as NamedSources, mutated  # noqa: E402
 from named_reading import Reading as NamedReading  # noqa: E402
 from profile_of_cue import Package, admits, is_instance, parsed, text  # noqa: E402
 from wide_forms import MOST_NODES, Alternative, Declaration, asks_joining, breaks_opening, is_plain, is_shut, parts  # noqa: E402
@@ -49,8 +51,9 @@ from wide_source import Quoted, Refused, WideReader  # noqa: E402
 from widening import Widening, spelled, together, widened  # noqa: E402
 
 ROWS = Path(__file__).resolve().parent / "widening.rows"
+CONDITION_ROWS = ROWS.with_name("conditions.rows")
 # Those that the model alone is tried on.
-FURTHER_ROWS = [ROWS.with_name("naming.rows"), ROWS.with_name("conditions.rows")]
+NAME_ROWS = ROWS.with_name("naming.rows")
 LABELS = ["a", "b", "c"]
 DOCUMENTS = 60
 
@@ -94,6 +97,25 @@ def rows(path: Path = ROWS) -> list[Row]:
     """The rows of a file; a line that begins with `# ` says something of those below it."""
     parted = [[it for it in part.split("\n") if it and not it.startswith("# ")] for part in path.read_text().split("\n\n")]
     return [row_of(lines) for lines in parted if lines]
+
+
+def has_names(row: Row) -> bool:
+    """Whether the source has a name that the program doesn't take: of a field at the top, nested or hidden, of a `let`, or with a selector."""
+    try:
+        package = WideReader(row.source).package()
+    except Refused:
+        return False
+    return any(not name.startswith("#") or any(is_naming(body) for body in bodies) for name, bodies in package.items())
+
+
+def taken_rows() -> list[Row]:
+    """The rows that a program is tried on."""
+    return [row for path in (ROWS, CONDITION_ROWS) for row in rows(path) if not has_names(row)]
+
+
+def is_naming(it: tuple) -> bool:
+    is_one = it[0] == "selector" or it[0] == "struct" and any(mark in ("named", "let") for _label, mark, _value in it[1])
+    return is_one or any(is_naming(part) for part in parts(it))
 
 
 def faults_of_row(row: Row) -> Iterator[str]:
@@ -341,20 +363,21 @@ def try_names(seeds: range) -> tuple[int, int]:
     return passed, failed
 
 
-# A program, on the rows, and on random packages with defaults and embeddings.
+# A program, on the rows, and on random packages with defaults, embeddings and conditions.
 
 ATOMS = ["int", "string", "bool", "uint8", "1", '"x"', "null", ">0", "!=1", "-1", "true", "_"]
 DEFAULTS = ["1", '"x"', "null", "-1", "false", "[]", "{}", '[1, ["x"], {}]', "(1)"]
 
 
 class Sources:
-    """Random sources whose only forms of the wide profile are marks of defaults, most of them in place, and embeddings, where the package
-    has some: so many of the declarations of a literal are embedded expressions then. Where it has, there are fewer literals and
-    references among the values, as those of one label are refused where they meet."""
+    """Random sources whose only forms of the wide profile are marks of defaults, most of them in place, and embeddings and conditions, where the
+    package has some: so many of the declarations of a literal are embedded expressions then, and so many literals have conditions. Where it has
+    embeddings, there are fewer literals and references among the values, as those of one label are refused where they meet."""
 
     def __init__(self, chance: random.Random, names: list[str], has_embeddings: bool) -> None:
         self.chance, self.names, self.has_embeddings = chance, names, has_embeddings
         self.embedded_share = chance.choice([0.3, 0.45, 0.6]) if has_embeddings else 0
+        self.asked_share = chance.choice([0, 0, 0.2, 0.4])
 
     def value(self, depth: int) -> str:
         form = self.chance.random()
@@ -396,8 +419,24 @@ class Sources:
         if depth > 1 and self.chance.random() < 0.1:
             declared += self.in_parts(depth - 1)
             self.chance.shuffle(declared)
+        if depth > 0 and self.chance.random() < self.asked_share:
+            declared += self.asked(depth - 1)
+            self.chance.shuffle(declared)
         between = self.chance.choice([", ", ", ", "\n"])
         return "{" + between.join(declared + ["..."] * (self.chance.random() < 0.4)) + "}"
+
+    def asked(self, depth: int) -> list[str]:
+        """A field, and literals under conditions on it, some of which declare it again or ask about another one."""
+        kind = self.chance.choice(list(ASKED)) if self.chance.random() < 0.9 else self.value(depth)
+        label, mark = self.chance.choice("klm"), self.chance.choice(["", "", "", "!", "?"])
+        found = [f"{label}{mark}: {kind}"]
+        for _ in range(self.chance.choice([1, 1, 2])):
+            asked = self.chance.choice(ASKED.get(kind, ["F == 1", "F != _|_", "F"])).replace("F", label)
+            first = f"{label} != _|_ if " if mark == "?" and self.chance.random() < 0.95 else ""
+            found.append(f"if {first}{asked} {self.struct(depth)}")
+        if self.chance.random() < 0.1:
+            found.append(f"{self.chance.choice('klm')}{self.chance.choice(['', '?'])}: {self.value(depth)}")
+        return found
 
     def in_parts(self, depth: int) -> list[str]:
         """Declarations of one label, which are put together where nothing in them is shut."""
@@ -524,6 +563,21 @@ class Reading(WideReader):
         self.has_wrong_mark = True
 
 
+class Asked(Conditions):
+    """The model, which goes on behind a condition that is refused."""
+
+    def __init__(self, package: Package) -> None:
+        self.numbers: set[int] = set()
+        super().__init__(package)
+
+    def choice(self, literal: tuple, conditions: list[tuple], then: tuple, present: frozenset) -> tuple:
+        try:
+            return super().choice(literal, conditions, then, present)
+        except Refused as why:
+            self.numbers.add(why.number)
+            return then
+
+
 # So many values of a label, or bodies in a file, are joined at most.
 MOST_GATHERED = 64
 
@@ -590,10 +644,13 @@ class Meaning:
 
 
 def meaning_of(sources: list[str]) -> Meaning:
-    """What files mean, by the order of the program's conditions: what is embedded, then marks, then the package that is meant."""
+    """What files mean, by the order of the program's conditions: what is asked, what is embedded, then marks, then the package that is meant."""
     readers = [Reading(source) for source in sources]
     files = [reader.package() for reader in readers]
-    package = together(files)
+    asked = Asked(together(files))
+    package = asked.whole()
+    if asked.numbers:
+        return Meaning(asked.numbers)
     taken = Taken(package)
     meaning, meant = Meaning(), {name: [] for name in package}
     for name, bodies in package.items():
@@ -744,7 +801,7 @@ def try_rows(program: str) -> list[list[str]]:
     """What differs of each row."""
     with tempfile.TemporaryDirectory() as room:
         tried = Tried(program, Path(room))
-        return [[f"{row}: {it}" for it in tried.faults_of_row(row)] for row in rows()]
+        return [[f"{row}: {it}" for it in tried.faults_of_row(row)] for row in taken_rows()]
 
 
 def on_program(words: argparse.Namespace) -> int:
@@ -768,7 +825,7 @@ def main(words: argparse.Namespace) -> int:
     if words.program:
         return on_program(words)
     passed = failed = refused = 0
-    for row in [*rows(), *(row for path in FURTHER_ROWS for row in rows(path))]:
+    for row in (row for path in (ROWS, NAME_ROWS, CONDITION_ROWS) for row in rows(path)):
         faults = list(faults_of_row(row))
         passed, failed = passed + (not faults), failed + bool(faults)
         for it in faults:

@@ -257,6 +257,13 @@ pub(crate) fn mend_at(source: &Source<'_>, offset: usize, made: usize) -> Option
     }
 }
 
+/// The mend of conditions at a place: what stands before their struct becomes a label. None where none are.
+pub(crate) fn mended_condition(source: &Source<'_>, place: usize) -> Option<Mend> {
+    let is_one = Near { source, place }.is_in_condition();
+    let head = Spot::new(source, place).mended_head();
+    head.filter(|_| is_one)
+}
+
 /// The mend of an embedding at a place: of what is embedded, or of the name there alone. None where none is.
 pub(crate) fn mended_embedding(source: &Source<'_>, place: usize, is_name: bool) -> Option<Mend> {
     let embedded = Near { source, place }.embedding()?;

@@ -4,7 +4,7 @@ ghost use Rattle.cs_tool.specs.Given.{bytes_in};
 ghost use Rattle.cs_check.specs.Told.{AreAccepted, AreWideAccepted, BeginsWithFirst, BeginsWithWideFirst, BeginsWith};
 
 use crate::MOST_FAULTS;
-use crate::mends::{Draft, mend_at, mended_embedding, mended_value};
+use crate::mends::{Draft, mend_at, mended_condition, mended_embedding, mended_value};
 use cs_place::Named;
 use cs_sources::{Made, Source};
 use cs_tool::{Fault, accepted_package, slices_of};
@@ -84,7 +84,7 @@ struct Told<'f, 'a> {
     rest: Vec<Fault>,
     /// The words that mends took out until the sources were files.
     taken: BTreeSet<&'a str>,
-    /// Whether an embedding was taken out, so that it isn't known which structs are joined.
+    /// Whether an embedding or a condition was taken out, so that it isn't known which structs are joined.
     is_loose: bool,
 }
 
@@ -258,7 +258,8 @@ impl<'f, 'a> Told<'f, 'a> {
         };
         let place = draft.source.place_at(offset);
         let is_name = !matches!(fault, Fault::NotOpened { .. });
-        let embedding = mended_embedding(&draft.source, place, is_name);
+        let condition = mended_condition(&draft.source, place).filter(|_| is_name);
+        let embedding = condition.or(mended_embedding(&draft.source, place, is_name));
         self.is_loose |= embedding.is_some();
         match embedding.or(mended_value(&draft.source, place, is_name)) {
             Some(mend) => draft.add(mend)?,

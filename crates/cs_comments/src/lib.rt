@@ -96,7 +96,7 @@ impl<'a> Comments<'a> {
                 for declaration in declarations {
                     match declaration {
                         Declaration::Field(field) => self.add_field(field, &mut notes)?,
-                        Declaration::Embedded { .. } => {}
+                        Declaration::Embedded { .. } | Declaration::Conditional { .. } => {}
                     }
                 }
             }

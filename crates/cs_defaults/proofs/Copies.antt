@@ -1,10 +1,10 @@
 -- Of files without their marks: they have the default forms, and can be written down where the files with marks can.
-use Rattle.std.proofs.Common.{ℕ, Bool, true, false, List, [], ◌∷◌, map}
+use Rattle.std.proofs.Common.{ℕ, Bool, true, false, List, [], ◌∷◌, map, refl, ap}
 use Rattle.std.specs.List.{AllByRecursion}
 use Rattle.cs_grammar.specs.declared.ast.FieldMark.{FieldMark}
 use Rattle.cs_grammar.specs.declared.ast.FieldMark.TheVariants.{Regular, Optional, Required, Every}
 use Rattle.cs_grammar.specs.DefaultForms.{IsDefault, AreDefault, AreDefaultFields, IsDefaultEnd, IsDefaultFile}
-use Rattle.cs_grammar.specs.Tree.{Label, Tree, atom, named, reference, conjunction, disjunction, paren, struct, list, wide, marked, merged, shut, Trees, none, more, Fields, no_field, field, End, closed, any, each, body, DefinitionTree, definition, FileTree, file}
+use Rattle.cs_grammar.specs.Tree.{Label, written_label, Tree, atom, named, reference, conjunction, disjunction, paren, struct, list, wide, marked, merged, shut, Trees, none, more, Fields, no_field, field, End, closed, any, each, body, DefinitionTree, definition, FileTree, file}
 use Rattle.cs_grammar.specs.Written.{Place, by_itself, of_bar, of_amp, IsWrittenLabel, AreTwo, IsWritten, AreWritten, AreWrittenFields, IsWrittenEnd, IsWrittenDefinition, IsWrittenFile}
 use Rattle.cs_defaults.specs.Leading.{leading, has_default}
 use Rattle.cs_defaults.specs.Unmarked.{optional_if, unmarked, unmarked_each, unmarked_fields, unmarked_end, unmarked_definition, unmarked_file}
@@ -30,7 +30,7 @@ module _ (has : List ℕ → Bool) where
 
     default_fields : (fs : Fields) → AreDefaultFields (unmarked_fields has fs)
     default_fields no_field = tt
-    default_fields (field l m e fs) = (default e, default_fields fs)
+    default_fields (field l m e fs) = (refl, default e, default_fields fs)
 
     default_end : (end : End) → IsDefaultEnd (unmarked_end has end)
     default_end closed = tt
@@ -51,12 +51,15 @@ module _ (has : List ℕ → Bool) where
   two (more e none) h = h
   two (more e (more f es)) h = h
 
-  label : (l : Label) (m : FieldMark) (b : Bool) → IsWrittenLabel l m → IsWrittenLabel l (optional_if b m)
+  label : (l : Label) (m : FieldMark) (b : Bool) → IsWrittenLabel l m → IsWrittenLabel (written_label l.text l.quotes) (optional_if b m)
   label l Regular true h = h
   label l Optional true h = h
   label l Required true h = h
-  label l (Every o) true h = h
-  label l m false h = h
+  label l (Every o) true h = ap (λ (k : Label). written_label k.text k.quotes) h
+  label l Regular false h = h
+  label l Optional false h = h
+  label l Required false h = h
+  label l (Every o) false h = ap (λ (k : Label). written_label k.text k.quotes) h
 
   mutual
     written : (p : Place) (e : Tree) → IsWritten p e → IsWritten p (unmarked has e)

@@ -5,7 +5,7 @@ use Rattle.std.specs.Str.{bytes_eq}
 use Rattle.cs_grammar.specs.declared.ast.FieldMark.{FieldMark}
 use Rattle.cs_grammar.specs.declared.ast.FieldMark.TheVariants.{Regular, Optional, Required, Every}
 use Rattle.cs_grammar.specs.DefaultForms.{IsDefault, AreDefault, AreDefaultFields, IsDefaultEnd, IsDefaultFile}
-use Rattle.cs_grammar.specs.Tree.{Tree, atom, named, reference, conjunction, disjunction, paren, struct, list, wide, Trees, none, more, Fields, no_field, field, End, closed, any, each, body, defined_name, definitions, DefinitionTree, definition, FileTree, file}
+use Rattle.cs_grammar.specs.Tree.{Label, written_label, Tree, atom, named, reference, conjunction, disjunction, paren, struct, list, wide, Trees, none, more, Fields, no_field, field, End, closed, any, each, body, defined_name, definitions, DefinitionTree, definition, FileTree, file}
 use Rattle.cs_grammar.specs.Bodies.{bodies}
 use Rattle.cs_defaults.specs.Absent.{has_every, absent_labels, is_repeated, excluded, clashes, clashes_each, clashes_fields, clashes_end}
 use Rattle.cs_defaults.specs.Leading.{Leading, nowhere, by_mark, to, or_behind, first_mark, leading, leading_of, leads, most_passed, place_of, has_default}
@@ -55,7 +55,7 @@ mutual
 
   fields_in_place : (fs : Fields) → AreDefaultFields fs → misplaced_fields fs ≡ []
   fields_in_place no_field h = refl
-  fields_in_place (field l m e fs) h = nothing (misplaced true e) (misplaced_fields fs) (in_place true e h.0) (fields_in_place fs h.1)
+  fields_in_place (field l m e fs) h = nothing (misplaced true e) (misplaced_fields fs) (in_place true e h.1) (fields_in_place fs h.2)
 
   end_in_place : (end : End) → IsDefaultEnd end → misplaced_end end ≡ []
   end_in_place closed h = refl
@@ -130,6 +130,10 @@ none_hands_on fs h s = leads_nowhere (flat_map definitions fs) (all_bodies fs h)
 
 -- ---- where no definition hands a default on
 
+-- a label that authors wrote
+written : (l : Label) → l.asked ≡ false → written_label l.text l.quotes ≡ l
+written l h = ap (λ a. let k : Label = record { text = l.text; quotes = l.quotes; asked = a } in k) (sym h)
+
 module _ (has : List ℕ → Bool) (hands : (s : List ℕ) → has s ≡ false) where
   no_place : (l : Leading) → IsNoMark l → place_of has l ≡ []
   no_place nowhere k = refl
@@ -169,7 +173,7 @@ module _ (has : List ℕ → Bool) (hands : (s : List ℕ) → has s ≡ false) 
 
     no_clash_fields : (every : Bool) (absent : List (List ℕ)) (fs : Fields) → AreDefaultFields fs → clashes_fields has every absent fs ≡ []
     no_clash_fields every absent no_field h = refl
-    no_clash_fields every absent (field l m e fs) h = nothing (excluded has every absent l.text m e) (clashes has e ++ clashes_fields has every absent fs) (none_excluded every absent l.text m e h.0) (nothing (clashes has e) (clashes_fields has every absent fs) (no_clash e h.0) (no_clash_fields every absent fs h.1))
+    no_clash_fields every absent (field l m e fs) h = nothing (excluded has every absent l.text m e) (clashes has e ++ clashes_fields has every absent fs) (none_excluded every absent l.text m e h.1) (nothing (clashes has e) (clashes_fields has every absent fs) (no_clash e h.1) (no_clash_fields every absent fs h.2))
 
     no_clash_end : (end : End) → IsDefaultEnd end → clashes_end has end ≡ []
     no_clash_end closed h = refl
@@ -195,8 +199,10 @@ module _ (has : List ℕ → Bool) (hands : (s : List ℕ) → has s ≡ false) 
     fields_stay : (fs : Fields) → AreDefaultFields fs → unmarked_fields has fs ≡ fs
     fields_stay no_field h = refl
     fields_stay (field l m e fs) h =
-        ap (λ b. field l (optional_if b m) (unmarked has e) (unmarked_fields has fs)) (no_default (leading e) (unmarked_value e h.0))
-        ∙ ap₂ (λ d gs. field l m d gs) (stays e h.0) (fields_stay fs h.1)
+        ap (λ b. field (written_label l.text l.quotes) (optional_if b m) (unmarked has e) (unmarked_fields has fs))
+        (no_default (leading e) (unmarked_value e h.1))
+        ∙ ap (λ k. field k m (unmarked has e) (unmarked_fields has fs)) (written l h.0)
+        ∙ ap₂ (λ d gs. field l m d gs) (stays e h.1) (fields_stay fs h.2)
 
     end_stays : (end : End) → IsDefaultEnd end → unmarked_end has end ≡ end
     end_stays closed h = refl

@@ -1,9 +1,9 @@
 -- Samples, worked by the definitions: files with marks, and what they stand for or where they are at fault.
-use Rattle.std.proofs.Common.{◌≡◌, ℕ, false, List, [], ◌∷◌, pos, codes, None, refl}
+use Rattle.std.proofs.Common.{◌≡◌, ℕ, true, false, List, [], ◌∷◌, pos, codes, None, refl}
 use Rattle.cs_grammar.specs.Atom as atoms
 use Rattle.cs_grammar.specs.Atom.{integer, text, not_text, bound, null}
 use Rattle.cs_grammar.specs.Spells.{every_label}
-use Rattle.cs_grammar.specs.Tree.{Label, Tree, atom, named, reference, conjunction, disjunction, paren, struct, list, wide, marked, merged, shut, declared, embedded, no_declaration, none, more, Fields, no_field, field, closed, definition, FileTree, file}
+use Rattle.cs_grammar.specs.Tree.{Label, written_label, present, Tree, atom, named, reference, conjunction, disjunction, paren, struct, list, wide, marked, merged, shut, declared, embedded, conditional, no_declaration, none, more, Fields, no_field, field, closed, definition, FileTree, file}
 use Rattle.cs_grammar.specs.declared.ast.FieldMark.{FieldMark}
 use Rattle.cs_grammar.specs.declared.ast.FieldMark.TheVariants.{Regular, Optional, Required, Every}
 use Rattle.cs_defaults.specs.Widened.{mark_faults, IsUnmarked}
@@ -13,7 +13,11 @@ abbrev only : Tree → List FileTree
 only e = file None (definition (codes "A") 1 e ∷ []) ∷ []
 
 abbrev label : List ℕ → Label
-label t = record { text = t; quotes = false }
+label t = written_label t false
+
+-- the same where a condition asks for it
+abbrev asked : List ℕ → Label
+asked t = record { text = t; quotes = false; asked = true }
 
 -- one field of that name, and those behind it
 abbrev with : List ℕ → FieldMark → Tree → Fields → Fields
@@ -74,6 +78,10 @@ handed_on = record { faultless = refl; unmarked = refl }
 two_bodies : IsUnmarked (file None (definition (codes "L") 1 (or (star 4 (number 1)) int) ∷ definition (codes "L") 20 int ∷ []) ∷ only (braces (with (codes "level") Regular (reference (codes "L") 13) no_field))) (file None (definition (codes "L") 1 (or (number 1) int) ∷ definition (codes "L") 20 int ∷ []) ∷ only (braces (with (codes "level") Regular (reference (codes "L") 13) no_field)))
 two_bodies = record { faultless = refl; unmarked = refl }
 
+-- `{x: *1 | int, x?: >3}`, where a condition asks for the second x, for `{x?: 1 | int, x?: >3}`: it excludes no default, and no label tells of conditions any more
+asked_beside : IsUnmarked (only (braces (with (codes "x") Regular (or (star 8 (number 1)) int) (field (asked (codes "x")) Optional (atom (bound atoms.more (pos 3))) no_field)))) (only (braces (with (codes "x") Optional (or (number 1) int) (with (codes "x") Optional (atom (bound atoms.more (pos 3))) no_field))))
+asked_beside = record { faultless = refl; unmarked = refl }
+
 -- ---- where they are at fault
 
 -- `{x: *1 | *2 | int}`: the second mark
@@ -107,6 +115,10 @@ reference_beside = refl
 -- `{#B, x: int}`: the literal, which has an embedding
 embedding : mark_faults (only (wide (merged 4 (embedded 5 (reference (codes "B") 6) (declared (label (codes "x")) Regular int no_declaration)) false))) ≡ (0, 4) ∷ []
 embedding = refl
+
+-- `{x?: int, if x != _|_ {y: *1 | int}}`: the literal, which has a condition
+condition : mark_faults (only (wide (merged 4 (declared (label (codes "x")) Optional int (conditional 15 (record { label = codes "x"; at = 18; test = present; is_met = true } ∷ []) (braces (with (codes "y") Regular (or (star 31 (number 1)) int) no_field)) no_declaration)) false))) ≡ (0, 4) ∷ []
+condition = refl
 
 -- `close(*1 | int)`: the mark, as `close` is no value of its own
 called : mark_faults (only (wide (shut 4 (or (star 10 (number 1)) int)))) ≡ (0, 10) ∷ []

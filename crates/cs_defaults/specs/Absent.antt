@@ -1,6 +1,6 @@
 -- Defaults that another declaration of their label could exclude (own rule): in one struct literal a label with a default has no other
--- declaration that may be absent, which are optional ones, those with a default, and `[string]`.
-use Rattle.std.specs.Prelude.{ℕ, ◌||◌, Bool, true, false, List, [], ◌∷◌, ◌++◌, count_by, nat_lt, if◌then◌else◌}
+-- declaration that may be absent, which are optional ones, those with a default, and `[string]`. Those that conditions made exclude none.
+use Rattle.std.specs.Prelude.{ℕ, ◌&&◌, ◌||◌, not, Bool, true, false, List, [], ◌∷◌, ◌++◌, count_by, nat_lt, if◌then◌else◌}
 use Rattle.std.specs.Str.{bytes_eq}
 use Rattle.cs_grammar.specs.declared.ast.FieldMark.{FieldMark}
 use Rattle.cs_grammar.specs.declared.ast.FieldMark.TheVariants.{Regular, Optional, Required, Every}
@@ -14,10 +14,14 @@ may_be_absent has Optional e = true
 may_be_absent has Required e = false
 may_be_absent has (Every o) e = false
 
+-- the same of one that authors wrote, as `asked` says
+abbrev pub may_exclude : (List ℕ → Bool) → Bool → FieldMark → Tree → Bool
+may_exclude has asked m e = not asked && may_be_absent has m e
+
 -- the labels of the declarations that may be absent
 abbrev pub absent_labels : (List ℕ → Bool) → Fields → List (List ℕ)
 absent_labels has no_field = []
-absent_labels has (field l m e fs) = if may_be_absent has m e then l.text ∷ absent_labels has fs else absent_labels has fs
+absent_labels has (field l m e fs) = if may_exclude has l.asked m e then l.text ∷ absent_labels has fs else absent_labels has fs
 
 abbrev pub is_every : FieldMark → Bool
 is_every Regular = false

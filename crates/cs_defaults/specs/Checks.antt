@@ -8,7 +8,7 @@ use Rattle.std.specs.List.{list_any}
 use Rattle.std.specs.Ordering.{nat_cmp}
 use Rattle.std.specs.Str.{bytes_eq}
 use Rattle.cs_grammar.specs.declared.ast.Expr.{Expr}
-use Rattle.cs_grammar.specs.Tree.{Tree, DefinitionTree, defined_name}
+use Rattle.cs_grammar.specs.Tree.{written_label, Tree, DefinitionTree, defined_name}
 use Rattle.cs_grammar.specs.Bodies.{bodies}
 use Rattle.cs_grammar.specs.View.{expr_view, Seen}
 use Rattle.cs_defaults.specs.Absent.{is_repeated}
@@ -85,6 +85,7 @@ pub record TellsSeen (seen repeated : BTreeSet (Bor (List ℕ))) (labels : List 
 abbrev pub TellsRepeated : BTreeSet (Bor (List ℕ)) → List (List ℕ) → Type 0
 TellsRepeated m absent = (s : List ℕ) → contains_by (λ k. slice_cmp nat_cmp s k.now) m ≡ is_repeated s absent
 
--- a field without its marks
+-- a field without its marks, and as authors write it
 abbrev pub unmarked_seen : (List ℕ → Bool) → Seen → Seen
-unmarked_seen has f = record { label = f.label; mark = optional_if (has_default has (leading f.value)) f.mark; value = unmarked has f.value }
+unmarked_seen has f =
+    record { label = written_label f.label.text f.label.quotes; mark = optional_if (has_default has (leading f.value)) f.mark; value = unmarked has f.value }

@@ -1,9 +1,9 @@
 -- What an expression stands for without its marks (CUE, default values): its present values are those of the unmarked disjunction, and a
--- regular field whose value has a default may be missing. Nothing is filled in (own rule).
+-- regular field whose value has a default may be missing. Nothing is filled in (own rule). No field tells any more that a condition asks for it.
 use Rattle.std.specs.Prelude.{ℕ, Bool, true, false, List, map}
 use Rattle.cs_grammar.specs.declared.ast.FieldMark.{FieldMark}
 use Rattle.cs_grammar.specs.declared.ast.FieldMark.TheVariants.{Regular, Optional, Required, Every}
-use Rattle.cs_grammar.specs.Tree.{Tree, atom, named, reference, conjunction, disjunction, paren, struct, list, wide, marked, merged, shut, bottom, Trees, none, more, Fields, no_field, field, End, closed, any, each, DefinitionTree, definition, FileTree, file, package_name, definitions}
+use Rattle.cs_grammar.specs.Tree.{written_label, Tree, atom, named, reference, conjunction, disjunction, paren, struct, list, wide, marked, merged, shut, bottom, Trees, none, more, Fields, no_field, field, End, closed, any, each, DefinitionTree, definition, FileTree, file, package_name, definitions}
 use Rattle.cs_defaults.specs.Leading.{leading, has_default}
 
 abbrev pub optional_if : Bool → FieldMark → FieldMark
@@ -35,7 +35,8 @@ abbrev mutual
 
   pub unmarked_fields : (List ℕ → Bool) → Fields → Fields
   unmarked_fields has no_field = no_field
-  unmarked_fields has (field l m e fs) = field l (optional_if (has_default has (leading e)) m) (unmarked has e) (unmarked_fields has fs)
+  unmarked_fields has (field l m e fs) =
+      field (written_label l.text l.quotes) (optional_if (has_default has (leading e)) m) (unmarked has e) (unmarked_fields has fs)
 
   pub unmarked_end : (List ℕ → Bool) → End → End
   unmarked_end has closed = closed

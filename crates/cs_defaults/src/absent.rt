@@ -76,6 +76,14 @@ impl Clashes<'_, '_> {
         }
     }
 
+    /// The same of one that authors wrote: what a condition made excludes no default.
+    fn may_exclude(&self, field: &Field) -> bool
+        ensures { (has : List ℕ → Bool) → TellsHanding self.now.handing.now has
+            → result ≡ Spec.may_exclude has field.now.asked field.now.mark (expr_view field.now.value) }
+    {
+        !field.asked && self.may_be_absent(field)
+    }
+
     /// The labels of which two declarations or more may be absent.
     fn repeated<'e>(&self, fields: &'e [Field]) -> Result<BTreeSet<&'e str>, AllocError>
         ensures { (has : List ℕ → Bool) → TellsHanding self.now.handing.now has
@@ -84,7 +92,7 @@ impl Clashes<'_, '_> {
         let mut seen = BTreeSet::new(self.alloc);
         let mut repeated = BTreeSet::new(self.alloc);
         for field in fields {
-            if self.may_be_absent(field) {
+            if self.may_exclude(field) {
                 see(&mut seen, &mut repeated, &field.label)?;
             }
         }

@@ -116,6 +116,7 @@ impl Unmarking<'_, '_> {
         Ok(Field {
             label,
             quoted: field.quoted,
+            asked: false,
             mark,
             value,
             site: field.site.copy()?,

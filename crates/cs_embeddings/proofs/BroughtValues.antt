@@ -3,7 +3,7 @@ use Rattle.std.proofs.Common.{◌≡◌, ℕ, Bool, zero, suc, ◌<◌, ◌≤�
 use Rattle.std.specs.List.{AllByRecursion}
 use Rattle.cs_grammar.specs.Height.{height}
 use Rattle.cs_grammar.specs.Tree.{Tree, DefinitionTree}
-use Rattle.cs_grammar.specs.View.{Seen, label_of}
+use Rattle.cs_grammar.specs.View.{Seen}
 use Rattle.cs_grammar.specs.declared.ast.FieldMark.{FieldMark}
 use Rattle.cs_embeddings.proofs.GatheredParts.{gathered_well}
 use Rattle.cs_embeddings.proofs.JoinedParts.{of_map, brought_value, brought_seen, brought_clashes}
@@ -14,7 +14,7 @@ use Rattle.cs_embeddings.specs.Embedded.{can_be_embedded, embeds_well}
 use Rattle.cs_embeddings.specs.Gathered.{gathered}
 use Rattle.cs_embeddings.specs.GatheredTable.{declared_view, gathered_view}
 use Rattle.cs_embeddings.specs.Joined.{joined_with, joined_value, placed}
-use Rattle.cs_embeddings.specs.Made.{IsNoRoom, IsMade, with_value, seen}
+use Rattle.cs_embeddings.specs.Made.{IsNoRoom, IsMade, label_with, with_value, seen}
 use Rattle.cs_embeddings.specs.Size.{size}
 use Rattle.cs_embeddings.specs.declared.fault.EmbeddingFault.{EmbeddingFault}
 use Rattle.cs_embeddings.specs.Views.{brought_view, alternative_view}
@@ -52,14 +52,15 @@ module _ (ds : List DefinitionTree) (levels room : ℕ) (lower : suc levels ≡ 
   brought_made_one (suc m) deep nodes rest x h = h m (omega arith)
 
 -- a field that has each part as it is meant
-abbrev with_parts : List ℕ → Bool → FieldMark → Tree → Seen
-with_parts s q m v = record { label = label_of s q; mark = m; value = v }
+abbrev with_parts : List ℕ → Bool → Bool → FieldMark → Tree → Seen
+with_parts s q a m v = record { label = label_with s q a; mark = m; value = v }
 
-pub same_field : (f : Seen) (d : Brought) (value : Tree → Tree) (s : List ℕ) (q : Bool) (m : FieldMark) (v : Tree) → f ≡ with_parts s q m v
-    → s ≡ d.label.text → q ≡ d.label.quotes → m ≡ placed d.place d.mark → v ≡ value d.value → f ≡ with_value d.place value (seen d)
-same_field f d value s q m v is text quotes mark made =
-    is ∙ ap (λ x. with_parts x q m v) text ∙ ap (λ x. with_parts d.label.text x m v) quotes ∙ ap (λ x. with_parts d.label.text d.label.quotes x v) mark
-    ∙ ap (with_parts d.label.text d.label.quotes (placed d.place d.mark)) made
+pub same_field : (f : Seen) (d : Brought) (value : Tree → Tree) (s : List ℕ) (q a : Bool) (m : FieldMark) (v : Tree) → f ≡ with_parts s q a m v
+    → s ≡ d.label.text → q ≡ d.label.quotes → a ≡ d.label.asked → m ≡ placed d.place d.mark → v ≡ value d.value → f ≡ with_value d.place value (seen d)
+same_field f d value s q a m v is text quotes asked mark made =
+    let l = d.label in
+    is ∙ ap (λ x. with_parts x q a m v) text ∙ ap (λ x. with_parts l.text x a m v) quotes ∙ ap (λ x. with_parts l.text l.quotes x m v) asked
+    ∙ ap (λ x. with_parts l.text l.quotes l.asked x v) mark ∙ ap (with_parts l.text l.quotes l.asked (placed d.place d.mark)) made
 
 -- the value of one of the declarations embeds well
 pub value_well : (ds : List DefinitionTree) (bs : List Brought) (xs : List Gathered) (i : ℕ) (b : Gathered) → map gathered_view xs ≡ gathered ds bs → i < length xs

@@ -11,9 +11,9 @@ use Rattle.std.proofs.lemmas.Bool.{or_left, or_right, and_parts, and_from}
 use Rattle.std.proofs.lemmas.List.{map-append, take_more, append-nil}
 use Rattle.std.proofs.lemmas.Slice.Eq.{bytes_eq-Decides}
 use Rattle.cs_embeddings.specs.Alternatives.{Brought}
-use Rattle.cs_embeddings.specs.Gathered.{is_every}
+use Rattle.cs_embeddings.specs.Gathered.{is_every, is_asked_or_plain}
 use Rattle.cs_embeddings.specs.Clashes.{is_same_reference, is_same_embedding, are_apart, may_open, differ, held, place_in, clashes_behind}
-use Rattle.cs_embeddings.specs.ClashTable.{is_unlike, is_elsewhere, is_beside, is_not_beside, opens, is_of_label, is_of_every, TellsValues, TellsEmbeddings, TellsFrom, TellsFirst, TellsGroup, TellsGroups, TellsLabel}
+use Rattle.cs_embeddings.specs.ClashTable.{is_unlike, is_elsewhere, is_beside, is_not_beside, opens, is_of_label, is_of_every, held_at, TellsValues, TellsEmbeddings, TellsFrom, TellsFirst, TellsGroup, TellsGroups, TellsLabel}
 use Rattle.cs_embeddings.specs.Held.{holds, is_plain}
 use Rattle.cs_embeddings.specs.Views.{brought_view}
 use Rattle.cs_embeddings.specs.declared.alternatives.Brought as rust
@@ -192,11 +192,11 @@ labels_more m n ds d s g is told grown puts t =
 
 -- ---- one after another
 
-held_push : (ds : List Brought) (d : Brought) → held (ds ++ d ∷ []) ≡ held ds ++ cond (is_plain d.value) [] (d ∷ [])
+held_push : (ds : List Brought) (d : Brought) → held (ds ++ d ∷ []) ≡ held ds ++ cond (is_asked_or_plain d) [] (d ∷ [])
 held_push [] d = refl
-held_push (c ∷ ds) d = by (is_plain c.value) (held_push ds d)
+held_push (c ∷ ds) d = by (is_asked_or_plain c) (held_push ds d)
   where
-    by : (b : Bool) → held (ds ++ d ∷ []) ≡ held ds ++ cond (is_plain d.value) [] (d ∷ []) → cond b (held (ds ++ d ∷ [])) (c ∷ held (ds ++ d ∷ [])) ≡ cond b (held ds) (c ∷ held ds) ++ cond (is_plain d.value) [] (d ∷ [])
+    by : (b : Bool) → held (ds ++ d ∷ []) ≡ held ds ++ cond (is_asked_or_plain d) [] (d ∷ []) → cond b (held (ds ++ d ∷ [])) (c ∷ held (ds ++ d ∷ [])) ≡ cond b (held ds) (c ∷ held ds) ++ cond (is_asked_or_plain d) [] (d ∷ [])
     by true later = later
     by false later = ap (λ xs. c ∷ xs) later
 
@@ -204,25 +204,25 @@ module _ (xs : List rust.Brought) (i : ℕ) (x : rust.Brought) (l : i < length x
   abbrev item : Brought
   item = brought_view x
 
-  next_done : held (map brought_view (take (i + 1) xs)) ≡ held (map brought_view (take i xs)) ++ cond (is_plain item.value) [] (item ∷ [])
+  next_done : held (map brought_view (take (i + 1) xs)) ≡ held (map brought_view (take i xs)) ++ cond (is_asked_or_plain item) [] (item ∷ [])
   next_done =
       ap (λ ys. held (map brought_view ys)) (take_more xs i x l ∙ ap (λ y. take i xs ++ y ∷ []) (sym is))
       ∙ ap held (map-append brought_view (take i xs) (x ∷ []))
       ∙ held_push (map brought_view (take i xs)) item
 
-  next_rest : held (map brought_view (drop i xs)) ≡ cond (is_plain item.value) (held (map brought_view (drop (i + 1) xs))) (item ∷ held (map brought_view (drop (i + 1) xs)))
+  next_rest : held (map brought_view (drop i xs)) ≡ cond (is_asked_or_plain item) (held (map brought_view (drop (i + 1) xs))) (item ∷ held (map brought_view (drop (i + 1) xs)))
   next_rest = ap (λ ys. held (map brought_view ys)) (at_place xs i x l is)
 
-  pub plain_done : is_plain item.value ≡ true → held (map brought_view (take (i + 1) xs)) ≡ held (map brought_view (take i xs))
-  plain_done h = next_done ∙ ap (λ b. held (map brought_view (take i xs)) ++ cond b [] (item ∷ [])) h ∙ append-nil (held (map brought_view (take i xs)))
+  pub passed_done : is_asked_or_plain item ≡ true → held (map brought_view (take (i + 1) xs)) ≡ held (map brought_view (take i xs))
+  passed_done h = next_done ∙ ap (λ b. held (map brought_view (take i xs)) ++ cond b [] (item ∷ [])) h ∙ append-nil (held (map brought_view (take i xs)))
 
-  pub plain_rest : is_plain item.value ≡ true → held (map brought_view (drop i xs)) ≡ held (map brought_view (drop (i + 1) xs))
-  plain_rest h = next_rest ∙ ap (λ b. cond b (held (map brought_view (drop (i + 1) xs))) (item ∷ held (map brought_view (drop (i + 1) xs)))) h
+  pub passed_rest : is_asked_or_plain item ≡ true → held (map brought_view (drop i xs)) ≡ held (map brought_view (drop (i + 1) xs))
+  passed_rest h = next_rest ∙ ap (λ b. cond b (held (map brought_view (drop (i + 1) xs))) (item ∷ held (map brought_view (drop (i + 1) xs)))) h
 
-  pub held_done : is_plain item.value ≡ false → held (map brought_view (take (i + 1) xs)) ≡ held (map brought_view (take i xs)) ++ item ∷ []
+  pub held_done : is_asked_or_plain item ≡ false → held (map brought_view (take (i + 1) xs)) ≡ held (map brought_view (take i xs)) ++ item ∷ []
   held_done h = next_done ∙ ap (λ b. held (map brought_view (take i xs)) ++ cond b [] (item ∷ [])) h
 
-  pub held_rest : is_plain item.value ≡ false → held (map brought_view (drop i xs)) ≡ item ∷ held (map brought_view (drop (i + 1) xs))
+  pub held_rest : is_asked_or_plain item ≡ false → held (map brought_view (drop i xs)) ≡ item ∷ held (map brought_view (drop (i + 1) xs))
   held_rest h = next_rest ∙ ap (λ b. cond b (held (map brought_view (drop (i + 1) xs))) (item ∷ held (map brought_view (drop (i + 1) xs)))) h
 
 -- a declaration that doesn't differ is passed
@@ -235,8 +235,17 @@ clash_here before d ds o h is =
     ap (λ b. cond b (place_in d.place (holds d.value)) [] ++ clashes_behind (before ++ d ∷ []) ds) h
     ∙ ap (λ p. place_in d.place p ++ clashes_behind (before ++ d ∷ []) ds) is
 
-pub plain_by : (d : Brought) → holds d.value ≡ None → is_plain d.value ≡ true
-plain_by d h = ap (λ o. not (is_some o)) h
+-- one that a condition made, and a plain one, is left out
+pub passed_by : (d : Brought) → held_at d ≡ None → is_asked_or_plain d ≡ true
+passed_by d h = by d.label.asked h
+  where
+    by : (a : Bool) → cond a None (holds d.value) ≡ None → (a || is_plain d.value) ≡ true
+    by true k = refl
+    by false k = ap (λ o. not (is_some o)) k
 
-pub held_by : (d : Brought) (o : ℕ) → holds d.value ≡ Some o → is_plain d.value ≡ false
-held_by d o h = ap (λ o. not (is_some o)) h
+pub held_by : (d : Brought) (o : ℕ) → held_at d ≡ Some o → (is_asked_or_plain d ≡ false) × (holds d.value ≡ Some o)
+held_by d o h = by d.label.asked h
+  where
+    by : (a : Bool) → cond a None (holds d.value) ≡ Some o → ((a || is_plain d.value) ≡ false) × (holds d.value ≡ Some o)
+    by true k = cc
+    by false k = (ap (λ o. not (is_some o)) k, k)

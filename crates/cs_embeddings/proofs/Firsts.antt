@@ -1,7 +1,7 @@
 -- What the parts of a list find, one after another, and what is the first of it.
 use Rattle.std.proofs.Common.{◌≡◌, ℕ, ◌+◌, ◌<◌, ◌≤◌, List, [], ◌∷◌, ◌++◌, Option, Some, None, Result, subst, map, drop, length, get_or, slice_get, refl, sym, ap, ◌∙◌}
 use Rattle.std.proofs.lemmas.List.{map-append, append_assoc}
-use Rattle.cs_grammar.specs.View.{expr_view, exprs_view, fields_view, SeenDeclaration, field_seen, embedding_seen, declaration_view, declarations_view, declarations_of}
+use Rattle.cs_grammar.specs.View.{expr_view, exprs_view, fields_view, SeenDeclaration, field_seen, embedding_seen, conditional_seen, declaration_view, declarations_view, declarations_of}
 use Rattle.cs_grammar.specs.Tree.{DefinitionTree}
 use Rattle.cs_grammar.specs.declared.ast.Declaration.{Declaration}
 use Rattle.cs_grammar.specs.declared.ast.Expr.{Expr}
@@ -56,6 +56,7 @@ module _ (ds : List DefinitionTree) where
   seen_parts : (d : SeenDeclaration) (cs : List SeenDeclaration) → flaws_declarations ds (declarations_of (d ∷ cs)) ≡ flaws_seen ds d ++ flaws_declarations ds (declarations_of cs)
   seen_parts (field_seen f) cs = refl
   seen_parts (embedding_seen o e) cs = sym (append_assoc (flaws_here ds o e) (flaws ds e) (flaws_declarations ds (declarations_of cs)))
+  seen_parts (conditional_seen o qs e) cs = refl
 
   pub declaration_parts : (d : Declaration) (cs : List Declaration) → flaws_declarations ds (declarations_view (d ∷ cs)) ≡ flaws_seen ds (declaration_view d) ++ flaws_declarations ds (declarations_view cs)
   declaration_parts d cs = seen_parts (declaration_view d) (map declaration_view cs)

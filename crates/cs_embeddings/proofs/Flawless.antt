@@ -2,7 +2,7 @@
 use Rattle.std.proofs.Common.{◌≡◌, ℕ, suc, Bool, true, false, ◌&&◌, List, [], ◌∷◌, ◌++◌, map, refl, cond}
 use Rattle.std.proofs.lemmas.Bool.{and_parts}
 use Rattle.std.specs.List.{AllByRecursion, flat_map}
-use Rattle.cs_grammar.specs.Tree.{Tree, atom, named, reference, conjunction, disjunction, paren, struct, list, wide, marked, merged, shut, Declarations, no_declaration, declared, embedded, Trees, none, more, Fields, no_field, field, End, closed, any, each, DefinitionTree, body, FileTree, definitions}
+use Rattle.cs_grammar.specs.Tree.{Tree, atom, named, reference, conjunction, disjunction, paren, struct, list, wide, marked, merged, shut, Declarations, no_declaration, declared, embedded, conditional, Trees, none, more, Fields, no_field, field, End, closed, any, each, DefinitionTree, body, FileTree, definitions}
 use Rattle.cs_embeddings.specs.Alternatives.{most_steps}
 use Rattle.cs_embeddings.specs.Checks.{AreWell}
 use Rattle.cs_embeddings.specs.Embedded.{can_be_embedded, embeds_well, embed_well, fields_embed_well, declarations_embed_well, end_embeds_well}
@@ -65,6 +65,7 @@ module _ (ds : List DefinitionTree) where
         both_true (can e) (declarations_embed_well can cs)
         (here_well o e (first_empty (flaws_here ds o e) (flaws ds e ++ flaws_declarations ds cs) h))
         (flawless_declarations cs (second_empty (flaws ds e) (flaws_declarations ds cs) (second_empty (flaws_here ds o e) (flaws ds e ++ flaws_declarations ds cs) h)))
+    flawless_declarations (conditional o qs e cs) h = cc
 
     pub flawless_end : (end : End) → flaws_end ds end ≡ [] → end_embeds_well can end ≡ true
     flawless_end closed h = refl

@@ -12,8 +12,7 @@ use Rattle.cs_grammar.specs.Written.{by_itself, IsName, IsDefinitionName, IsWrit
 use Rattle.cs_embeddings.proofs.WellAlternatives.{all-append}
 use Rattle.cs_embeddings.specs.Alternatives.{Brought}
 use Rattle.cs_embeddings.specs.Embedded.{embeds_well, embed_well}
-use Rattle.cs_embeddings.specs.Gathered.{is_every, stays_alone, is_of, those_of, values_of, gathers, is_gathered, most_gathered, mark_or, mark_of, together, gathered_at, gathered_behind, gathered}
-use Rattle.cs_embeddings.specs.Held.{is_plain}
+use Rattle.cs_embeddings.specs.Gathered.{is_every, is_asked_or_plain, stays_alone, is_of, those_of, values_of, gathers, is_gathered, most_gathered, mark_or, mark_of, together, gathered_at, gathered_behind, gathered}
 use Rattle.cs_embeddings.specs.United.{unites}
 
 -- ---- any property
@@ -100,7 +99,7 @@ module _ (ds : List DefinitionTree) where
   named_label : (s : List ℕ) (d : Brought) → IsOne s d → d.label.quotes ≡ false → IsName s
   named_label s d h bare =
       let parts = and_parts (not (stays_alone d)) (bytes_eq d.label.text s) h.1 in
-      subst IsName ((bytes_eq-Decides d.label.text s).0 parts.1) (by d.mark (not_first (is_every d.mark) (is_plain d.value) parts.0) h.0.0)
+      subst IsName ((bytes_eq-Decides d.label.text s).0 parts.1) (by d.mark (not_first (is_every d.mark) (is_asked_or_plain d) parts.0) h.0.0)
     where
       by : (m : FieldMark) → not (is_every m) ≡ true → IsWrittenLabel d.label m → IsName d.label.text
       by Regular k w = w bare
@@ -125,7 +124,7 @@ module _ (ds : List DefinitionTree) where
 
   no_every : (s : List ℕ) (bs : List Brought) → AllByRecursion (IsOne s) bs → not (is_every (mark_of bs)) ≡ true
   no_every s [] h = refl
-  no_every s (d ∷ bs) h = by d.mark (not_first (is_every d.mark) (is_plain d.value) (and_parts (not (stays_alone d)) (bytes_eq d.label.text s) h.0.1).0) (no_every s bs h.1)
+  no_every s (d ∷ bs) h = by d.mark (not_first (is_every d.mark) (is_asked_or_plain d) (and_parts (not (stays_alone d)) (bytes_eq d.label.text s) h.0.1).0) (no_every s bs h.1)
     where
       by : (m : FieldMark) → not (is_every m) ≡ true → not (is_every (mark_of bs)) ≡ true → not (is_every (mark_or m (mark_of bs))) ≡ true
       by Regular k rest = refl

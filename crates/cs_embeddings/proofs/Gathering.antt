@@ -16,7 +16,7 @@ use Rattle.std.proofs.lemmas.Slice.Eq.{bytes_eq-Decides}
 use Rattle.cs_grammar.specs.declared.ast.Expr.{Expr}
 use Rattle.cs_grammar.specs.declared.ast.FieldMark.{FieldMark}
 use Rattle.cs_grammar.specs.declared.ast.FieldMark.TheVariants.{Regular, Optional, Required, Every}
-use Rattle.cs_grammar.specs.Tree.{Tree, Trees, none, more, conjunction, DefinitionTree}
+use Rattle.cs_grammar.specs.Tree.{written_label, Tree, Trees, none, more, conjunction, DefinitionTree}
 use Rattle.cs_grammar.specs.View.{expr_view, trees_of}
 use Rattle.cs_embeddings.specs.Alternatives.{Brought}
 use Rattle.cs_embeddings.specs.Checks.{bodies_view}
@@ -184,7 +184,7 @@ label_added l k r ds bs d name t same one told without after put =
 -- ---- what stands for a declaration
 
 parts : List ℕ → Bool → FieldMark → Trees → Option ℕ → Brought
-parts s q m es p = record { label = record { text = s; quotes = q }; mark = m; value = conjunction es; place = p; embedding = None }
+parts s q m es p = record { label = written_label s q; mark = m; value = conjunction es; place = p; embedding = None }
 
 together_as : (t : Together) (s : List ℕ) (bs : List Brought) → IsTogether t s bs → together_view t ≡ together s bs
 unfolding parts

@@ -9,7 +9,7 @@ use Rattle.std.proofs.lemmas.List.Elements.{filter-append}
 use Rattle.std.proofs.lemmas.List.Folds.{list_any-append}
 use Rattle.std.proofs.lemmas.Slice.Eq.{bytes_eq-Decides}
 use Rattle.cs_grammar.specs.Tree.{Tree}
-use Rattle.cs_resolve.specs.Refinement.{referred}
+use Rattle.cs_grammar.specs.Referred.{referred}
 use Rattle.cs_embeddings.specs.Alternatives.{Brought}
 use Rattle.cs_embeddings.specs.Clashes.{are_same, is_same_reference, is_same_embedding}
 

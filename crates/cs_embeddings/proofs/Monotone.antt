@@ -2,7 +2,7 @@
 use Rattle.std.proofs.Common.{◌≡◌, ℕ, zero, suc, ◌+◌, ◌-◌, ◌≤◌, Bool, true, false, List, [], ◌∷◌, refl, arith, subst}
 use Rattle.std.proofs.lemmas.Bool.{and_parts, and_from, both_ways}
 use Rattle.std.specs.List.{list_all}
-use Rattle.cs_grammar.specs.Tree.{Tree, atom, named, reference, conjunction, disjunction, paren, struct, list, wide, marked, merged, shut, Declarations, no_declaration, declared, embedded, Trees, none, more, Fields, no_field, field, End, closed, any, each, DefinitionTree}
+use Rattle.cs_grammar.specs.Tree.{Tree, atom, named, reference, conjunction, disjunction, paren, struct, list, wide, marked, merged, shut, Declarations, no_declaration, declared, embedded, conditional, Trees, none, more, Fields, no_field, field, End, closed, any, each, DefinitionTree}
 use Rattle.cs_grammar.specs.Bodies.{bodies}
 use Rattle.cs_embeddings.specs.Embedded.{has_operand, all_embedded, embeds_well, embed_well, fields_embed_well, declarations_embed_well, end_embeds_well, can_be_embedded}
 
@@ -52,6 +52,7 @@ module _ (f g : Tree → Bool) (takes : (e : Tree) → f e ≡ true → g e ≡ 
     declarations_well_more (embedded o e cs) h =
         let p = and_parts (f e) (declarations_embed_well f cs) h in
         and_from (g e) (declarations_embed_well g cs) (takes e p.0) (declarations_well_more cs p.1)
+    declarations_well_more (conditional o qs e cs) h = h
 
     pub end_well_more : (end : End) → end_embeds_well f end ≡ true → end_embeds_well g end ≡ true
     end_well_more closed h = h

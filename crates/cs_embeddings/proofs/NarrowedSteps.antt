@@ -12,7 +12,7 @@ use Rattle.std.specs.Result.{IfOk, OnOk}
 use Rattle.std.specs.Str.{bytes_eq}
 use Rattle.cs_grammar.specs.Tree.{Tree, atom, named, reference, conjunction, disjunction, paren, struct, list, wide, marked, merged, shut, DefinitionTree}
 use Rattle.cs_grammar.specs.Bodies.{bodies}
-use Rattle.cs_grammar.specs.View.{SeenDeclaration, field_seen, embedding_seen, declaration_view, declarations_view, declarations_of}
+use Rattle.cs_grammar.specs.View.{SeenDeclaration, field_seen, embedding_seen, conditional_seen, declaration_view, declarations_view, declarations_of}
 use Rattle.cs_grammar.specs.declared.ast.Declaration.{Declaration}
 use Rattle.cs_embeddings.specs.Embedded.{all_embedded}
 use Rattle.cs_embeddings.specs.Narrowed.{is_labelled, has_field, some_declares, has_declaration, declares, narrows_field, narrows, declarations_narrow, may_join, joins_well}
@@ -45,10 +45,12 @@ module _ (inner : Tree → Bool) (s : List ℕ) where
   abbrev pub seen_declares : SeenDeclaration → Bool
   seen_declares (field_seen f) = is_labelled s f.label f.mark
   seen_declares (embedding_seen o e) = inner e
+  seen_declares (conditional_seen o qs e) = false
 
   seen_parts : (d : SeenDeclaration) (ds : List SeenDeclaration) → has_declaration inner s (declarations_of (d ∷ ds)) ≡ (seen_declares d || has_declaration inner s (declarations_of ds))
   seen_parts (field_seen f) ds = refl
   seen_parts (embedding_seen o e) ds = refl
+  seen_parts (conditional_seen o qs e) ds = refl
 
   abbrev pub declaration_declares : Declaration → Bool
   declaration_declares d = seen_declares (declaration_view d)
@@ -61,11 +63,13 @@ module _ (has : List ℕ → Bool) where
   abbrev pub seen_narrows : SeenDeclaration → Bool
   seen_narrows (field_seen f) = narrows_field has f.label f.mark f.value
   seen_narrows (embedding_seen o e) = narrows has e
+  seen_narrows (conditional_seen o qs e) = false
 
   seen_narrow_parts : (d : SeenDeclaration) (ds : List SeenDeclaration)
       → declarations_narrow has (declarations_of (d ∷ ds)) ≡ (seen_narrows d && declarations_narrow has (declarations_of ds))
   seen_narrow_parts (field_seen f) ds = refl
   seen_narrow_parts (embedding_seen o e) ds = refl
+  seen_narrow_parts (conditional_seen o qs e) ds = refl
 
   abbrev pub declaration_narrows : Declaration → Bool
   declaration_narrows d = seen_narrows (declaration_view d)

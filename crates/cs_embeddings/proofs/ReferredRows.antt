@@ -7,7 +7,7 @@ use Rattle.std.specs.List.{list_all, list_any}
 use Rattle.std.specs.Option.{option_map}
 use Rattle.cs_grammar.specs.Tree.{Tree, atom, named, reference, conjunction, disjunction, paren, struct, list, wide, DefinitionTree}
 use Rattle.cs_grammar.specs.Bodies.{bodies}
-use Rattle.cs_resolve.specs.Refinement.{referred}
+use Rattle.cs_grammar.specs.Referred.{referred}
 use Rattle.cs_embeddings.specs.Embedded.{can_be_embedded}
 use Rattle.cs_embeddings.specs.Narrowed.{declares}
 use Rattle.cs_embeddings.specs.NarrowedTable.{IsRowOf, TellsRow, TellsRows}

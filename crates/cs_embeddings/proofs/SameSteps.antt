@@ -3,7 +3,7 @@ use Rattle.std.proofs.Common.{◌≡◌, ℕ, zero, suc, Bool, true, false, ◌&
 use Rattle.std.proofs.lemmas.Bool.{and_parts, both_ways, cond_both}
 use Rattle.std.specs.List.{list_all, list_any}
 use Rattle.cs_grammar.specs.declared.ast.FieldMark.{FieldMark}
-use Rattle.cs_grammar.specs.Tree.{Label, Tree, atom, named, reference, conjunction, disjunction, paren, struct, list, wide, marked, merged, shut, Declarations, no_declaration, declared, embedded, Trees, none, more, Fields, no_field, field, DefinitionTree}
+use Rattle.cs_grammar.specs.Tree.{Label, Tree, atom, named, reference, conjunction, disjunction, paren, struct, list, wide, marked, merged, shut, Declarations, no_declaration, declared, embedded, conditional, Trees, none, more, Fields, no_field, field, DefinitionTree}
 use Rattle.cs_grammar.specs.Bodies.{bodies}
 use Rattle.cs_embeddings.specs.Embedded.{has_operand, all_embedded, embeds_well, declarations_embed_well, can_be_embedded}
 use Rattle.cs_embeddings.specs.Gathered.{is_every}
@@ -52,6 +52,7 @@ module _ (can also f g : Tree → Bool) (same : (e : Tree) → can e ≡ true �
       let p = and_parts (can e) (declarations_embed_well can cs) h in
       let q = and_parts (also e) (declarations_embed_well also cs) k in
       ap₂ (λ a b. a || b) (same e p.0 q.0) (declarations_same s cs p.1 q.1)
+  declarations_same s (conditional o qs e cs) h k = absurd (both_ways false refl h)
 
 -- what narrows something narrows whatever declares the same labels
 module _ (f g : List ℕ → Bool) (same : (s : List ℕ) → f s ≡ g s) where
@@ -84,6 +85,7 @@ module _ (f g : List ℕ → Bool) (same : (s : List ℕ) → f s ≡ g s) where
     declared_same no_declaration = refl
     declared_same (declared l m e cs) = ap₂ (λ a b. a && b) (field_same l m e) (declared_same cs)
     declared_same (embedded o e cs) = ap₂ (λ a b. a && b) (narrows_same e) (declared_same cs)
+    declared_same (conditional o qs e cs) = refl
 
   pub others_same : (es : Trees) → others_narrow f es ≡ others_narrow g es
   others_same none = refl

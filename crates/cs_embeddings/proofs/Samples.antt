@@ -1,8 +1,9 @@
 -- Samples, worked by the definitions: files with embeddings, and what they stand for or why they are refused.
 use Rattle.std.proofs.Common.{◌≡◌, ℕ, true, false, List, [], ◌∷◌, codes, None, refl}
+use Rattle.cs_grammar.specs.Atom.{not_text}
 use Rattle.cs_grammar.specs.Spells.{every_label}
-use Rattle.cs_grammar.specs.Tree.{Label, Tree, atom, text, named, reference, conjunction, disjunction, paren, struct, wide, merged, Declarations, no_declaration, declared, embedded, none, more, Fields, no_field, field, DefinitionTree, definition, FileTree, file}
-use Rattle.cs_grammar.specs.declared.ast.FieldMark.TheVariants.{Regular, Optional, Every}
+use Rattle.cs_grammar.specs.Tree.{Label, written_label, present, Tree, atom, text, named, reference, conjunction, disjunction, paren, struct, wide, merged, Declarations, no_declaration, declared, embedded, conditional, none, more, Fields, no_field, field, DefinitionTree, definition, FileTree, file}
+use Rattle.cs_grammar.specs.declared.ast.FieldMark.TheVariants.{Regular, Optional, Required, Every}
 use Rattle.cs_embeddings.specs.Alternatives.{alternatives}
 use Rattle.cs_embeddings.specs.Clashes.{clashes_value}
 use Rattle.cs_embeddings.specs.Embedded.{can_be_embedded}
@@ -16,7 +17,11 @@ abbrev only : List DefinitionTree → List FileTree
 only ds = file None ds ∷ []
 
 abbrev label : List ℕ → Label
-label t = record { text = t; quotes = false }
+label t = written_label t false
+
+-- the same where a condition asks for it
+abbrev asked : List ℕ → Label
+asked t = record { text = t; quotes = false; asked = true }
 
 -- one field of that name, and those behind it; and the same of declarations
 abbrev with : List ℕ → Tree → Fields → Fields
@@ -179,7 +184,7 @@ unfolding can_be_embedded joins_well alternatives clashes_value joined_value
 values_of_one_embedding = record { flawless = refl; apart = refl; joined = refl }
 
 -- `#P: {x?: {a: int}, c: int, "x"?: {b: int}}` for `{x?: {a: int, b: int}, c: int}`
-fields_of_one_label : IsJoined (only (definition (codes "P") 0 (braces 4 (field (label (codes "x")) Optional (one (codes "a") 8) (with (codes "c") (int 20) (field (record { text = codes "x"; quotes = true }) Optional (one (codes "b") 30) no_field)))) ∷ [])) (only (definition (codes "P") 0 (braces 4 (field (label (codes "x")) Optional (braces 8 (with (codes "a") (int 9) (with (codes "b") (int 9) no_field))) (with (codes "c") (int 20) no_field))) ∷ []))
+fields_of_one_label : IsJoined (only (definition (codes "P") 0 (braces 4 (field (label (codes "x")) Optional (one (codes "a") 8) (with (codes "c") (int 20) (field (written_label (codes "x") true) Optional (one (codes "b") 30) no_field)))) ∷ [])) (only (definition (codes "P") 0 (braces 4 (field (label (codes "x")) Optional (braces 8 (with (codes "a") (int 9) (with (codes "b") (int 9) no_field))) (with (codes "c") (int 20) no_field))) ∷ []))
 unfolding can_be_embedded joins_well alternatives clashes_value joined_value
 fields_of_one_label = record { flawless = refl; apart = refl; joined = refl }
 
@@ -198,7 +203,25 @@ embedded_label_is_narrowed : IsJoined (only (definition (codes "B") 0 (braces 4 
 unfolding can_be_embedded declares joins_well alternatives clashes_value joined_value
 embedded_label_is_narrowed = record { flawless = refl; apart = refl; joined = refl }
 
+-- `#P: {m: string, {m: "x", a: int} | {m!: !="x"}}`, as conditions make it, for `{m: string, m: "x", a: int} | {m: string, m!: !="x"}`: the conditions still
+-- ask for m
+asked_in_alternatives : let is = asked (codes "m") in let not_x = atom (not_text (codes "x")) in
+    IsJoined (only (definition (codes "P") 0 (literal 4 (has (codes "m") (string 8) (puts 16 (λ o. or (braces o (field is Regular x (with (codes "a") (int 9) no_field))) (braces o (field is Required not_x no_field))) no_declaration))) ∷ []))
+    (only (definition (codes "P") 0 (or (braces 4 (with (codes "m") (string 8) (field is Regular x (with (codes "a") (int 9) no_field)))) (braces 4 (with (codes "m") (string 8) (field is Required not_x no_field)))) ∷ []))
+unfolding can_be_embedded joins_well alternatives clashes_value joined_value
+asked_in_alternatives = record { flawless = refl; apart = refl; joined = refl }
+
+-- `#P: {x?: {a: int}, x?: {...}}` for itself, where a condition asks for the second: it is put together with no other
+asked_stays : let files = only (definition (codes "P") 0 (braces 4 (field (label (codes "x")) Optional (one (codes "a") 8) (field (asked (codes "x")) Optional (ellipsis 20 no_field) no_field))) ∷ []) in IsJoined files files
+unfolding can_be_embedded joins_well alternatives clashes_value joined_value
+asked_stays = record { flawless = refl; apart = refl; joined = refl }
+
 -- ---- why files are refused
+
+-- `#P: {a?: int, if a != _|_ {b: int}}`: the `if`, as files come here without these
+under_a_condition : flaws_of_files (only (definition (codes "P") 0 (literal 4 (declared (label (codes "a")) Optional (int 9) (conditional 14 (record { label = codes "a"; at = 17; test = present; is_met = true } ∷ []) (one (codes "b") 26) no_declaration))) ∷ [])) ≡ (0, no_struct 14) ∷ []
+unfolding can_be_embedded joins_well
+under_a_condition = refl
 
 -- `#P: {#P, a: int}`: what is embedded
 embeds_itself : flaws_of_files (only (definition (codes "P") 0 (literal 4 (puts 5 (refers (codes "P")) (has (codes "a") (int 12) no_declaration))) ∷ [])) ≡ (0, no_struct 5) ∷ []
@@ -224,6 +247,11 @@ embeds_itself_below = refl
 would_be_opened : clashes_of_files (only (definition (codes "X") 0 (one (codes "a") 4) ∷ definition (codes "B") 0 (braces 4 (with (codes "x") (refers (codes "X") 8) no_field)) ∷ definition (codes "P") 0 (literal 24 (puts 25 (refers (codes "B")) (has (codes "x") (ellipsis 32 (with (codes "b") (int 36) no_field)) no_declaration))) ∷ [])) ≡ (0, 32) ∷ []
 unfolding alternatives clashes_value
 would_be_opened = refl
+
+-- `#X: {a: int}`, `#B: {x: #X}` and `#P: {#B, x?: {...}}`, where a condition asks for the second x: nothing, as it opens nothing
+asked_opens_nothing : clashes_of_files (only (definition (codes "X") 0 (one (codes "a") 4) ∷ definition (codes "B") 0 (braces 4 (with (codes "x") (refers (codes "X") 8) no_field)) ∷ definition (codes "P") 0 (literal 24 (puts 25 (refers (codes "B")) (declared (asked (codes "x")) Optional (ellipsis 32 no_field) no_declaration))) ∷ [])) ≡ []
+unfolding alternatives clashes_value
+asked_opens_nothing = refl
 
 -- `#B: {x: #X}`, `#C: {x: #Y}` and `#P: {#B, #C}`: the reference that brings the second one
 another_reference : clashes_of_files (only (definition (codes "X") 0 (one (codes "a") 4) ∷ definition (codes "Y") 0 (one (codes "b") 4) ∷ definition (codes "B") 0 (braces 4 (with (codes "x") (refers (codes "X") 8) no_field)) ∷ definition (codes "C") 0 (braces 4 (with (codes "x") (refers (codes "Y") 8) no_field)) ∷ definition (codes "P") 0 (literal 24 (puts 25 (refers (codes "B")) (puts 29 (refers (codes "C")) no_declaration))) ∷ [])) ≡ (0, 29) ∷ []

@@ -6,7 +6,7 @@ use Rattle.std.specs.Prelude.{◌==◌}
 use Rattle.std.specs.Borrow.{Bor}
 use Rattle.std.specs.List.{list_all}
 use Rattle.cs_grammar.specs.Tree.{Tree}
-use Rattle.cs_grammar.specs.View.{expr_view, exprs_view, fields_view, SeenDeclaration, field_seen, embedding_seen, declaration_view, declarations_view, declarations_of}
+use Rattle.cs_grammar.specs.View.{expr_view, exprs_view, fields_view, SeenDeclaration, field_seen, embedding_seen, conditional_seen, declaration_view, declarations_view, declarations_of}
 use Rattle.cs_grammar.specs.declared.ast.Declaration.{Declaration}
 use Rattle.cs_grammar.specs.declared.ast.Expr.{Expr}
 use Rattle.cs_grammar.specs.declared.ast.Field.{Field}
@@ -56,10 +56,12 @@ module _ (inner : Tree → Bool) where
   abbrev pub seen_well : SeenDeclaration → Bool
   seen_well (field_seen f) = embeds_well inner f.value
   seen_well (embedding_seen o e) = inner e
+  seen_well (conditional_seen o qs e) = false
 
   seen_parts : (d : SeenDeclaration) (ds : List SeenDeclaration) → declarations_embed_well inner (declarations_of (d ∷ ds)) ≡ (seen_well d && declarations_embed_well inner (declarations_of ds))
   seen_parts (field_seen f) ds = refl
   seen_parts (embedding_seen o e) ds = refl
+  seen_parts (conditional_seen o qs e) ds = refl
 
   abbrev pub declaration_well : Declaration → Bool
   declaration_well d = seen_well (declaration_view d)

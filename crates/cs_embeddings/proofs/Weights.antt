@@ -4,7 +4,7 @@ use Rattle.std.proofs.Common.{◌≡◌, ℕ, zero, suc, ◌+◌, ◌≤◌, Boo
 use Rattle.std.proofs.lemmas.Bool.{and_parts, both_ways, cond_both}
 use Rattle.std.proofs.lemmas.List.{length_push}
 use Rattle.std.specs.List.{flat_map, list_all}
-use Rattle.cs_grammar.specs.Tree.{Tree, atom, named, reference, conjunction, disjunction, paren, struct, list, wide, marked, merged, shut, Declarations, no_declaration, declared, embedded, Trees, none, more, Fields, no_field, field, DefinitionTree}
+use Rattle.cs_grammar.specs.Tree.{Tree, atom, named, reference, conjunction, disjunction, paren, struct, list, wide, marked, merged, shut, Declarations, no_declaration, declared, embedded, conditional, Trees, none, more, Fields, no_field, field, DefinitionTree}
 use Rattle.cs_grammar.specs.Bodies.{bodies}
 use Rattle.cs_embeddings.specs.Alternatives.{Origin, Alternative, with_declaration, with_fields, opened_if, meets, meet, embedded_at, referred_at, join_declarations, join_bodies, join_operands, join_all, join_definition, alternatives}
 use Rattle.cs_embeddings.specs.Embedded.{has_operand, all_embedded, embeds_well, declarations_embed_well, can_be_embedded}
@@ -80,6 +80,7 @@ module _ (can : Tree → Bool) (inner : Origin → Tree → Alternative → List
       let here = flat_grows (inner (embedded_at p o) e) (grows (embedded_at p o) e w.0) xs in
       let rest = declarations_grow p cs w.1 (flat_map (inner (embedded_at p o) e) xs) in
       omega arith
+  declarations_grow p (conditional o qs e cs) h xs = absurd (both_ways false refl h)
 
   pub bodies_grow : (p : Origin) (es : List Tree) → list_all can es ≡ true → (xs : List Alternative) → weight_of xs ≤ weight_of (join_bodies inner p es xs)
   bodies_grow p [] h xs = omega arith

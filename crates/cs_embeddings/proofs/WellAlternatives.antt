@@ -3,7 +3,7 @@ use Rattle.std.proofs.Common.{◌≡◌, ℕ, zero, suc, ◌≤◌, Bool, true, 
 use Rattle.std.proofs.lemmas.Bool.{and_parts, both_ways, cond_both}
 use Rattle.std.specs.List.{flat_map, list_all, AllByRecursion}
 use Rattle.cs_grammar.specs.declared.ast.FieldMark.{FieldMark}
-use Rattle.cs_grammar.specs.Tree.{Label, Tree, atom, named, reference, conjunction, disjunction, paren, struct, list, wide, marked, merged, shut, Declarations, no_declaration, declared, embedded, Trees, none, more, Fields, no_field, field, DefinitionTree}
+use Rattle.cs_grammar.specs.Tree.{Label, Tree, atom, named, reference, conjunction, disjunction, paren, struct, list, wide, marked, merged, shut, Declarations, no_declaration, declared, embedded, conditional, Trees, none, more, Fields, no_field, field, DefinitionTree}
 use Rattle.cs_grammar.specs.Bodies.{bodies}
 use Rattle.cs_embeddings.specs.Alternatives.{Origin, Alternative, nothing, with_declaration, with_fields, opened_if, meets, meet, itself, embedded_at, referred_at, join_declarations, join_bodies, join_operands, join_all, join_definition, alternatives, alternatives_of, most_steps}
 use Rattle.cs_embeddings.specs.Embedded.{has_operand, all_embedded, embeds_well, fields_embed_well, declarations_embed_well, can_be_embedded}
@@ -59,6 +59,7 @@ module _ (Good : Tree → Type 0) where
         let w = and_parts (can e) (declarations_embed_well can cs) h in
         let q = embedded_at p o in
         good_declarations p cs w.1 (flat_map (inner q e) xs) (all-flat_map HasGood HasGood (inner q e) (joins q e w.0) xs k)
+    good_declarations p (conditional o qs e cs) h xs k = absurd (both_ways false refl h)
 
     good_bodies : (p : Origin) (es : List Tree) → list_all can es ≡ true → (xs : List Alternative) → HaveGood xs → HaveGood (join_bodies inner p es xs)
     good_bodies p [] h xs k = k

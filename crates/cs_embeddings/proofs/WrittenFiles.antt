@@ -6,7 +6,7 @@ use Rattle.std.specs.Str.{bytes_eq}
 use Rattle.cs_grammar.specs.declared.ast.FieldMark.{FieldMark}
 use Rattle.cs_grammar.specs.declared.ast.FieldMark.TheVariants.{Regular, Optional, Required, Every}
 use Rattle.cs_grammar.specs.Limits.{most_height}
-use Rattle.cs_grammar.specs.Tree.{Label, Tree, atom, named, reference, conjunction, disjunction, paren, struct, list, wide, marked, merged, shut, Declarations, no_declaration, declared, embedded, Trees, none, more, Fields, no_field, field, End, closed, any, each, DefinitionTree, definition, defined_name, body, FileTree, file}
+use Rattle.cs_grammar.specs.Tree.{Label, Tree, atom, named, reference, conjunction, disjunction, paren, struct, list, wide, marked, merged, shut, Declarations, no_declaration, declared, embedded, conditional, Trees, none, more, Fields, no_field, field, End, closed, any, each, DefinitionTree, definition, defined_name, body, FileTree, file}
 use Rattle.cs_grammar.specs.Bodies.{bodies}
 use Rattle.cs_grammar.specs.Written.{Place, by_itself, of_bar, of_amp, IsWritten, AreWritten, AreWrittenFields, AreWrittenDeclarations, IsWrittenEnd, IsWrittenLabel, AreTwo, IsWrittenDefinition, IsWrittenFile}
 use Rattle.cs_embeddings.proofs.GatheredParts.{IsWrittenBrought, IsStanding, CanStand, gathered_standing, IsDefined, CanBeDefined, one_defined}
@@ -50,6 +50,7 @@ module _ (inner : Origin → Tree → Alternative → List Alternative)
   declarations_written p (embedded o e cs) h xs k =
       let r = embedded_at p o in
       declarations_written p cs h.1 (flat_map (inner r e) xs) (all-flat_map HasWritten HasWritten (inner r e) (joins r by_itself e h.0) xs k)
+  declarations_written p (conditional o qs e cs) h xs k = declarations_written p cs h.2 xs k
 
   bodies_written : (p : Origin) (es : List Tree) → AllByRecursion (IsWritten by_itself) es → (xs : List Alternative) → HaveWritten xs
       → HaveWritten (join_bodies inner p es xs)

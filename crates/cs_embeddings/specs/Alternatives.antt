@@ -5,7 +5,7 @@ use Rattle.std.specs.Prelude.{ℕ, zero, suc, Bool, true, false, ◌||◌, List,
 use Rattle.std.specs.List.{flat_map, list_any}
 use Rattle.std.specs.Str.{bytes_eq}
 use Rattle.cs_grammar.specs.declared.ast.FieldMark.{FieldMark}
-use Rattle.cs_grammar.specs.Tree.{Label, Tree, atom, named, reference, conjunction, disjunction, paren, struct, list, wide, marked, merged, shut, Declarations, no_declaration, declared, embedded, Trees, none, more, Fields, no_field, field, DefinitionTree}
+use Rattle.cs_grammar.specs.Tree.{Label, Tree, atom, named, reference, conjunction, disjunction, paren, struct, list, wide, marked, merged, shut, Declarations, no_declaration, declared, embedded, conditional, Trees, none, more, Fields, no_field, field, DefinitionTree}
 use Rattle.cs_grammar.specs.Bodies.{bodies}
 
 -- where declarations come from: the place of the reference that brought them, and the offset of the embedding; none where the literal itself declares
@@ -72,6 +72,8 @@ module _ (inner : Origin → Tree → Alternative → List Alternative) where
   join_declarations p no_declaration xs = xs
   join_declarations p (declared l m e ds) xs = join_declarations p ds (map (with_declaration p l m e) xs)
   join_declarations p (embedded o e ds) xs = join_declarations p ds (flat_map (inner (embedded_at p o) e) xs)
+  -- never asked for: a literal with conditions is at fault, as files come here without these
+  join_declarations p (conditional o cs e ds) xs = join_declarations p ds xs
 
   -- one body behind the other
   abbrev pub join_bodies : Origin → List Tree → List Alternative → List Alternative

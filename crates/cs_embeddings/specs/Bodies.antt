@@ -4,7 +4,7 @@ use Rattle.std.specs.Prelude.{ℕ, suc, false, ◌&&◌, not, List, [], ◌∷�
 use Rattle.std.specs.List.{flat_map}
 use Rattle.cs_grammar.specs.declared.ast.FieldMark.TheVariants.{Regular}
 use Rattle.cs_grammar.specs.Limits.{most_height}
-use Rattle.cs_grammar.specs.Tree.{DefinitionTree, definition, FileTree, file, package_name, definitions}
+use Rattle.cs_grammar.specs.Tree.{written_label, DefinitionTree, definition, FileTree, file, package_name, definitions}
 use Rattle.cs_embeddings.specs.Alternatives.{Brought}
 use Rattle.cs_embeddings.specs.Clashes.{clashes_value}
 use Rattle.cs_embeddings.specs.Gathered.{those_of, is_gathered, gathered_at}
@@ -12,7 +12,7 @@ use Rattle.cs_embeddings.specs.Joined.{joined_value}
 
 -- a definition as a declaration of its name, where it is
 abbrev pub as_declared : DefinitionTree → Brought
-as_declared (definition s o e) = record { label = record { text = s; quotes = false }; mark = Regular; value = e; place = Some o; embedding = None }
+as_declared (definition s o e) = record { label = written_label s false; mark = Regular; value = e; place = Some o; embedding = None }
 
 -- a declaration of a name that is left, and the place of its parts
 pub record Body : Type 0 where

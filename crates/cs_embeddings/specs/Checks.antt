@@ -1,5 +1,5 @@
 -- What the checks of embeddings answer, and what the tables tell.
-use Rattle.std.specs.Prelude.{◌≡◌, ℕ, zero, suc, ◌<◌, ◌≤◌, Bool, true, false, not, if◌then◌else◌, nat_le, List, [], ◌++◌, map, Option, Some, None, Result, Ok, Err, slice_get}
+use Rattle.std.specs.Prelude.{◌≡◌, ℕ, zero, suc, ◌<◌, ◌≤◌, Bool, true, false, not, if◌then◌else◌, nat_le, List, [], ◌∷◌, ◌++◌, map, Option, Some, None, Result, Ok, Err, slice_get}
 use Rattle.std.specs.List.{list_any, AllByRecursion}
 use Rattle.std.specs.Str.{bytes_eq}
 use Rattle.std.specs.declared.alloc.Global.{Global}
@@ -11,7 +11,7 @@ use Rattle.std.specs.Ordering.{nat_cmp}
 use Rattle.cs_grammar.specs.declared.ast.Expr.{Expr}
 use Rattle.cs_grammar.specs.Tree.{Tree, reference, DefinitionTree, body}
 use Rattle.cs_grammar.specs.Bodies.{bodies}
-use Rattle.cs_grammar.specs.View.{expr_view, SeenDeclaration, field_seen, embedding_seen}
+use Rattle.cs_grammar.specs.View.{expr_view, SeenDeclaration, field_seen, embedding_seen, conditional_seen}
 use Rattle.cs_embeddings.specs.Alternatives.{Alternative, most_steps}
 use Rattle.cs_embeddings.specs.Embedded.{can_be_embedded, embeds_well}
 use Rattle.cs_embeddings.specs.Flaws.{Flaw, unknown, no_struct, is_none, flaws, flaws_here}
@@ -87,6 +87,7 @@ flaw_view variants.OutOfMemory = None
 abbrev pub flaws_seen : List DefinitionTree → SeenDeclaration → List Flaw
 flaws_seen ds (field_seen f) = flaws ds f.value
 flaws_seen ds (embedding_seen o e) = flaws_here ds o e ++ flaws ds e
+flaws_seen ds (conditional_seen o cs e) = no_struct o ∷ []
 
 -- the table of what can be embedded tells these, and has the bodies of each
 pub record TellsTables (e : Embeddable) (ds : List DefinitionTree) : Type 0 where

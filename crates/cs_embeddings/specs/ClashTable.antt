@@ -1,5 +1,5 @@
 -- What the code remembers of the declarations so far that aren't plain; for private contracts alone.
-use Rattle.std.specs.Prelude.{◌≡◌, ℕ, Bool, true, false, ◌&&◌, ◌||◌, not, List, [], Option, Some, None}
+use Rattle.std.specs.Prelude.{◌≡◌, ℕ, Bool, true, false, ◌&&◌, ◌||◌, not, if◌then◌else◌, List, [], Option, Some, None}
 use Rattle.std.specs.List.{filter, list_any}
 use Rattle.std.specs.Str.{bytes_eq}
 use Rattle.std.specs.BTreeMap.{get_by}
@@ -10,6 +10,7 @@ use Rattle.cs_grammar.specs.View.{expr_view}
 use Rattle.cs_embeddings.specs.Alternatives.{Brought}
 use Rattle.cs_embeddings.specs.Clashes.{is_same_reference, is_same_embedding, are_apart, may_open}
 use Rattle.cs_embeddings.specs.Gathered.{is_every}
+use Rattle.cs_embeddings.specs.Held.{holds}
 use Rattle.cs_embeddings.specs.Views.{brought_view}
 use Rattle.cs_embeddings.specs.declared.alternatives.Brought as brought
 use Rattle.cs_embeddings.specs.declared.clashes.Seen.{Seen}
@@ -44,6 +45,10 @@ is_of_label s d = bytes_eq d.label.text s
 
 abbrev pub is_of_every : Brought → Bool
 is_of_every d = is_every d.mark
+
+-- where a declaration holds a struct literal or a reference, unless a condition made it
+abbrev pub held_at : Brought → Option ℕ
+held_at d = if d.label.asked then None else holds d.value
 
 -- what is remembered of values says which others aren't the same reference as one of them
 abbrev pub differ_of : Values → Tree → Bool

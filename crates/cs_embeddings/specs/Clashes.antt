@@ -1,14 +1,14 @@
 -- What an embedding would open (own rule): in a literal with embeddings two values of a label hold a struct literal or a reference, one of them was brought
 -- by an embedding and holds something that is shut, and the other comes from elsewhere and isn't the same reference; a value of `[string]` is one of each
--- label. CUE opens there what is closed.
+-- label, and one that a condition asks for is none. CUE opens there what is closed.
 use Rattle.std.specs.Prelude.{ℕ, zero, suc, Bool, true, false, ◌&&◌, ◌||◌, not, List, [], ◌∷◌, ◌++◌, if◌then◌else◌, Option, Some, None, is_some, nat_eq}
 use Rattle.std.specs.List.{list_any, flat_map}
 use Rattle.std.specs.Str.{bytes_eq}
 use Rattle.cs_grammar.specs.Tree.{Tree, atom, named, reference, conjunction, disjunction, paren, struct, list, wide, marked, merged, shut, Trees, none, more, End, closed, any, each, DefinitionTree}
-use Rattle.cs_resolve.specs.Refinement.{referred}
+use Rattle.cs_grammar.specs.Referred.{referred}
 use Rattle.cs_embeddings.specs.Alternatives.{Brought, Alternative, at, alternatives_of}
-use Rattle.cs_embeddings.specs.Gathered.{is_every, gathered}
-use Rattle.cs_embeddings.specs.Held.{holds, is_plain, holding}
+use Rattle.cs_embeddings.specs.Gathered.{is_every, is_asked_or_plain, gathered}
+use Rattle.cs_embeddings.specs.Held.{holds, holding}
 use Rattle.cs_embeddings.specs.Joined.{own}
 use Rattle.cs_embeddings.specs.Shut.{is_shut}
 use Rattle.cs_embeddings.specs.United.{unites, united}
@@ -41,10 +41,10 @@ may_open d = is_some d.embedding && is_shut true d.value
 abbrev pub differ : Brought → Brought → Bool
 differ c d = (is_every c.mark || (is_every d.mark || bytes_eq c.label.text d.label.text)) && ((may_open c || may_open d) && are_apart c d)
 
--- the declarations that aren't plain
+-- the declarations that aren't plain, but for those that conditions made, which open nothing
 abbrev pub held : List Brought → List Brought
 held [] = []
-held (d ∷ ds) = if is_plain d.value then held ds else d ∷ held ds
+held (d ∷ ds) = if is_asked_or_plain d then held ds else d ∷ held ds
 
 -- where it is, or the place of the reference that brought it
 abbrev pub place_in : Option ℕ → Option ℕ → List ℕ

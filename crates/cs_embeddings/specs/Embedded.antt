@@ -1,7 +1,7 @@
 -- Which expressions can be embedded (own rule): what literals are put together to, and neither a kind nor a definition that embeds itself.
 use Rattle.std.specs.Prelude.{ℕ, zero, suc, Bool, true, false, ◌&&◌, List}
 use Rattle.std.specs.List.{list_all}
-use Rattle.cs_grammar.specs.Tree.{Tree, atom, named, reference, conjunction, disjunction, paren, struct, list, wide, marked, merged, shut, Declarations, no_declaration, declared, embedded, Trees, none, more, Fields, no_field, field, End, closed, any, each, DefinitionTree}
+use Rattle.cs_grammar.specs.Tree.{Tree, atom, named, reference, conjunction, disjunction, paren, struct, list, wide, marked, merged, shut, Declarations, no_declaration, declared, embedded, conditional, Trees, none, more, Fields, no_field, field, End, closed, any, each, DefinitionTree}
 use Rattle.cs_grammar.specs.Bodies.{bodies}
 
 -- whether there is one
@@ -42,6 +42,8 @@ module _ (inner : Tree → Bool) where
     declarations_embed_well no_declaration = true
     declarations_embed_well (declared l m e cs) = embeds_well e && declarations_embed_well cs
     declarations_embed_well (embedded o e cs) = inner e && declarations_embed_well cs
+    -- files come here without conditions
+    declarations_embed_well (conditional o qs e cs) = false
 
     pub end_embeds_well : End → Bool
     end_embeds_well closed = true

@@ -1,6 +1,7 @@
--- What of the embeddings is at fault, in order of the text: a name that isn't declared, and an expression that can't be embedded, or joins what can't be.
+-- What of the embeddings is at fault, in order of the text: a name that isn't declared, and an expression that can't be embedded, or joins what can't be;
+-- a literal under conditions is one of them, as files come here without these.
 use Rattle.std.specs.Prelude.{ℕ, Bool, true, false, ◌&&◌, List, [], ◌∷◌, ◌++◌, map, if◌then◌else◌}
-use Rattle.cs_grammar.specs.Tree.{Tree, atom, named, reference, conjunction, disjunction, paren, struct, list, wide, marked, merged, shut, Declarations, no_declaration, declared, embedded, Trees, none, more, Fields, no_field, field, End, closed, any, each, DefinitionTree}
+use Rattle.cs_grammar.specs.Tree.{Tree, atom, named, reference, conjunction, disjunction, paren, struct, list, wide, marked, merged, shut, Declarations, no_declaration, declared, embedded, conditional, Trees, none, more, Fields, no_field, field, End, closed, any, each, DefinitionTree}
 use Rattle.cs_grammar.specs.Bodies.{bodies}
 use Rattle.cs_embeddings.specs.Alternatives.{most_steps}
 use Rattle.cs_embeddings.specs.Embedded.{can_be_embedded}
@@ -62,6 +63,7 @@ module _ (ds : List DefinitionTree) where
     flaws_declarations no_declaration = []
     flaws_declarations (declared l m e cs) = flaws e ++ flaws_declarations cs
     flaws_declarations (embedded o e cs) = flaws_here o e ++ (flaws e ++ flaws_declarations cs)
+    flaws_declarations (conditional o qs e cs) = no_struct o ∷ flaws_declarations cs
 
     pub flaws_end : End → List Flaw
     flaws_end closed = []

@@ -1,12 +1,12 @@
 -- Which declarations of a literal are put together (CUE, structs: what is declared several times has all its values; where it is done is an own
--- rule): those of one label whose values `&` would put together, but for the plain ones, which stay. One is left of the others, at the place of the
--- first.
+-- rule): those of one label whose values `&` would put together, but for the plain ones and those that conditions made, which stay. One is left of the
+-- others, at the place of the first.
 use Rattle.std.specs.Prelude.{ℕ, Bool, true, false, ◌&&◌, ◌||◌, not, List, [], ◌∷◌, ◌++◌, length, filter, nat_le, if◌then◌else◌, Option, None}
 use Rattle.std.specs.List.{list_all, list_any}
 use Rattle.std.specs.Str.{bytes_eq}
 use Rattle.cs_grammar.specs.declared.ast.FieldMark.{FieldMark}
 use Rattle.cs_grammar.specs.declared.ast.FieldMark.TheVariants.{Regular, Optional, Required, Every}
-use Rattle.cs_grammar.specs.Tree.{Trees, none, more, conjunction, DefinitionTree}
+use Rattle.cs_grammar.specs.Tree.{written_label, Trees, none, more, conjunction, DefinitionTree}
 use Rattle.cs_embeddings.specs.Alternatives.{Brought}
 use Rattle.cs_embeddings.specs.Held.{or_else, is_plain}
 use Rattle.cs_embeddings.specs.United.{unites}
@@ -17,9 +17,13 @@ is_every Optional = false
 is_every Required = false
 is_every (Every o) = true
 
--- `[string]`, and a declaration with a plain value, is put together with no other
+-- a condition asks for its field, or its value is plain
+abbrev pub is_asked_or_plain : Brought → Bool
+is_asked_or_plain d = d.label.asked || is_plain d.value
+
+-- `[string]`, a declaration that a condition made, and one with a plain value, is put together with no other
 abbrev pub stays_alone : Brought → Bool
-stays_alone d = is_every d.mark || is_plain d.value
+stays_alone d = is_every d.mark || is_asked_or_plain d
 
 -- one of the label that may be
 abbrev pub is_of : List ℕ → Brought → Bool
@@ -60,9 +64,9 @@ abbrev pub place_of : List Brought → Option ℕ
 place_of [] = None
 place_of (d ∷ bs) = or_else d.place (place_of bs)
 
--- the declaration that is left of those of a label: it has all their values, and its label is in quotes where all are
+-- the declaration that is left of those of a label: it has all their values, its label is in quotes where all are, and authors wrote it
 abbrev pub together : List ℕ → List Brought → Brought
-together s bs = record { label = record { text = s; quotes = list_all (λ d. d.label.quotes) bs }; mark = mark_of bs; value = conjunction (values_of bs); place = place_of bs; embedding = None }
+together s bs = record { label = written_label s (list_all (λ d. d.label.quotes) bs); mark = mark_of bs; value = conjunction (values_of bs); place = place_of bs; embedding = None }
 
 -- of a declaration, with those before it, that stands in `all`
 abbrev pub gathered_at : List DefinitionTree → List Brought → List Brought → Brought → List Brought

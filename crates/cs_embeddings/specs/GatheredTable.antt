@@ -8,7 +8,7 @@ use Rattle.std.specs.declared.alloc.AllocError.{AllocError}
 use Rattle.std.specs.BTreeMap.{get_by}
 use Rattle.std.specs.Cmp.Lexicographic.{slice_cmp}
 use Rattle.std.specs.Ordering.{nat_cmp}
-use Rattle.cs_grammar.specs.Tree.{conjunction, DefinitionTree}
+use Rattle.cs_grammar.specs.Tree.{written_label, conjunction, DefinitionTree}
 use Rattle.cs_grammar.specs.View.{expr_view, trees_of}
 use Rattle.cs_embeddings.specs.Alternatives.{Brought}
 use Rattle.cs_embeddings.specs.Bodies.{Body, Left, as_declared, bodies_behind}
@@ -27,7 +27,7 @@ use Rattle.cs_embeddings.specs.declared.kept.KeptFile.{KeptFile}
 
 abbrev pub declared_view : Declared → Brought
 declared_view d =
-    record { label = record { text = d.label.now; quotes = d.quoted }; mark = d.mark; value = expr_view d.value.now; place = d.place; embedding = d.embedding }
+    record { label = record { text = d.label.now; quotes = d.quoted; asked = d.asked }; mark = d.mark; value = expr_view d.value.now; place = d.place; embedding = d.embedding }
 
 -- these are all declarations of the label
 pub record IsTogether (t : Together) (s : List ℕ) (bs : List Brought) : Type 0 where
@@ -41,7 +41,7 @@ pub record IsTogether (t : Together) (s : List ℕ) (bs : List Brought) : Type 0
 -- a declaration, or the one that is left of several
 abbrev pub together_view : Together → Brought
 together_view t =
-    record { label = record { text = t.label.now; quotes = t.quoted }; mark = t.mark; value = conjunction (trees_of (bodies_view t.values.items)); place = t.place; embedding = None }
+    record { label = written_label t.label.now t.quoted; mark = t.mark; value = conjunction (trees_of (bodies_view t.values.items)); place = t.place; embedding = None }
 
 abbrev pub gathered_view : Gathered → Brought
 gathered_view (One d) = declared_view d

@@ -1,5 +1,5 @@
 -- What is made of expressions, and why it isn't made; for private contracts alone.
-use Rattle.std.specs.Prelude.{◌≡◌, ℕ, suc, ◌+◌, ◌<◌, ◌≤◌, true, List, [], map, Option, Some, Result, Ok, Err, slice_get}
+use Rattle.std.specs.Prelude.{◌≡◌, ℕ, suc, ◌+◌, ◌<◌, ◌≤◌, Bool, true, List, [], map, Option, Some, Result, Ok, Err, slice_get}
 use Rattle.std.specs.List.{AllByRecursion, flat_map}
 use Rattle.std.specs.declared.alloc.Global.{Global}
 use Rattle.std.specs.declared.vec.Vec.{Vec}
@@ -8,7 +8,7 @@ use Rattle.cs_grammar.specs.declared.ast.Expr.{Expr}
 use Rattle.cs_grammar.specs.declared.ast.File.{File}
 use Rattle.cs_grammar.specs.Height.{height, height_definitions, file_height}
 use Rattle.cs_grammar.specs.Limits.{most_height, most_nodes}
-use Rattle.cs_grammar.specs.Tree.{Tree, wide, marked, DefinitionTree, FileTree}
+use Rattle.cs_grammar.specs.Tree.{Label, Tree, wide, marked, DefinitionTree, FileTree}
 use Rattle.cs_grammar.specs.View.{expr_view, definition_view, file_view, Seen}
 use Rattle.cs_embeddings.specs.Alternatives.{Brought, Alternative, at, most_steps}
 use Rattle.cs_embeddings.specs.Bodies.{Body, Left, joined_body, joined_left, body_clashes}
@@ -69,6 +69,10 @@ GoesInside (Ok inside) file room nodes rest = IsBelow room inside × (suc rest �
 GoesInside (Err e) file room nodes rest = (high large : ℕ) (clashes : List ℕ) → IsNoRoom e file room.levels nodes (suc high) (1 + large) clashes
 
 -- ---- fields and alternatives
+
+-- a label, whether it is in quotes, and whether a condition asks for its field
+abbrev pub label_with : List ℕ → Bool → Bool → Label
+label_with s q a = record { text = s; quotes = q; asked = a }
 
 -- a field, with its mark as it is placed, and with another value
 abbrev pub with_value : Option ℕ → (Tree → Tree) → Seen → Seen

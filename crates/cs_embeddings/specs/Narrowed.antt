@@ -4,7 +4,7 @@ use Rattle.std.specs.Prelude.{ℕ, zero, suc, Bool, true, false, ◌&&◌, ◌||
 use Rattle.std.specs.List.{list_all, list_any}
 use Rattle.std.specs.Str.{bytes_eq}
 use Rattle.cs_grammar.specs.declared.ast.FieldMark.{FieldMark}
-use Rattle.cs_grammar.specs.Tree.{Label, Tree, atom, named, reference, conjunction, disjunction, paren, struct, list, wide, marked, merged, shut, Declarations, no_declaration, declared, embedded, Trees, none, more, Fields, no_field, field, DefinitionTree}
+use Rattle.cs_grammar.specs.Tree.{Label, Tree, atom, named, reference, conjunction, disjunction, paren, struct, list, wide, marked, merged, shut, Declarations, no_declaration, declared, embedded, conditional, Trees, none, more, Fields, no_field, field, DefinitionTree}
 use Rattle.cs_grammar.specs.Bodies.{bodies}
 use Rattle.cs_embeddings.specs.Embedded.{all_embedded}
 use Rattle.cs_embeddings.specs.Gathered.{is_every}
@@ -31,6 +31,8 @@ module _ (inner : Tree → Bool) where
   has_declaration s no_declaration = false
   has_declaration s (declared l m e cs) = is_labelled s l m || has_declaration s cs
   has_declaration s (embedded o e cs) = inner e || has_declaration s cs
+  -- never asked for: a literal with conditions is at fault
+  has_declaration s (conditional o qs e cs) = has_declaration s cs
 
 -- whether each alternative of an expression that can be embedded in so many steps declares the label s
 unfoldable pub declares : List DefinitionTree → ℕ → List ℕ → Tree → Bool
@@ -82,6 +84,7 @@ module _ (has : List ℕ → Bool) where
     declarations_narrow no_declaration = true
     declarations_narrow (declared l m e cs) = narrows_field l m e && declarations_narrow cs
     declarations_narrow (embedded o e cs) = narrows e && declarations_narrow cs
+    declarations_narrow (conditional o qs e cs) = false
 
   -- each operand but the first that is shut
   abbrev pub others_narrow : Trees → Bool

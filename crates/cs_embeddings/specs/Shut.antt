@@ -1,6 +1,6 @@
 -- What is closed before anything is joined to it (own rule, from CUE, definitions and closed structs), and which literals need no joining.
 use Rattle.std.specs.Prelude.{Bool, true, false, ◌&&◌, ◌||◌}
-use Rattle.cs_grammar.specs.Tree.{Tree, atom, named, reference, conjunction, disjunction, paren, struct, list, wide, marked, merged, shut, Declarations, no_declaration, declared, embedded, Trees, none, more, Fields, no_field, field, End, closed, any, each}
+use Rattle.cs_grammar.specs.Tree.{Tree, atom, named, reference, conjunction, disjunction, paren, struct, list, wide, marked, merged, shut, Declarations, no_declaration, declared, embedded, conditional, Trees, none, more, Fields, no_field, field, End, closed, any, each}
 
 -- a reference and `close(..)` are shut, and what holds one; `deep` says whether the values that a literal declares are looked at too. Those of a literal that is
 -- embedded are, since what is joined beside it would open them
@@ -30,6 +30,8 @@ abbrev mutual
   declarations_shut deep no_declaration = false
   declarations_shut deep (declared l m e cs) = (deep && is_shut deep e) || declarations_shut deep cs
   declarations_shut deep (embedded o e cs) = is_shut true e || declarations_shut deep cs
+  -- never asked for: a literal with conditions is at fault
+  declarations_shut deep (conditional o qs e cs) = declarations_shut deep cs
 
   pub end_shut : Bool → End → Bool
   end_shut deep closed = false

@@ -3,7 +3,7 @@ ghost use Rattle.std.specs.Prelude.{◌≡◌, ℕ, List, [], ◌∷◌, ◌++�
 ghost use Rattle.std.specs.List.{filter, list_any};
 ghost use Rattle.cs_grammar.specs.View.{expr_view};
 ghost use Rattle.cs_embeddings.specs.Alternatives as Alternatives;
-ghost use Rattle.cs_embeddings.specs.ClashTable.{TellsEmbeddings, TellsGroup, TellsGroups, TellsSeen, TellsValues, is_of_label, is_elsewhere, is_of_every, is_unlike, opens};
+ghost use Rattle.cs_embeddings.specs.ClashTable.{TellsEmbeddings, TellsGroup, TellsGroups, TellsSeen, TellsValues, held_at, is_of_label, is_elsewhere, is_of_every, is_unlike, opens};
 ghost use Rattle.cs_embeddings.specs.Views.{brought_view};
 ghost use Rattle.cs_embeddings.specs.Clashes as Spec;
 ghost use Rattle.cs_embeddings.specs.Gathered.{is_every};
@@ -11,8 +11,7 @@ ghost use Rattle.cs_embeddings.specs.Gathered.{is_every};
 use crate::alternatives::Brought;
 use crate::held::holds;
 use crate::shut::is_shut;
-use cs_grammar::{Expr, FieldMark};
-use cs_resolve::referred;
+use cs_grammar::{Expr, FieldMark, referred};
 use std::alloc::{AllocError, Global};
 use std::collections::BTreeMap;
 
@@ -31,6 +30,16 @@ fn is_same_embedding(first: Option<usize>, second: Option<usize>) -> bool
     ensures { result ≡ Spec.is_same_embedding first second }
 {
     first == second
+}
+
+/// The offset of the first struct literal or reference of a declaration; `None` of a plain one, and of one that a condition made.
+fn held_at(brought: Brought<'_>) -> Option<usize>
+    ensures { result ≡ held_at (brought_view brought.entry) }
+{
+    if brought.field.asked {
+        return None;
+    }
+    holds(&brought.field.value)
 }
 
 /// Whether an embedding brought a declaration, and something that is shut stands in it.
@@ -245,7 +254,7 @@ impl<'a> Groups<'a> {
     }
 }
 
-/// The declarations so far that aren't plain.
+/// The declarations so far that aren't plain, but for those that conditions made.
 #[derive(Drop)]
 struct Seen<'a> {
     all: Groups<'a>,
@@ -304,7 +313,7 @@ impl<'a> Seen<'a> {
     }
 }
 
-/// The offset of the first declaration that differs from one before it, where neither is plain; `None` where none does.
+/// The offset of the first declaration that differs from one before it, where neither is plain and authors wrote both; `None` where none does.
 pub(crate) fn first_clash(
     alloc: Global,
     declarations: &[Brought<'_>],
@@ -317,7 +326,7 @@ pub(crate) fn first_clash(
         by_label: BTreeMap::new(alloc),
     };
     for brought in declarations {
-        let Some(at) = holds(&brought.field.value) else {
+        let Some(at) = held_at(*brought) else {
             continue;
         };
         let may_open = may_open(*brought);

@@ -226,6 +226,8 @@ impl<'b, 'a> Embeddable<'b, 'a> {
             let is_well = match declaration {
                 Declaration::Field(field) => self.embeds_well(&field.value, steps),
                 Declaration::Embedded { value, .. } => self.can_embed(value, steps),
+                // Files come here without conditions.
+                Declaration::Conditional { .. } => false,
             };
             if !is_well {
                 return false;

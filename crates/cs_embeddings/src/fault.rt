@@ -11,7 +11,8 @@ pub enum EmbeddingFault {
     OutOfMemory,
     /// The definition that is embedded at the offset isn't declared.
     UnknownName { file: usize, offset: usize },
-    /// What is embedded at the offset isn't put together from literals, or embeds itself.
+    /// What is embedded at the offset isn't put together from literals, or embeds itself; or there is an `if` at the offset, which files here
+    /// come without.
     NoStruct { file: usize, offset: usize },
     /// The value at the offset stands beside another one of its label in a literal with embeddings, and one of them would have to be opened.
     Reopened { file: usize, offset: usize },

@@ -17,7 +17,7 @@ use std::alloc::AllocError;
 pub(crate) enum Flaw {
     /// A definition that is embedded and not declared.
     Unknown { at: usize },
-    /// What is embedded and can't be.
+    /// What is embedded and can't be, or a literal under conditions.
     NoStruct { at: usize },
     /// Memory ran out.
     OutOfMemory,
@@ -108,6 +108,8 @@ impl<'a> Flaws<'_, '_, 'a> {
                 self.check_embedded(*at, value)?;
                 self.check(value)
             }
+            // Files come here without conditions.
+            Declaration::Conditional { at, .. } => Err(Flaw::NoStruct { at: *at }),
         }
     }
 

@@ -44,6 +44,8 @@ pub(crate) struct Declared<'a> {
     pub(crate) label: &'a str,
     /// Whether the label is in quotes.
     pub(crate) quoted: bool,
+    /// Whether a condition asks for it.
+    pub(crate) asked: bool,
     pub(crate) mark: FieldMark,
     pub(crate) value: &'a Expr,
     /// The offset of the reference that brought it, or of the definition that it is.
@@ -64,6 +66,7 @@ impl<'a> Declared<'a> {
         Declared {
             label: brought.field.label.as_str(),
             quoted: brought.field.quoted,
+            asked: brought.field.asked,
             mark: brought.field.mark,
             value: &brought.field.value,
             place: brought.place,
@@ -73,11 +76,11 @@ impl<'a> Declared<'a> {
         }
     }
 
-    /// Whether it is put together with no other: it is `[string]`, or its value is plain.
+    /// Whether it is put together with no other: it is `[string]`, a condition made it, or its value is plain.
     fn stays_alone(self) -> bool
         ensures { result ≡ Spec.stays_alone (declared_view self.entry) }
     {
-        is_every(self.mark) || is_plain(self.value)
+        is_every(self.mark) || self.asked || is_plain(self.value)
     }
 
     /// Where it is declared, with no other.
@@ -97,6 +100,7 @@ impl<'a> Declared<'a> {
         Declared {
             label: definition.name.as_str(),
             quoted: false,
+            asked: false,
             mark: FieldMark::Regular,
             value: &definition.body,
             place: Some(definition.at),
@@ -233,6 +237,16 @@ impl<'a> Gathered<'a> {
         match self {
             Gathered::One(declared) => declared.quoted,
             Gathered::Several(together) => together.quoted,
+        }
+    }
+
+    /// Whether a condition asks for it. Those that are put together were written.
+    pub(crate) fn is_asked(&self) -> bool
+        ensures { result ≡ (gathered_view self.now).label.asked }
+    {
+        match self {
+            Gathered::One(declared) => declared.asked,
+            Gathered::Several(_) => false,
         }
     }
 

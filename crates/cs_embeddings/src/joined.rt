@@ -4,7 +4,7 @@ ghost use Rattle.std.specs.List.{AllByRecursion, flat_map};
 ghost use Rattle.cs_grammar.specs.Height.{height, height_all, height_end};
 ghost use Rattle.cs_grammar.specs.Tree as Tree;
 ghost use Rattle.cs_grammar.specs.Tree.{DefinitionTree, disjunction, list, wide};
-ghost use Rattle.cs_grammar.specs.View.{expr_view, exprs_view, field_view, end_view, wide_view, declarations_view, label_of, trees_of};
+ghost use Rattle.cs_grammar.specs.View.{expr_view, exprs_view, field_view, end_view, wide_view, declarations_view, trees_of};
 ghost use Rattle.cs_embeddings.specs.Checks.{TellsTables, AreWell, bodies_view};
 ghost use Rattle.cs_embeddings.specs.Alternatives.{most_steps, alternatives_of};
 ghost use Rattle.cs_embeddings.specs.Clashes.{clashes_with, clashes_each, clashes_end, clashes_of, clashes_if, clashes_value};
@@ -533,6 +533,7 @@ impl<'b, 'a> Joiner<'b, 'a> {
         Ok(self.field(
             declaration.label(),
             declaration.is_quoted(),
+            declaration.is_asked(),
             mark,
             value,
             site,
@@ -566,17 +567,19 @@ impl<'b, 'a> Joiner<'b, 'a> {
         self,
         label: &str,
         quoted: bool,
+        asked: bool,
         mark: FieldMark,
         value: Expr,
         site: Site,
     ) -> Result<Field, AllocError>
-        ensures seen { IfOk result (λ f. field_view f ≡ record { label = label_of label.now quoted; mark = mark; value = expr_view value }) }
+        ensures seen { IfOk result (λ f. field_view f ≡ record { label = Made.label_with label.now quoted asked; mark = mark; value = expr_view value }) }
         ensures sited { IfOk result (λ f. f.site ≡ site) }
     {
         let label = String::from_str(self.alloc, label)?;
         Ok(Field {
             label,
             quoted,
+            asked,
             mark,
             value,
             site,

@@ -161,6 +161,8 @@ impl<'a> Joining<'_, 'a> {
                 Declaration::Embedded { at, value } => {
                     self.join_each(steps, origin.embedded_at(*at), value, found)?
                 }
+                // Never asked for: a literal with conditions is at fault.
+                Declaration::Conditional { .. } => found,
             };
         }
         Ok(found)

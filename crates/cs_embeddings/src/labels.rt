@@ -127,6 +127,8 @@ impl<'a> Labels<'_, 'a> {
             match declaration {
                 Declaration::Field(field) => add_field(field, row, numbers)?,
                 Declaration::Embedded { value, .. } => self.add(steps, value, row, numbers)?,
+                // Never asked for: a literal with conditions is at fault.
+                Declaration::Conditional { .. } => {}
             }
         }
         Ok(())

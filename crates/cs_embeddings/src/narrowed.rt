@@ -19,8 +19,7 @@ use crate::labels::{Labels, Rows};
 use crate::numbers::Numbers;
 use crate::rows::has;
 use crate::shut::is_shut;
-use cs_grammar::{Declaration, Expr, Field, Wide, atom};
-use cs_resolve::referred;
+use cs_grammar::{Declaration, Expr, Field, Wide, atom, referred};
 use std::alloc::{AllocError, Global};
 use std::collections::BTreeMap;
 
@@ -120,6 +119,8 @@ impl Base<'_, '_> {
             let is_narrow = match declaration {
                 Declaration::Field(field) => self.is_narrowed_by(field),
                 Declaration::Embedded { value, .. } => self.narrows(value),
+                // Never asked for: a literal with conditions is at fault.
+                Declaration::Conditional { .. } => false,
             };
             if !is_narrow {
                 return false;

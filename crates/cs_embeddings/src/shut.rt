@@ -55,6 +55,8 @@ fn declarations_shut(deep: bool, declarations: &[Declaration]) -> bool
         let shut = match declaration {
             Declaration::Field(field) => deep && is_shut(deep, &field.value),
             Declaration::Embedded { value, .. } => is_shut(true, value),
+            // Never asked for: a literal with conditions is at fault.
+            Declaration::Conditional { .. } => false,
         };
         if shut {
             return true;

@@ -41,7 +41,7 @@ pub fn put_advice(text: &mut String, declared: &Declared<'_, '_>, found: Found<'
         Form::FieldReference => put_field_reference(text, said, near),
         Form::NotOpened | Form::Joined => put_not_opened(text, declared, found),
         Form::UnknownName | Form::UnknownDefinition => put_unknown(text, declared, found),
-        Form::ExcludedDefault => put_filled(text, said, &[shown; 3]),
+        Form::ExcludedDefault | Form::AbsentField => put_filled(text, said, &[shown; 3]),
         Form::StrayCharacter => text.push_str(said_of_shown(found.form, shown)),
         form => put_around(text, said, shown, said_of_shown(form, shown)),
     }

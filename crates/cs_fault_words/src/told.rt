@@ -2,7 +2,8 @@
 use crate::advice::put_advice;
 use crate::lines::put_filled;
 use cs_forms::{
-    Form, Found, form_closed, form_left_out_in, form_out_of_place, form_stuck, form_unknown,
+    Form, Found, form_closed, form_left_out_in, form_of_field, form_out_of_place, form_stuck,
+    form_unknown,
 };
 use cs_grammar::Profile;
 use cs_meanings::explanation;
@@ -176,7 +177,7 @@ impl<'a> Told<'a> {
             Fault::Syntax { .. } => form_out_of_place(near),
             Fault::LeftOut { .. } => form_left_out_in(near, declared)?,
             Fault::UnknownName { .. } => form_unknown(near),
-            Fault::FieldReference { .. } => Found::at(near, Form::FieldReference),
+            Fault::FieldReference { .. } => form_of_field(near),
             Fault::NotOpened { .. } if is_joined => Found::at(near, Form::Joined),
             Fault::NotOpened { .. } => form_closed(near, declared)?,
             _ => return Ok(()),

@@ -1,5 +1,6 @@
 // Forms that the wide profile refuses: of defaults, by the tokens around a mark, or at a reference (5), and of embeddings, by what is embedded
 // (11).
+use crate::conditions::form_in_condition;
 use crate::forms::{Form, Found};
 use crate::syntax::form_left_out;
 use cs_grammar::{Profile, Sort, Token};
@@ -21,14 +22,18 @@ const MOST_PASSED: usize = 50_000;
 /// The label in brackets that the profile has.
 const EVERY: &str = "[string]";
 
-/// The form at a token that a profile leaves out: in the wide one that of a mark at fault, or of a reference to a definition whose default
-/// another declaration could exclude. Only memory can run out.
+/// The form at a token that a profile leaves out: in the wide one that of a mark at fault, of a reference to a definition whose default
+/// another declaration could exclude, or of a condition. Only memory can run out.
 pub fn form_left_out_in<'s, 'a>(
     near: Near<'s, 'a>,
     declared: &Declared<'_, 'a>,
 ) -> Made<Found<'s, 'a>> {
     let found = form_left_out(near);
+    if let Some(condition) = form_in_condition(near, found.form) {
+        return Ok(condition);
+    }
     let form = match (near.source.profile, found.form) {
+        (Profile::Wide, Form::If) => Form::IfOutside,
         (Profile::Wide, _) if near.here().sort == Sort::Definition => Form::ExcludedDefault,
         (Profile::Wide, Form::DefaultMark) => form_of_default(near),
         (Profile::Wide | Profile::Default, _) => return Ok(found),
@@ -333,7 +338,7 @@ impl<'s, 'a> Embedded<'s, 'a> {
 
     /// Passes a declaration or an operand; whether it is a field or made of structs, as operands of `&` aren't where a definition closed one.
     fn pass(&mut self, next: Part<'s, 'a>, by: Option<usize>) -> Made<bool> {
-        let whole = next.without("");
+        let whole = next.under_conditions().unwrap_or(next.without(""));
         let (part, separator) = match whole.inside("{") {
             _ if next.count(Colon) > 0 => return self.pass_field(next, by),
             Some(inside) => (inside, Comma),

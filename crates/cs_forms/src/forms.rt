@@ -73,6 +73,16 @@ pub enum Form {
     LimitKind,
     /// `if x {..}`.
     If,
+    /// `[if x {..}]`, in the wide profile. For programs it is the same form.
+    IfOutside,
+    /// `if x == y {..}`: a condition that isn't of a field and a literal, in the wide profile, as the next three.
+    Condition,
+    /// `if x {..}` in a struct that doesn't declare `x`, or not by a name.
+    UndeclaredField,
+    /// `if x == 1 {x: {..}}`.
+    DeclaredAgain,
+    /// `{x: int | {..}, if x == 1 {..}}`: what isn't 1 may be any struct, which would open that of `x`.
+    StructBeside,
     /// `for x in y {..}`.
     For,
     /// `let x = y`.
@@ -135,6 +145,8 @@ pub enum Form {
     UnknownDefinition,
     /// A name that names a field.
     FieldReference,
+    /// `{x?: int, if x == 1 {..}}`, in the wide profile.
+    AbsentField,
     /// A struct literal without `...` in a conjunction.
     NotOpened,
     /// The same where the wide profile puts it together with others. For programs it is the same form.
@@ -202,7 +214,7 @@ type Sayings = &'static [(&'static [&'static str], &'static str)];
 
 /// What programs call each form, and what is said of it, in their order: a `{}` stands for what its place tells. A form without a row is
 /// refused by the prover.
-const FORMS: [(&str, &str); 69] = rows! {
+const FORMS: [(&str, &str); 75] = rows! {
     "byte-order-mark" => "a byte order mark: save the file as UTF-8 without it",
     "float" => "floats are left out: scale it (percent, milliseconds)",
     "number-spelling" => "`{}`: {}",
@@ -236,6 +248,11 @@ const FORMS: [(&str, &str); 69] = rows! {
     "limit" => "the limit of `{}` has to be a literal",
     "limit-kind" => "the limit of `{}` has to be {}",
     "if" => "`if`: comprehensions are left out; say the cases as alternatives: `{mode: \"prod\", tls: {..}} | {mode: \"dev\"}`",
+    "if" => "`if` stands in a struct, and a struct behind its conditions, as `{mode: string, if mode == \"prod\" {tls: bool}}`",
+    "condition" => "an `if` asks a field of its struct before a struct: `if f == 1 {..}`, `!=`, `<`, `if f {..}`, `if !f {..}`, `if f != _|_ {..}`, or several: `if f if g {..}`",
+    "undeclared-field" => "this struct itself has no label `{}` without quotes, and an `if` asks about such a field: declare it here, or put the `if` where it is",
+    "declared-again" => "under a condition on `{}` it is declared again, which it may not be with a default, a struct or a reference: declare it outside of the `if`",
+    "struct-beside" => "where this isn't met `{}` may be any struct, which would open the one that its value has: give that struct a definition and name it",
     "for" => "`for`: comprehensions are left out; write the fields out, or `[string]: T`",
     "let" => "`let` is left out",
     "embedded-definition" => "an embedded definition: write its fields out, or `{} & {{}, ...}` with `...` in `{}` too",
@@ -265,6 +282,7 @@ const FORMS: [(&str, &str); 69] = rows! {
     "unknown-name" => "`{}` isn't declared",
     "unknown-definition" => "`{}` isn't declared; give the file that declares it too",
     "field-reference" => "`{}` is a field",
+    "absent-field" => "`{}` may be absent: declare it in this struct without `?`, or ask first whether it is there, as `if {} != _|_ if {} ..`",
     "not-opened" => "this struct is joined with others: end each of them with `...`, or write all fields into one",
     "not-opened" => "`--profile wide` puts these structs together; without it end each of them with `...`, or write all fields into one",
     "closed-operand" => "a struct can't be put together with what a definition closed: embed what `&` joins in one struct, as `{{}, ..}`, or end each of them with `...`",

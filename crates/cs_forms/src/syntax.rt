@@ -1,5 +1,6 @@
 // Forms by the tokens at a place: where no token of the profile begins (3), at a token that is out of place (4) or that only CUE outside of the
 // profile has (5), and of names that aren't declared (9).
+use crate::conditions::form_in_condition;
 use crate::forms::{Form, Found, said_of_shown};
 use cs_grammar::{Profile, Sort, Token};
 use cs_sources::{Inside, Near, begins_value, ends_value, follows_label, separates};
@@ -144,7 +145,8 @@ fn form_of_dot<'s, 'a>(near: Near<'s, 'a>) -> Found<'s, 'a> {
 
 /// The form at a token that is out of place, though the profile has it elsewhere.
 pub fn form_out_of_place<'s, 'a>(near: Near<'s, 'a>) -> Found<'s, 'a> {
-    if let Some(found) = after_word(near) {
+    let other = form_in_condition(near, Form::Condition).or(after_word(near));
+    if let Some(found) = other {
         return found;
     }
     match near.inside() {

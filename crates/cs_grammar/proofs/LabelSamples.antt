@@ -7,7 +7,7 @@ use Rattle.cs_grammar.specs.Spells.{every_label}
 use Rattle.cs_grammar.specs.Tree.{Label, Tree, atom, top, named, reference, conjunction, disjunction, paren, struct, list, wide, marked, merged, shut, no_declaration, declared, embedded, none, more, no_field, field, closed, any, each, definition, file}
 
 abbrev a : Label
-a = record { text = codes "a"; quotes = false }
+a = record { text = codes "a"; quotes = false; asked = false }
 
 -- `{a: _}`, and `{[string]: _}`
 abbrev one_label : Tree

@@ -1,8 +1,9 @@
 -- The words that follow a spelling are a rest of those that it begins.
 use Rattle.std.proofs.Common.{ℕ, ◌≤◌, ℤ, Bool, List, ◌∷◌, length, Option, arith}
-use Rattle.cs_grammar.specs.Tree.{Label, Tree, Trees, Fields, Declarations, End, DefinitionTree}
+use Rattle.cs_grammar.specs.Atom.{Atom}
+use Rattle.cs_grammar.specs.Tree.{Label, Test, Condition, Tree, Trees, Fields, Declarations, End, DefinitionTree}
 use Rattle.cs_grammar.specs.Words.{Word, Words}
-use Rattle.cs_grammar.specs.Spells.{Comma, explicit, inserted, ClosesParen, paren_here, paren_after, ClosesList, list_here, list_after, ClosesStruct, struct_here, struct_after, SpellsNumber, positive, negative, SpellsBound, limit_is, other_number, other_text, other_null, SpellsLabel, bare_label, quoted_label, SpellsMark, regular, optional, required, SpellsOpening, unopened, opened, SpellsValue, long, short, SpellsField, labelled, every_key, SpellsExpr, one_branch, disjunction_is, SpellsBars, no_bar, a_bar, SpellsBranch, unmarked, marked_is, SpellsConj, one_operand, conjunction_is, SpellsAmps, no_amp, an_amp, SpellsOperand, top_is, bottom_is, reference_is, name_is, number_is, text_is, bound_is, paren_is, struct_is, list_is, call_paren_is, shut_is, wide_struct_is, SpellsWideStruct, no_declarations, wide_dots_alone, some_declarations, SpellsDeclarations, a_field, an_embedding, SpellsMore, no_more, next_declaration, SpellsStruct, no_fields, dots_alone, fields, SpellsFields, no_more_fields, next_field, SpellsList, no_elements, rest_alone, elements, SpellsElements, no_more_elements, next_element, SpellsEnd, closed_is, rest_is, SpellsRest, any_is, each_is, SpellsDefinition, defined, SpellsPackage, no_clause, clause}
+use Rattle.cs_grammar.specs.Spells.{Comma, explicit, inserted, ClosesParen, paren_here, paren_after, ClosesList, list_here, list_after, ClosesStruct, struct_here, struct_after, SpellsNumber, positive, negative, SpellsBound, limit_is, other_number, other_text, other_null, SpellsScalar, scalar_name, scalar_number, scalar_text, SpellsTest, is_true, equal_to, unequal_to, is_absent, is_present, related, SpellsCondition, asked_is, denied_is, SpellsConditions, last_condition, next_condition, SpellsLabel, bare_label, quoted_label, SpellsMark, regular, optional, required, SpellsOpening, unopened, opened, SpellsValue, long, short, SpellsField, labelled, every_key, SpellsExpr, one_branch, disjunction_is, SpellsBars, no_bar, a_bar, SpellsBranch, unmarked, marked_is, SpellsConj, one_operand, conjunction_is, SpellsAmps, no_amp, an_amp, SpellsOperand, top_is, bottom_is, reference_is, name_is, number_is, text_is, bound_is, paren_is, struct_is, list_is, call_paren_is, shut_is, wide_struct_is, SpellsWideStruct, no_declarations, wide_dots_alone, some_declarations, SpellsDeclarations, a_field, an_embedding, a_conditional, SpellsMore, no_more, next_declaration, SpellsStruct, no_fields, dots_alone, fields, SpellsFields, no_more_fields, next_field, SpellsList, no_elements, rest_alone, elements, SpellsElements, no_more_elements, next_element, SpellsEnd, closed_is, rest_is, SpellsRest, any_is, each_is, SpellsDefinition, defined, SpellsPackage, no_clause, clause}
 use Rattle.cs_grammar.specs.declared.ast.FieldMark.{FieldMark}
 
 -- the last of some words, from one on
@@ -57,6 +58,27 @@ pub of_opening : {b : Bool} {ts r : Words} → SpellsOpening b ts r → IsRest r
 of_opening (unopened c) = of_struct_end c
 of_opening (opened c d) = then (of_comma c) (behind (of_struct_end d))
 
+pub of_scalar : {a : Atom} {ts r : Words} → SpellsScalar a ts r → IsRest r ts
+of_scalar (scalar_name e) = behind whole
+of_scalar (scalar_number n) = of_number n
+of_scalar scalar_text = behind whole
+
+pub of_test : {t : Test} {b : Bool} {ts r : Words} → SpellsTest t b ts r → IsRest r ts
+of_test is_true = whole
+of_test (equal_to s) = behind (of_scalar s)
+of_test (unequal_to s) = behind (of_scalar s)
+of_test is_absent = behind (behind whole)
+of_test is_present = behind (behind whole)
+of_test (related n) = behind (of_number n)
+
+pub of_condition : {c : Condition} {ts r : Words} → SpellsCondition c ts r → IsRest r ts
+of_condition (asked_is f t) = behind (of_test t)
+of_condition (denied_is f) = behind (behind whole)
+
+pub of_conditions : {cs : List Condition} {ts r : Words} → SpellsConditions cs ts r → IsRest r ts
+of_conditions (last_condition e c) = behind (of_condition c)
+of_conditions (next_condition e c cs) = behind (then (of_condition c) (of_conditions cs))
+
 mutual
   pub of_value : {e : Tree} {ts r : Words} → SpellsValue e ts r → IsRest r ts
   of_value (long e) = of_expr e
@@ -109,6 +131,7 @@ mutual
   pub of_declarations : {ds : Declarations} {ts r : Words} → SpellsDeclarations ds ts r → IsRest r ts
   of_declarations (a_field f m) = then (of_field f) (of_more m)
   of_declarations (an_embedding o e m) = then (of_expr e) (of_more m)
+  of_declarations (a_conditional o c b e m) = then (of_conditions c) (then (of_expr e) (of_more m))
 
   pub of_more : {ds : Declarations} {ts r : Words} → SpellsMore ds ts r → IsRest r ts
   of_more no_more = whole

@@ -246,10 +246,10 @@ closes = refl
 
 -- `_`, with a label and with another
 abbrev labelled_by : List ℕ → T.Declarations → T.Declarations
-labelled_by t ds = T.declared (record { text = t; quotes = false }) Regular (T.atom T.top) ds
+labelled_by t ds = T.declared (record { text = t; quotes = false; asked = false }) Regular (T.atom T.top) ds
 
 abbrev field_by : List ℕ → T.Fields → T.Fields
-field_by t fs = T.field (record { text = t; quotes = false }) Regular (T.atom T.top) fs
+field_by t fs = T.field (record { text = t; quotes = false; asked = false }) Regular (T.atom T.top) fs
 
 -- `_` that is embedded
 abbrev embedded_top : T.Declarations → T.Declarations

@@ -22,7 +22,7 @@ list_of [] = T.none
 list_of (e ∷ es) = T.more e (list_of es)
 
 abbrev a : Label
-a = record { text = codes "a"; quotes = false }
+a = record { text = codes "a"; quotes = false; asked = false }
 
 abbrev fields_of : List Tree → Fields
 fields_of [] = T.no_field

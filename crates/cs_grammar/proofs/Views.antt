@@ -1,7 +1,7 @@
 -- Expressions, fields and words as the grammar sees them, form by form.
-use Rattle.std.proofs.Common.{◌≡◌, ℕ, Bool, List, refl, ap, rules, string_bytes, Box, Global, String, Vec}
+use Rattle.std.proofs.Common.{◌≡◌, ℕ, Bool, List, map, refl, ap, rules, string_bytes, Box, Global, String, Vec}
 use Rattle.cs_grammar.specs.Tree as T
-use Rattle.cs_grammar.specs.View.{expr_view, exprs_view, fields_view, field_view, end_view, wide_view, declaration_view, declarations_view, field_seen, embedding_seen}
+use Rattle.cs_grammar.specs.View.{expr_view, exprs_view, fields_view, field_view, end_view, wide_view, declaration_view, declarations_view, field_seen, embedding_seen, conditional_seen, condition_view}
 use Rattle.cs_grammar.specs.TokenWords.{word_of}
 use Rattle.cs_grammar.specs.Words.{start}
 use Rattle.cs_grammar.specs.declared.ast.Expr as Exprs
@@ -9,6 +9,7 @@ use Rattle.cs_grammar.specs.declared.ast.Expr.{Expr}
 use Rattle.cs_grammar.specs.declared.ast.Field.{Field}
 use Rattle.cs_grammar.specs.declared.ast.Wide as Wides
 use Rattle.cs_grammar.specs.declared.ast.Declaration as Declarations
+use Rattle.cs_grammar.specs.declared.ast.Condition.{Condition}
 use Rattle.cs_grammar.specs.declared.ast.ListEnd as Ends
 use Rattle.cs_grammar.specs.declared.ast.ListEnd.{ListEnd}
 use Rattle.cs_grammar.specs.declared.kind.Kind.{Kind}
@@ -49,6 +50,10 @@ view-declared-field f = search (rules, Exprs.the_lemmas)
 pub view-embedded : (at : ℕ) (e : Expr) → declaration_view (Declarations.Embedded at e) ≡ embedding_seen at (expr_view e)
 view-embedded at e = search (rules, Exprs.the_lemmas)
 
+pub view-conditional : (at : ℕ) (cs : Vec Condition Global) (e : Expr)
+    → declaration_view (Declarations.Conditional at cs e) ≡ conditional_seen at (map condition_view cs.items) (expr_view e)
+view-conditional at cs e = search (rules, Exprs.the_lemmas)
+
 pub view-Shut : (at : ℕ) (b : Box Expr Global) → wide_view (Wides.Shut at b) ≡ T.shut at (expr_view b.value)
 view-Shut at b = search (rules, Exprs.the_lemmas)
 
@@ -71,7 +76,7 @@ view-Each b = search (rules, Exprs.the_lemmas)
 pub view-value : (f : Field) → (field_view f).value ≡ expr_view f.value
 view-value f = search (rules, Exprs.the_lemmas)
 
-pub view-label : (f : Field) → (field_view f).label ≡ record { text = string_bytes f.label; quotes = f.quoted }
+pub view-label : (f : Field) → (field_view f).label ≡ record { text = string_bytes f.label; quotes = f.quoted; asked = f.asked }
 view-label f = search (rules, Exprs.the_lemmas)
 
 pub view-mark : (f : Field) → (field_view f).mark ≡ f.mark

@@ -1,4 +1,5 @@
 -- Files in which no form of the wide profile stands, at any depth. The sources of the default profile spell such.
+use Rattle.std.specs.Prelude.{◌≡◌, false}
 use Rattle.std.specs.List.{AllByRecursion}
 use Rattle.cs_grammar.specs.Tree.{Tree, atom, named, reference, conjunction, disjunction, paren, struct, list, wide, Trees, none, more, Fields, no_field, field, End, closed, any, each, body, FileTree, definitions}
 
@@ -20,7 +21,8 @@ abbrev mutual
 
   pub AreDefaultFields : Fields → Type 0
   AreDefaultFields no_field = Unit {0}
-  AreDefaultFields (field l m e fs) = IsDefault e × AreDefaultFields fs
+  -- an author wrote it
+  AreDefaultFields (field l m e fs) = (l.asked ≡ false) × IsDefault e × AreDefaultFields fs
 
   pub IsDefaultEnd : End → Type 0
   IsDefaultEnd closed = Unit {0}

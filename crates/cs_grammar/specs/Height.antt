@@ -1,6 +1,6 @@
 -- How high a tree is (own rule): 1 for an expression without parts, and else one more than the greatest height of its parts.
-use Rattle.std.specs.Prelude.{ℕ, suc, max, List, [], ◌∷◌}
-use Rattle.cs_grammar.specs.Tree.{Tree, atom, named, reference, conjunction, disjunction, paren, struct, list, wide, Wide, marked, merged, shut, Declarations, no_declaration, declared, embedded, Trees, none, more, Fields, no_field, field, End, closed, any, each, DefinitionTree, body, FileTree, definitions}
+use Rattle.std.specs.Prelude.{ℕ, suc, ◌+◌, max, List, [], ◌∷◌, length}
+use Rattle.cs_grammar.specs.Tree.{Tree, atom, named, reference, conjunction, disjunction, paren, struct, list, wide, Wide, marked, merged, shut, Declarations, no_declaration, declared, embedded, conditional, Trees, none, more, Fields, no_field, field, End, closed, any, each, DefinitionTree, body, FileTree, definitions}
 
 abbrev mutual
   pub height : Tree → ℕ
@@ -33,6 +33,8 @@ abbrev mutual
   height_declarations no_declaration = 0
   height_declarations (declared l m e ds) = max (height e) (height_declarations ds)
   height_declarations (embedded o e ds) = max (height e) (height_declarations ds)
+  -- each condition is a level
+  height_declarations (conditional o cs e ds) = max (length cs + height e) (height_declarations ds)
 
   pub height_end : End → ℕ
   height_end closed = 0

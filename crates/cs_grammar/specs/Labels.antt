@@ -3,7 +3,7 @@
 use Rattle.std.specs.List.{AllByRecursion}
 use Rattle.cs_grammar.specs.declared.ast.FieldMark.{FieldMark}
 use Rattle.cs_grammar.specs.declared.ast.FieldMark.TheVariants.{Regular, Optional, Required, Every}
-use Rattle.cs_grammar.specs.Tree.{Tree, atom, named, reference, conjunction, disjunction, paren, struct, list, wide, Wide, marked, merged, shut, Declarations, no_declaration, declared, embedded, Trees, none, more, Fields, no_field, field, End, closed, any, each, body, FileTree, definitions}
+use Rattle.cs_grammar.specs.Tree.{Tree, atom, named, reference, conjunction, disjunction, paren, struct, list, wide, Wide, marked, merged, shut, Declarations, no_declaration, declared, embedded, conditional, Trees, none, more, Fields, no_field, field, End, closed, any, each, body, FileTree, definitions}
 
 -- the mark of a field with a label
 abbrev pub HasLabel : FieldMark → Type 0
@@ -34,6 +34,7 @@ abbrev mutual
   AreLabelledDeclarations no_declaration = Unit {0}
   AreLabelledDeclarations (declared l m e ds) = HasLabel m × IsLabelled e × AreLabelledDeclarations ds
   AreLabelledDeclarations (embedded o e ds) = IsLabelled e × AreLabelledDeclarations ds
+  AreLabelledDeclarations (conditional o cs e ds) = IsLabelled e × AreLabelledDeclarations ds
 
   pub AreLabelled : Trees → Type 0
   AreLabelled none = Unit {0}

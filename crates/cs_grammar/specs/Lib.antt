@@ -21,5 +21,6 @@ pub mod Height
 pub mod Size
 pub mod View
 pub mod Source
+pub mod Referred
 pub mod Labels
 pub mod DefaultForms

@@ -6,9 +6,9 @@ use Rattle.std.specs.Str.{bytes_eq}
 use Rattle.std.specs.List.{list_any}
 use Rattle.cs_grammar.specs.declared.ast.FieldMark.{FieldMark}
 use Rattle.cs_grammar.specs.declared.ast.FieldMark.TheVariants.{Regular, Optional, Required, Every}
-use Rattle.cs_grammar.specs.Atom.{Relation, top, bottom, null, boolean, integer, text, bound, not_integer, not_text, not_null}
-use Rattle.cs_grammar.specs.Words.{Words, start, name, definition_name, top_mark, bottom_mark, numeral, quoted, open_struct, open_wide, close_struct, open_list, close_list, open_paren, open_call, close_paren, comma, nl, colon, question, bang, amp, bar, dots, relation, unequal, minus, star, finish}
-use Rattle.cs_grammar.specs.Tree.{Label, Tree, atom, named, reference, conjunction, disjunction, paren, struct, list, wide, marked, merged, shut, Declarations, no_declaration, declared, embedded, Trees, none, more, Fields, no_field, field, End, closed, any, each, DefinitionTree, definition, FileTree, file}
+use Rattle.cs_grammar.specs.Atom.{Atom, Relation, top, bottom, null, boolean, integer, text, bound, not_integer, not_text, not_null}
+use Rattle.cs_grammar.specs.Words.{Words, start, name, definition_name, top_mark, bottom_mark, numeral, quoted, open_struct, open_wide, close_struct, open_list, close_list, open_paren, open_call, close_paren, comma, nl, colon, question, bang, amp, bar, dots, relation, unequal, minus, star, equal, finish}
+use Rattle.cs_grammar.specs.Tree.{Label, written_label, Test, present, truth, equals, compares, Condition, Tree, atom, named, reference, conjunction, disjunction, paren, struct, list, wide, marked, merged, shut, Declarations, no_declaration, declared, embedded, conditional, Trees, none, more, Fields, no_field, field, End, closed, any, each, DefinitionTree, definition, FileTree, file}
 
 -- the names that are no operands
 abbrev pub reserved_names : List (List ℕ)
@@ -38,6 +38,10 @@ literal_of s =
     if bytes_eq s (codes "true") then Some (atom (boolean true)) else (
     if bytes_eq s (codes "false") then Some (atom (boolean false)) else
     None))
+
+-- the name that begins a condition
+abbrev pub is_if : List ℕ → Bool
+is_if s = bytes_eq s (codes "if")
 
 -- where the first word stands
 abbrev pub start_at : Words → ℕ
@@ -80,11 +84,11 @@ pub data SpellsBound : Tree → Words → Words → Type 0 where
 
 -- Label = name or text, or `[` `string` `]`, which is an empty text here
 abbrev pub every_label : Label
-every_label = record { text = []; quotes = true }
+every_label = written_label [] true
 
 pub data SpellsLabel : Label → Words → Words → Type 0 where
-  bare_label : {s : List ℕ} {p : ℕ} {r : Words} → SpellsLabel (record { text = s; quotes = false }) (name s p ∷ r) r
-  quoted_label : {s : List ℕ} {p : ℕ} {r : Words} → SpellsLabel (record { text = s; quotes = true }) (quoted s p ∷ r) r
+  bare_label : {s : List ℕ} {p : ℕ} {r : Words} → SpellsLabel (written_label s false) (name s p ∷ r) r
+  quoted_label : {s : List ℕ} {p : ℕ} {r : Words} → SpellsLabel (written_label s true) (quoted s p ∷ r) r
 
 -- [ `?` or `!` ] `:`
 pub data SpellsMark : FieldMark → Words → Words → Type 0 where
@@ -97,19 +101,65 @@ pub data SpellsOpening : Bool → Words → Words → Type 0 where
   unopened : {ts r : Words} → ClosesStruct ts r → SpellsOpening false ts r
   opened : {p : ℕ} {ts us r : Words} → Comma ts (dots p ∷ us) → ClosesStruct us r → SpellsOpening true ts r
 
+-- ---- conditions of the wide profile (CUE, comprehensions)
+
+-- a literal without parts: `null`, `true` or `false`, Number, or text
+pub data SpellsScalar : Atom → Words → Words → Type 0 where
+  scalar_name : {s : List ℕ} {a : Atom} {p : ℕ} {r : Words} → literal_of s ≡ Some (atom a) → SpellsScalar a (name s p ∷ r) r
+  scalar_number : {z : ℤ} {ts r : Words} → SpellsNumber z ts r → SpellsScalar (integer z) ts r
+  scalar_text : {s : List ℕ} {p : ℕ} {r : Words} → SpellsScalar (text s) (quoted s p ∷ r) r
+
+-- a name that is an operand, and no literal
+abbrev pub IsFieldName : List ℕ → Type 0
+IsFieldName s = (is_reserved s ≡ false) × (literal_of s ≡ None)
+
+-- what is asked of the name before it, and whether it has to be met: nothing, `==` or `!=` and Scalar or `_|_`, or `<` and its like and Number
+pub data SpellsTest : Test → Bool → Words → Words → Type 0 where
+  is_true : {r : Words} → SpellsTest truth true r r
+  equal_to : {a : Atom} {p : ℕ} {ts r : Words} → SpellsScalar a ts r → SpellsTest (equals a) true (equal p ∷ ts) r
+  unequal_to : {a : Atom} {p : ℕ} {ts r : Words} → SpellsScalar a ts r → SpellsTest (equals a) false (unequal p ∷ ts) r
+  is_absent : {p q : ℕ} {r : Words} → SpellsTest present false (equal p ∷ bottom_mark q ∷ r) r
+  is_present : {p q : ℕ} {r : Words} → SpellsTest present true (unequal p ∷ bottom_mark q ∷ r) r
+  related : {b : Relation} {z : ℤ} {p : ℕ} {ts r : Words} → SpellsNumber z ts r → SpellsTest (compares b z) true (relation b p ∷ ts) r
+
+-- Condition = name Test, or `!` name
+pub data SpellsCondition : Condition → Words → Words → Type 0 where
+  asked_is : {s : List ℕ} {t : Test} {b : Bool} {p : ℕ} {ts r : Words} → IsFieldName s → SpellsTest t b ts r → SpellsCondition (record { label = s; at = p; test = t; is_met = b }) (name s p ∷ ts) r
+  denied_is : {s : List ℕ} {p q : ℕ} {r : Words} → IsFieldName s → SpellsCondition (record { label = s; at = p; test = truth; is_met = false }) (bang q ∷ name s p ∷ r) r
+
+-- `if` Condition { `if` Condition }
+pub data SpellsConditions : List Condition → Words → Words → Type 0 where
+  last_condition : {c : Condition} {s : List ℕ} {p : ℕ} {ts r : Words} → is_if s ≡ true → SpellsCondition c ts r → SpellsConditions (c ∷ []) (name s p ∷ ts) r
+  next_condition : {c : Condition} {cs : List Condition} {s : List ℕ} {p : ℕ} {ts us r : Words} → is_if s ≡ true → SpellsCondition c ts us → SpellsConditions cs us r → SpellsConditions (c ∷ cs) (name s p ∷ ts) r
+
 -- ---- literals of the wide profile
 
--- the fields that the declarations are, if none is an embedding
+-- a struct literal
+abbrev pub is_braced : Tree → Bool
+is_braced (struct o fs b) = true
+is_braced (wide (merged o ds b)) = true
+is_braced (wide (marked o e)) = false
+is_braced (wide (shut o e)) = false
+is_braced (atom a) = false
+is_braced (named s o) = false
+is_braced (reference s o) = false
+is_braced (conjunction es) = false
+is_braced (disjunction es) = false
+is_braced (paren e) = false
+is_braced (list es end) = false
+
+-- the fields that the declarations are, if all are fields
 abbrev pub fields_alone : Declarations → Option Fields
 fields_alone no_declaration = Some no_field
 fields_alone (declared l m e ds) = option_map (field l m e) (fields_alone ds)
 fields_alone (embedded o e ds) = None
+fields_alone (conditional o cs e ds) = None
 
 abbrev pub literal_if : ℕ → Declarations → Bool → Option Fields → Tree
 literal_if o ds b (Some fs) = struct o fs b
 literal_if o ds b None = wide (merged o ds b)
 
--- a literal with these declarations is one of the default profile where none is an embedding
+-- a literal with these declarations is one of the default profile where all are fields
 abbrev pub literal : ℕ → Declarations → Bool → Tree
 literal o ds b = literal_if o ds b (fields_alone ds)
 
@@ -184,10 +234,11 @@ mutual
     wide_dots_alone : {p : ℕ} {ts r : Words} → ClosesStruct ts r → SpellsWideStruct no_declaration true (dots p ∷ ts) r
     some_declarations : {ds : Declarations} {b : Bool} {ts us r : Words} → SpellsDeclarations ds ts us → SpellsOpening b us r → SpellsWideStruct ds b ts r
 
-  -- Declaration { comma Declaration }
+  -- Declaration { comma Declaration }; Declaration = Field, Expr, or the conditions of a struct literal and the literal
   pub data SpellsDeclarations : Declarations → Words → Words → Type 0 where
     a_field : {l : Label} {m : FieldMark} {e : Tree} {ds : Declarations} {ts us r : Words} → SpellsField l m e ts us → SpellsMore ds us r → SpellsDeclarations (declared l m e ds) ts r
     an_embedding : {o : ℕ} {e : Tree} {ds : Declarations} {ts us r : Words} → o ≡ start_at ts → SpellsExpr e ts us → SpellsMore ds us r → SpellsDeclarations (embedded o e ds) ts r
+    a_conditional : {o : ℕ} {cs : List Condition} {e : Tree} {ds : Declarations} {ts us vs r : Words} → o ≡ start_at ts → SpellsConditions cs ts us → is_braced e ≡ true → SpellsExpr e us vs → SpellsMore ds vs r → SpellsDeclarations (conditional o cs e ds) ts r
 
   -- { comma Declaration }
   pub data SpellsMore : Declarations → Words → Words → Type 0 where

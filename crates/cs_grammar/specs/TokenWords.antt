@@ -33,8 +33,9 @@ mark_kind t =
     if bytes_eq t (codes ">=") then kinds.AtLeast else (
     if bytes_eq t (codes "!=") then kinds.Unequal else (
     if bytes_eq t (codes "-") then kinds.Minus else (
-    if bytes_eq t (codes "*") then kinds.Star else
-    kinds.LeftOut)))))))))))))))))))
+    if bytes_eq t (codes "*") then kinds.Star else (
+    if bytes_eq t (codes "==") then kinds.Equal else
+    kinds.LeftOut))))))))))))))))))))
 
 -- what a mark is for the grammar where the wide profile reads it in its own way
 abbrev pub wide_kind : List ℕ → Kind
@@ -90,6 +91,7 @@ word_of kinds.AtLeast t o = W.relation at_least o
 word_of kinds.Unequal t o = W.unequal o
 word_of kinds.Minus t o = W.minus o
 word_of kinds.Star t o = W.star o
+word_of kinds.Equal t o = W.equal o
 word_of kinds.LeftOut t o = W.left_out o
 word_of kinds.Inserted t o = W.nl o
 word_of kinds.End t o = W.finish o

@@ -1,13 +1,31 @@
 -- The tree of a file, apart from where it lies in memory. Offsets are kept where a fault may be.
-use Rattle.std.specs.Prelude.{ℕ, Bool, List, Option}
+use Rattle.std.specs.Prelude.{ℕ, ℤ, Bool, false, List, Option}
 use Rattle.cs_grammar.specs.declared.ast.FieldMark.{FieldMark}
-use Rattle.cs_grammar.specs.Atom.{Atom}
+use Rattle.cs_grammar.specs.Atom.{Atom, Relation}
 pub use Rattle.cs_grammar.specs.Atom.{top, bottom, null, boolean, integer, text, bound, not_integer, not_text, not_null}
 
--- a label of a struct literal, and whether it is in quotes
+-- a label of a struct literal, whether it is in quotes, and whether a condition asks for its field, which then is no author's
 pub record Label : Type 0 where
   pub text : List ℕ
   pub quotes : Bool
+  pub asked : Bool
+
+-- a label as an author writes it
+abbrev pub written_label : List ℕ → Bool → Label
+written_label s b = record { text = s; quotes = b; asked = false }
+
+-- what an `if` asks of a field (CUE, comprehensions): that it is there, that it is true, that it is a literal, or a relation to an integer
+pub data Test : Type 0 where
+  present truth : Test
+  equals : Atom → Test
+  compares : Relation → ℤ → Test
+
+-- the label of the field, where it is, what is asked, and whether that has to be met or must not be
+pub record Condition : Type 0 where
+  pub label : List ℕ
+  pub at : ℕ
+  pub test : Test
+  pub is_met : Bool
 
 mutual
   -- an expression; a reference is named without its `#`
@@ -30,11 +48,13 @@ mutual
     merged : ℕ → Declarations → Bool → Wide
     shut : ℕ → Tree → Wide
 
-  -- the declarations of a literal with embeddings: fields, and expressions that are embedded, with where they are
+  -- the declarations of a literal with embeddings: fields, expressions that are embedded, with where they are, and literals under conditions,
+  -- with where the first `if` is
   pub data Declarations : Type 0 where
     no_declaration : Declarations
     declared : Label → FieldMark → Tree → Declarations → Declarations
     embedded : ℕ → Tree → Declarations → Declarations
+    conditional : ℕ → List Condition → Tree → Declarations → Declarations
 
   pub data Trees : Type 0 where
     none : Trees

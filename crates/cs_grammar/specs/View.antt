@@ -8,15 +8,21 @@ use Rattle.cs_grammar.specs.declared.ast.Field.{Field, fold-Field}
 use Rattle.cs_grammar.specs.declared.ast.FieldMark.{FieldMark}
 use Rattle.cs_grammar.specs.declared.ast.Wide as rust
 use Rattle.cs_grammar.specs.declared.ast.Declaration as declarations
+use Rattle.cs_grammar.specs.declared.ast.Condition as conditions
+use Rattle.cs_grammar.specs.declared.ast.Test as tests
+use Rattle.cs_grammar.specs.declared.ast.Test.TheVariants as asks
+use Rattle.cs_grammar.specs.declared.ast.Scalar.{Scalar}
+use Rattle.cs_grammar.specs.declared.ast.Scalar.TheVariants as scalars
 use Rattle.cs_grammar.specs.declared.ast.Relation as ast
 use Rattle.cs_grammar.specs.declared.ast.Relation.TheVariants as relations
 use Rattle.cs_grammar.specs.declared.ast.Definition.{Definition}
 use Rattle.cs_grammar.specs.declared.ast.File.{File}
 use Rattle.cs_grammar.specs.declared.token.Token.{Token}
 use Rattle.cs_grammar.specs.Cut.{Lexeme, lexeme}
-use Rattle.cs_grammar.specs.Atom.{Relation, less, at_most, more, at_least}
+use Rattle.cs_grammar.specs.Atom as atoms
+use Rattle.cs_grammar.specs.Atom.{Atom, Relation, less, at_most, more, at_least}
 use Rattle.cs_grammar.specs.Tree as T
-use Rattle.cs_grammar.specs.Tree.{Label, Tree, Trees, Fields, End, Wide, Declarations, DefinitionTree, FileTree}
+use Rattle.cs_grammar.specs.Tree.{Label, Test, Condition, Tree, Trees, Fields, End, Wide, Declarations, DefinitionTree, FileTree}
 
 -- ---- tokens
 
@@ -48,15 +54,33 @@ abbrev pub fields_of : List Seen → Fields
 fields_of [] = T.no_field
 fields_of (f ∷ fs) = T.field f.label f.mark f.value (fields_of fs)
 
+-- what is asked of a field
+abbrev pub scalar_view : Scalar → Atom
+scalar_view scalars.Null = atoms.null
+scalar_view (scalars.Bool b) = atoms.boolean b
+scalar_view (scalars.Int n) = atoms.integer n
+scalar_view (scalars.Text s) = atoms.text (string_bytes s)
+
+abbrev pub test_view : tests.Test → Test
+test_view asks.Present = T.present
+test_view asks.True = T.truth
+test_view (asks.Equals v) = T.equals (scalar_view v)
+test_view (asks.Compares r n) = T.compares (relation_of r) n
+
+abbrev pub condition_view : conditions.Condition → Condition
+condition_view c = record { label = string_bytes c.label; at = c.at; test = test_view c.test; is_met = c.is_met }
+
 -- a declaration of a literal with embeddings
 pub data SeenDeclaration : Type 0 where
   field_seen : Seen → SeenDeclaration
   embedding_seen : ℕ → Tree → SeenDeclaration
+  conditional_seen : ℕ → List Condition → Tree → SeenDeclaration
 
 abbrev pub declarations_of : List SeenDeclaration → Declarations
 declarations_of [] = T.no_declaration
 declarations_of (field_seen f ∷ ds) = T.declared f.label f.mark f.value (declarations_of ds)
 declarations_of (embedding_seen o e ∷ ds) = T.embedded o e (declarations_of ds)
+declarations_of (conditional_seen o cs e ∷ ds) = T.conditional o cs e (declarations_of ds)
 
 -- one level, with each expression inside already seen as its tree
 abbrev pub expr_step : Expr-F SeenDeclaration Tree End Wide Seen → Tree
@@ -86,10 +110,10 @@ end_step (ListEnd-F.Each b) = T.each b.value
 
 -- for private contracts alone
 abbrev pub label_of : List ℕ → Bool → Label
-label_of s b = record { text = s; quotes = b }
+label_of s b = T.written_label s b
 
 abbrev pub field_step : Field-F SeenDeclaration Tree End Wide Seen → Seen
-field_step f = record { label = record { text = string_bytes f.label; quotes = f.quoted }; mark = f.mark; value = f.value }
+field_step f = record { label = record { text = string_bytes f.label; quotes = f.quoted; asked = f.asked }; mark = f.mark; value = f.value }
 
 abbrev pub wide_step : Wide-F SeenDeclaration Tree End Wide Seen → Wide
 wide_step (Wide-F.Marked o b) = T.marked o b.value
@@ -99,6 +123,7 @@ wide_step (Wide-F.Shut o b) = T.shut o b.value
 abbrev pub declaration_step : Declaration-F SeenDeclaration Tree End Wide Seen → SeenDeclaration
 declaration_step (Declaration-F.Field f) = field_seen f
 declaration_step (Declaration-F.Embedded o e) = embedding_seen o e
+declaration_step (Declaration-F.Conditional o cs e) = conditional_seen o (map condition_view cs.items) e
 
 abbrev pub expr_view : Expr → Tree
 expr_view = fold-Expr SeenDeclaration Tree End Wide Seen declaration_step expr_step end_step wide_step field_step

@@ -40,6 +40,8 @@ pub data Word : Type 0 where
   minus : ℕ → Word
   -- `*`, in the wide profile
   star : ℕ → Word
+  -- `==`, in the wide profile
+  equal : ℕ → Word
   left_out : ℕ → Word
   finish : ℕ → Word
 
@@ -74,5 +76,6 @@ start (relation r o) = o
 start (unequal o) = o
 start (minus o) = o
 start (star o) = o
+start (equal o) = o
 start (left_out o) = o
 start (finish o) = o

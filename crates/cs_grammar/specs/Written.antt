@@ -8,7 +8,7 @@ use Rattle.cs_grammar.specs.declared.token.Sort.TheVariants as sorts
 use Rattle.cs_grammar.specs.Spelling.{sort_of}
 use Rattle.cs_grammar.specs.Atom.{Atom, top, bottom, null, boolean, integer, text, bound, not_integer, not_text, not_null}
 use Rattle.cs_grammar.specs.Spells.{is_reserved, literal_of, every_label}
-use Rattle.cs_grammar.specs.Tree.{Label, Tree, atom, named, reference, conjunction, disjunction, paren, struct, list, wide, Wide, marked, merged, shut, Declarations, no_declaration, declared, embedded, Trees, none, more, Fields, no_field, field, End, closed, any, each, DefinitionTree, definition, FileTree, file}
+use Rattle.cs_grammar.specs.Tree.{Label, Test, present, truth, equals, compares, Condition, Tree, atom, named, reference, conjunction, disjunction, paren, struct, list, wide, Wide, marked, merged, shut, Declarations, no_declaration, declared, embedded, conditional, Trees, none, more, Fields, no_field, field, End, closed, any, each, DefinitionTree, definition, FileTree, file}
 
 -- where an expression stands: by itself, as an operand of `|`, or as an operand of `&`
 pub data Place : Type 0 where
@@ -42,6 +42,16 @@ IsWrittenLabel l Regular = IsTextOrName l
 IsWrittenLabel l Optional = IsTextOrName l
 IsWrittenLabel l Required = IsTextOrName l
 IsWrittenLabel l (Every o) = l ≡ every_label
+
+-- what is asked of a field is a literal or a number of 64 signed bits
+abbrev pub IsWrittenTest : Test → Type 0
+IsWrittenTest present = Unit {0}
+IsWrittenTest truth = Unit {0}
+IsWrittenTest (equals a) = IsWrittenAtom a
+IsWrittenTest (compares r z) = FitsSigned w64 z
+
+abbrev pub IsWrittenCondition : Condition → Type 0
+IsWrittenCondition c = IsName c.label × IsWrittenTest c.test
 
 -- two or more
 abbrev pub AreTwo : Trees → Type 0
@@ -80,6 +90,7 @@ abbrev mutual
   AreWrittenDeclarations no_declaration = Unit {0}
   AreWrittenDeclarations (declared l m e ds) = IsWrittenLabel l m × IsWritten by_itself e × AreWrittenDeclarations ds
   AreWrittenDeclarations (embedded o e ds) = IsWritten by_itself e × AreWrittenDeclarations ds
+  AreWrittenDeclarations (conditional o cs e ds) = AllByRecursion IsWrittenCondition cs × IsWritten by_itself e × AreWrittenDeclarations ds
 
   pub AreWritten : Place → Trees → Type 0
   AreWritten p none = Unit {0}

@@ -81,7 +81,7 @@ pub enum Wide {
         at: usize,
         value: Box<Expr>,
     },
-    /// A struct literal with one embedding or more, its offset, and whether it ends with `...` (CUE, structs: embedding).
+    /// A struct literal with one embedding or `if` or more, its offset, and whether it ends with `...` (CUE, structs: embedding).
     Merged {
         at: usize,
         declarations: Vec<Declaration>,
@@ -95,13 +95,57 @@ pub enum Wide {
     },
 }
 
-/// A declaration of a struct literal with embeddings.
+/// A declaration of a struct literal with embeddings or conditions.
 #[cycle(ast)]
 #[derive(Debug, Drop)]
 pub enum Declaration {
     Field(Field),
     /// An expression that is embedded, and the offset at which it begins.
-    Embedded { at: usize, value: Expr },
+    Embedded {
+        at: usize,
+        value: Expr,
+    },
+    /// `if C {..}`: a struct literal whose declarations stand there where all its conditions are met, and the offset of the first `if` (CUE,
+    /// comprehensions).
+    Conditional {
+        at: usize,
+        conditions: Vec<Condition>,
+        value: Expr,
+    },
+}
+
+/// What an `if` asks of a field of the literal that it stands in.
+#[derive(Debug, Drop)]
+pub struct Condition {
+    /// The label of the field, a name.
+    pub label: String,
+    /// The offset of the label.
+    pub at: usize,
+    pub test: Test,
+    /// Whether the test has to be met: `!f`, `f != v` and `f == _|_` ask that it isn't.
+    pub is_met: bool,
+}
+
+/// What is asked of the value of a field.
+#[derive(Debug, Drop)]
+pub enum Test {
+    /// `f != _|_`: the field is there.
+    Present,
+    /// `f`: it is `true`, and else `false`.
+    True,
+    /// `f == v`.
+    Equals(Scalar),
+    /// `f < n`, `f <= n`, `f > n` or `f >= n`.
+    Compares { relation: Relation, limit: i64 },
+}
+
+/// A literal that a field is compared with.
+#[derive(Debug, Drop)]
+pub enum Scalar {
+    Null,
+    Bool(bool),
+    Int(i64),
+    Text(String),
 }
 
 /// A field of a struct literal. Of `[string]: T` the label is empty and `quoted` is true, so no name can name it.
@@ -110,6 +154,8 @@ pub enum Declaration {
 pub struct Field {
     pub label: String,
     pub quoted: bool,
+    /// Whether a condition asks for it, and no author wrote it: it opens nothing, and excludes no default.
+    pub asked: bool,
     pub mark: FieldMark,
     pub value: Expr,
     pub site: Site,

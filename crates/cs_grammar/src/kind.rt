@@ -36,6 +36,8 @@ pub enum Kind {
     Minus,
     /// `*`, in the wide profile.
     Star,
+    /// `==`, in the wide profile.
+    Equal,
     LeftOut,
     Inserted,
     End,

@@ -7,14 +7,17 @@ mod fault;
 mod kind;
 mod line;
 mod profile;
+mod reference;
 mod token;
 
 pub use ast::{
-    Declaration, Definition, Expr, Field, FieldMark, File, ListEnd, Relation, Site, Wide,
+    Condition, Declaration, Definition, Expr, Field, FieldMark, File, ListEnd, Relation, Scalar,
+    Site, Test, Wide,
 };
 pub use attribute::{AttributeStep, Opened};
 pub use fault::SyntaxFault;
 pub use kind::Kind;
 pub use line::LineState;
 pub use profile::Profile;
+pub use reference::referred;
 pub use token::{Sort, Token};

@@ -97,10 +97,13 @@ impl<'a> Written<'a> {
         self.place_of(self.token_at(offset)?)
     }
 
-    /// What is declared behind the label at an offset of the files.
+    /// What is declared behind the label at an offset of the files; of a field that a condition asks for, the label there.
     fn declared_at(&self, offset: usize) -> Option<Part<'_, 'a>> {
         let label = self.token_at(offset)?;
         let declaration = label.part();
+        if label.is_asked() {
+            return Some(declaration.between(label.place, label.place.saturating_add(1)));
+        }
         declaration.between(label.place, declaration.to).declared()
     }
 }

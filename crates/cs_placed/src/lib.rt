@@ -1,9 +1,10 @@
 // The files that sources stand for, also in the wide profile, with the offsets of all sources in one space, and the source of such an offset.
 #![tactic(auto)]
 
+use cs_conditions::{ConditionFault, have_conditions, without_conditions};
 use cs_embeddings::{EmbeddingFault, without_embeddings};
 use cs_grammar::{
-    Declaration, Expr, Field, FieldMark, File, ListEnd, Profile, SyntaxFault, Wide, atom,
+    Condition, Declaration, Expr, Field, FieldMark, File, ListEnd, Profile, SyntaxFault, Wide, atom,
 };
 use cs_syntax::parse_file_in;
 use std::alloc::{AllocError, Global};
@@ -13,7 +14,7 @@ use std::str;
 /// another keeps its place.
 #[derive(Drop)]
 pub struct Placed {
-    /// The file of each source, at its place: without embeddings, and with the marks of defaults.
+    /// The file of each source, at its place: without conditions and embeddings, and with the marks of defaults.
     pub files: Vec<File>,
     /// The offset at which each source begins, in their order.
     bases: Vec<usize>,
@@ -35,17 +36,35 @@ pub fn placed_files(alloc: Global, sources: &[&[u8]]) -> Result<Option<Placed>, 
     let Some(Placed { files, bases }) = spelled_files(alloc, sources)? else {
         return Ok(None);
     };
+    let files = joined_files(alloc, chosen_files(alloc, files)?)?;
+    Ok(Some(Placed { files, bases }))
+}
+
+/// Files without conditions. Where they stand for none they are themselves, in which each literal has the fields alone that are there under no
+/// condition.
+fn chosen_files(alloc: Global, files: Vec<File>) -> Result<Vec<File>, AllocError> {
+    if !have_conditions(&files) {
+        return Ok(files);
+    }
+    match without_conditions(alloc, &files) {
+        Ok(chosen) => Ok(chosen),
+        Err(ConditionFault::OutOfMemory) => Err(AllocError),
+        Err(ConditionFault::LeftOut { .. } | ConditionFault::MayBeAbsent { .. }) => Ok(files),
+    }
+}
+
+/// Files without embeddings. Where they stand for none they are themselves, in which each literal has its own fields alone.
+fn joined_files(alloc: Global, files: Vec<File>) -> Result<Vec<File>, AllocError> {
     match without_embeddings(alloc, &files) {
-        Ok(files) => Ok(Some(Placed { files, bases })),
+        Ok(joined) => Ok(joined),
         Err(EmbeddingFault::OutOfMemory) => Err(AllocError),
-        // They stand for none: these themselves, in which each literal has its own fields alone.
         Err(
             EmbeddingFault::UnknownName { .. }
             | EmbeddingFault::NoStruct { .. }
             | EmbeddingFault::Reopened { .. }
             | EmbeddingFault::TooHigh { .. }
             | EmbeddingFault::TooLarge,
-        ) => Ok(Some(Placed { files, bases })),
+        ) => Ok(files),
     }
 }
 
@@ -167,5 +186,21 @@ fn shift_declaration(declaration: &mut Declaration, base: usize) {
             add(at, base);
             shift(value, base);
         }
+        Declaration::Conditional {
+            at,
+            conditions,
+            value,
+        } => {
+            add(at, base);
+            shift_conditions(conditions, base);
+            shift(value, base);
+        }
+    }
+}
+
+/// Adds a number to the offset of each condition.
+fn shift_conditions(conditions: &mut Vec<Condition>, base: usize) {
+    for condition in conditions.iter_mut() {
+        add(&mut condition.at, base);
     }
 }

@@ -1,12 +1,13 @@
 -- The words of a file nest no deeper than its bodies are high.
 use Rattle.std.proofs.Common.{◌≡◌, ℕ, zero, suc, ◌+◌, ◌≤◌, ℤ, List, [], ◌∷◌, Bool, true, false, Option, Some, None, refl, sym, ap, subst, ◌∙◌, arith}
-use Rattle.std.specs.Prelude.{max, ◌||◌}
+use Rattle.std.specs.Prelude.{max, length, ◌||◌}
 use Rattle.std.specs.Option.{option_map}
 use Rattle.cs_grammar.specs.declared.ast.FieldMark.{FieldMark}
 use Rattle.cs_grammar.specs.Words.{Word, Words, name, quoted, open_list, close_list, comma, nl, colon, finish}
+use Rattle.cs_grammar.specs.Atom.{Atom}
 use Rattle.cs_grammar.specs.Tree as T
-use Rattle.cs_grammar.specs.Tree.{Label, Tree, Declarations, no_declaration, declared, embedded, Trees, none, more, Fields, no_field, field, End, DefinitionTree, body, FileTree, definitions}
-use Rattle.cs_grammar.specs.Spells.{is_string, fields_alone, literal_if, Comma, explicit, inserted, ClosesParen, paren_here, paren_after, ClosesList, list_here, list_after, ClosesStruct, struct_here, struct_after, SpellsNumber, positive, negative, SpellsBound, limit_is, other_number, other_text, other_null, SpellsLabel, bare_label, quoted_label, SpellsMark, regular, optional, required, SpellsOpening, unopened, opened, SpellsValue, long, short, SpellsField, labelled, every_key, SpellsExpr, one_branch, disjunction_is, SpellsBars, no_bar, a_bar, SpellsBranch, unmarked, marked_is, SpellsConj, one_operand, conjunction_is, SpellsAmps, no_amp, an_amp, SpellsOperand, top_is, bottom_is, reference_is, name_is, number_is, text_is, bound_is, paren_is, struct_is, list_is, call_paren_is, shut_is, wide_struct_is, SpellsWideStruct, no_declarations, wide_dots_alone, some_declarations, SpellsDeclarations, a_field, an_embedding, SpellsMore, no_more, next_declaration, SpellsStruct, no_fields, dots_alone, fields, SpellsFields, no_more_fields, next_field, SpellsList, no_elements, rest_alone, elements, SpellsElements, no_more_elements, next_element, SpellsEnd, closed_is, rest_is, SpellsRest, any_is, each_is, SpellsDefinition, defined, SpellsDefinitions, no_definition, next_definition, SpellsPackage, no_clause, clause, SpellsFile, spelled}
+use Rattle.cs_grammar.specs.Tree.{Label, Test, Condition, Tree, Declarations, no_declaration, declared, embedded, conditional, Trees, none, more, Fields, no_field, field, End, DefinitionTree, body, FileTree, definitions}
+use Rattle.cs_grammar.specs.Spells.{is_string, fields_alone, literal_if, Comma, explicit, inserted, ClosesParen, paren_here, paren_after, ClosesList, list_here, list_after, ClosesStruct, struct_here, struct_after, SpellsNumber, positive, negative, SpellsBound, limit_is, other_number, other_text, other_null, SpellsLabel, bare_label, quoted_label, SpellsMark, regular, optional, required, SpellsOpening, unopened, opened, SpellsScalar, scalar_name, scalar_number, scalar_text, SpellsTest, is_true, equal_to, unequal_to, is_absent, is_present, related, SpellsCondition, asked_is, denied_is, SpellsConditions, last_condition, next_condition, SpellsValue, long, short, SpellsField, labelled, every_key, SpellsExpr, one_branch, disjunction_is, SpellsBars, no_bar, a_bar, SpellsBranch, unmarked, marked_is, SpellsConj, one_operand, conjunction_is, SpellsAmps, no_amp, an_amp, SpellsOperand, top_is, bottom_is, reference_is, name_is, number_is, text_is, bound_is, paren_is, struct_is, list_is, call_paren_is, shut_is, wide_struct_is, SpellsWideStruct, no_declarations, wide_dots_alone, some_declarations, SpellsDeclarations, a_field, an_embedding, a_conditional, SpellsMore, no_more, next_declaration, SpellsStruct, no_fields, dots_alone, fields, SpellsFields, no_more_fields, next_field, SpellsList, no_elements, rest_alone, elements, SpellsElements, no_more_elements, next_element, SpellsEnd, closed_is, rest_is, SpellsRest, any_is, each_is, SpellsDefinition, defined, SpellsDefinitions, no_definition, next_definition, SpellsPackage, no_clause, clause, SpellsFile, spelled}
 use Rattle.cs_grammar.specs.Height.{height, height_all, height_fields, height_declarations, height_end, height_definitions, file_height}
 use Rattle.cs_syntax.specs.Nesting.{OpenLevels, ends_with_chained_label, is_short, counted_if, behind, nesting_at, nesting_from, nesting}
 use Rattle.cs_syntax.proofs.NestingBounds.{max_left, max_right, max_both}
@@ -77,6 +78,29 @@ bound_low (other_number n) h f ws = pass _ h (number_low n h f _)
 bound_low other_text h f ws = pass _ h (pass _ h (f _))
 bound_low (other_null e) h f ws = pass _ h (pass _ h (f _))
 
+-- ---- conditions
+
+scalar_low : {k : ℕ} {a : Atom} {ts r : Words} {ns : OpenLevels} → SpellsScalar a ts r → nesting_at ns ≤ k → Low k ns r → Low k ns ts
+scalar_low (scalar_name is) h f ws = pass _ h (f _)
+scalar_low (scalar_number n) h f ws = number_low n h f ws
+scalar_low scalar_text h f ws = pass _ h (f _)
+
+test_low : {k : ℕ} {t : Test} {b : Bool} {ts r : Words} {ns : OpenLevels} → SpellsTest t b ts r → nesting_at ns ≤ k → Low k ns r → Low k ns ts
+test_low is_true h f ws = f ws
+test_low (equal_to s) h f ws = pass _ h (scalar_low s h f _)
+test_low (unequal_to s) h f ws = pass _ h (scalar_low s h f _)
+test_low is_absent h f ws = pass _ h (pass _ h (f _))
+test_low is_present h f ws = pass _ h (pass _ h (f _))
+test_low (related n) h f ws = pass _ h (number_low n h f _)
+
+condition_low : {k : ℕ} {c : Condition} {ts r : Words} {ns : OpenLevels} → SpellsCondition c ts r → nesting_at ns ≤ k → Low k ns r → Low k ns ts
+condition_low (asked_is is t) h f ws = pass _ h (test_low t h f _)
+condition_low (denied_is is) h f ws = pass _ h (pass _ h (f _))
+
+conditions_low : {k : ℕ} {cs : List Condition} {ts r : Words} {ns : OpenLevels} → SpellsConditions cs ts r → nesting_at ns ≤ k → Low k ns r → Low k ns ts
+conditions_low (last_condition is c) h f ws = pass _ h (condition_low c h f _)
+conditions_low (next_condition is c cs) h f ws = pass _ h (condition_low c h (conditions_low cs h f) _)
+
 -- ---- labels
 
 chained_name : (s : List ℕ) (p : ℕ) (ws : Words) → ends_with_chained_label (name s p ∷ ws) ≡ begins_colon ws
@@ -141,7 +165,7 @@ some_height (T.wide (T.marked o e)) = some_height e
 some_height (T.wide (T.merged o ds b)) = omega arith
 some_height (T.wide (T.shut o e)) = omega arith
 
--- the fields of declarations are as high as these, where none is an embedding
+-- the fields of declarations are as high as these, where each is a field
 abbrev IsHigh : ℕ → Option Fields → Type 0
 IsHigh n (Some fs) = height_fields fs ≡ n
 IsHigh n None = Unit {0}
@@ -154,6 +178,7 @@ high_alone : (ds : Declarations) → IsHigh (height_declarations ds) (fields_alo
 high_alone no_declaration = refl
 high_alone (declared l m e ds) = high_more l m e (height_declarations ds) (fields_alone ds) (high_alone ds)
 high_alone (embedded o e ds) = tt
+high_alone (conditional o cs e ds) = tt
 
 literal_height : (p : ℕ) (ds : Declarations) (b : Bool) (fs : Option Fields) → IsHigh (height_declarations ds) fs → height (literal_if p ds b fs) ≡ suc (height_declarations ds)
 literal_height p ds b (Some fs) h = ap suc h
@@ -240,6 +265,9 @@ mutual
       field_fresh v h (max_left (height e) _ le) k 0 ns low (more_deep vs h (max_right (height e) _ le) k ns low f) ws new
   declarations_deep (an_embedding {o} {e} at v vs) h le k ns low f ws new =
       expression_deep v h (max_left (height e) _ le) k 0 ns low (more_deep vs h (max_right (height e) _ le) k ns low f 0 (omega arith)) ws
+  declarations_deep (a_conditional {o} {cs} {e} at ks b v vs) h le k ns low f ws new =
+      let all : length cs + height e ≤ h = max_left (length cs + height e) _ le in
+      conditions_low ks (omega (arith, low)) (expression_deep v h (omega (arith, all)) k 0 ns low (more_deep vs h (max_right (length cs + height e) _ le) k ns low f 0 (omega arith))) ws
 
   more_deep : {ds : Declarations} {ts r : Words} → SpellsMore ds ts r → (h : ℕ) → height_declarations ds ≤ h → (k : ℕ) (ns : OpenLevels) → nesting_at (0 ∷ ns) + h ≤ k → AnyLow k ns r → AnyLow k ns ts
   more_deep no_more h le k ns low f = f

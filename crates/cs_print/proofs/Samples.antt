@@ -4,7 +4,7 @@ use Rattle.cs_grammar.specs.declared.ast.FieldMark.TheVariants.{Regular, Optiona
 use Rattle.cs_grammar.specs.Atom as A
 use Rattle.cs_grammar.specs.DefaultForms.{IsDefault}
 use Rattle.cs_grammar.specs.Spells.{every_label}
-use Rattle.cs_grammar.specs.Tree.{Tree, atom, named, reference, conjunction, disjunction, paren, struct, list, wide, marked, none, more, no_field, field, any, definition, FileTree, file}
+use Rattle.cs_grammar.specs.Tree.{written_label, Tree, atom, named, reference, conjunction, disjunction, paren, struct, list, wide, marked, none, more, no_field, field, any, definition, FileTree, file}
 use Rattle.cs_print.specs.Layout.{file_text}
 use Rattle.cs_print.specs.Printed.{unplaced, joined_file}
 use Rattle.cs_grammar.specs.Written.{by_itself, of_amp, IsWritten, IsWrittenLabel, IsWrittenFile}
@@ -49,10 +49,10 @@ no_literal : IsWritten by_itself (named (codes "null") 0) → ⊥
 no_literal w = let e = w.2 in cc
 
 -- as a label `if` is one, and a text that isn't a name has to stand in quotes
-word_label : IsWrittenLabel (record { text = codes "if"; quotes = false }) Required
+word_label : IsWrittenLabel (written_label (codes "if") false) Required
 word_label = λ e. refl
 
-quoted_label : IsWrittenLabel (record { text = codes "1a"; quotes = true }) Regular
+quoted_label : IsWrittenLabel (written_label (codes "1a") true) Regular
 quoted_label = λ e. absurd cc
 
 -- ---- files as one
@@ -65,7 +65,7 @@ abbrev plain_file : FileTree
 plain_file = file None (definition (codes "A") 1 (named (codes "int") 4) ∷ [])
 
 abbrev named_file : FileTree
-named_file = file (Some (codes "p")) (definition (codes "B") 12 (struct 15 (field (record { text = codes "a"; quotes = false }) Optional (reference (codes "A") 19) (field every_label (Every 23) (list (more none_of none) any) no_field)) true) ∷ [])
+named_file = file (Some (codes "p")) (definition (codes "B") 12 (struct 15 (field (written_label (codes "a") false) Optional (reference (codes "A") 19) (field every_label (Every 23) (list (more none_of none) any) no_field)) true) ∷ [])
 
 -- the clause is that of the first file that has one, and the definitions stay in their order
 layout : file_text (joined_file (plain_file ∷ named_file ∷ [])) ≡ codes "package p\n\n#A: int\n#B: {\n\ta?: #A\n\t[string]: [_|_, ...]\n\t...\n}\n"

@@ -22,9 +22,9 @@ use Rattle.cs_grammar.specs.Taken.{wide_lexeme, taken}
 use Rattle.cs_grammar.specs.TokenWords.{mark_kind, wide_kind, bare_name, word_of, word, words}
 use Rattle.cs_grammar.specs.Words as W
 use Rattle.cs_grammar.specs.Words.{Word, Words}
-use Rattle.cs_grammar.specs.Tree.{Label, Tree, atom, named, reference, conjunction, disjunction, paren, struct, list, wide, marked, merged, shut, Declarations, no_declaration, declared, embedded, Trees, Fields, field, End, DefinitionTree, FileTree}
-use Rattle.cs_grammar.specs.Spells.{is_null, is_reserved, literal_of, fields_alone, literal_if, Comma, explicit, inserted, ClosesParen, paren_here, paren_after, ClosesList, list_here, list_after, ClosesStruct, struct_here, struct_after, SpellsNumber, positive, negative, SpellsBound, limit_is, other_number, other_text, other_null, SpellsLabel, bare_label, quoted_label, SpellsMark, regular, optional, required, SpellsOpening, unopened, opened, SpellsValue, long, short, SpellsField, labelled, every_key, SpellsExpr, one_branch, disjunction_is, SpellsBars, no_bar, a_bar, SpellsBranch, unmarked, marked_is, SpellsConj, one_operand, conjunction_is, SpellsAmps, no_amp, an_amp, SpellsOperand, top_is, bottom_is, reference_is, name_is, number_is, text_is, bound_is, paren_is, struct_is, list_is, call_paren_is, shut_is, wide_struct_is, SpellsWideStruct, no_declarations, wide_dots_alone, some_declarations, SpellsDeclarations, a_field, an_embedding, SpellsMore, no_more, next_declaration, SpellsStruct, no_fields, dots_alone, fields, SpellsFields, no_more_fields, next_field, SpellsList, no_elements, rest_alone, elements, SpellsElements, no_more_elements, next_element, SpellsEnd, closed_is, rest_is, SpellsRest, any_is, each_is, SpellsDefinition, defined, SpellsDefinitions, no_definition, next_definition, SpellsPackage, no_clause, clause, SpellsFile, spelled}
-use Rattle.cs_grammar.specs.Written.{Place, by_itself, of_bar, of_amp, IsName, IsDefinitionName, IsTextOrName, IsWrittenLabel, IsWritten, AreWrittenDeclarations, AreWritten, AreWrittenFields, IsWrittenEnd, IsWrittenDefinition, IsWrittenClause, IsWrittenFile}
+use Rattle.cs_grammar.specs.Tree.{Label, Test, Condition, Tree, atom, named, reference, conjunction, disjunction, paren, struct, list, wide, marked, merged, shut, Declarations, no_declaration, declared, embedded, conditional, Trees, Fields, field, End, DefinitionTree, FileTree}
+use Rattle.cs_grammar.specs.Spells.{is_null, is_reserved, literal_of, fields_alone, literal_if, Comma, explicit, inserted, ClosesParen, paren_here, paren_after, ClosesList, list_here, list_after, ClosesStruct, struct_here, struct_after, SpellsNumber, positive, negative, SpellsBound, limit_is, other_number, other_text, other_null, SpellsLabel, bare_label, quoted_label, SpellsMark, regular, optional, required, SpellsOpening, unopened, opened, SpellsScalar, scalar_name, scalar_number, scalar_text, SpellsTest, is_true, equal_to, unequal_to, is_absent, is_present, related, SpellsCondition, asked_is, denied_is, SpellsConditions, last_condition, next_condition, SpellsValue, long, short, SpellsField, labelled, every_key, SpellsExpr, one_branch, disjunction_is, SpellsBars, no_bar, a_bar, SpellsBranch, unmarked, marked_is, SpellsConj, one_operand, conjunction_is, SpellsAmps, no_amp, an_amp, SpellsOperand, top_is, bottom_is, reference_is, name_is, number_is, text_is, bound_is, paren_is, struct_is, list_is, call_paren_is, shut_is, wide_struct_is, SpellsWideStruct, no_declarations, wide_dots_alone, some_declarations, SpellsDeclarations, a_field, an_embedding, a_conditional, SpellsMore, no_more, next_declaration, SpellsStruct, no_fields, dots_alone, fields, SpellsFields, no_more_fields, next_field, SpellsList, no_elements, rest_alone, elements, SpellsElements, no_more_elements, next_element, SpellsEnd, closed_is, rest_is, SpellsRest, any_is, each_is, SpellsDefinition, defined, SpellsDefinitions, no_definition, next_definition, SpellsPackage, no_clause, clause, SpellsFile, spelled}
+use Rattle.cs_grammar.specs.Written.{Place, by_itself, of_bar, of_amp, IsName, IsDefinitionName, IsTextOrName, IsWrittenLabel, IsWrittenAtom, IsWrittenTest, IsWrittenCondition, IsWritten, AreWrittenDeclarations, AreWritten, AreWrittenFields, IsWrittenEnd, IsWrittenDefinition, IsWrittenClause, IsWrittenFile}
 use Rattle.cs_print.proofs.Tokens.{clash}
 
 -- ---- words of tokens
@@ -40,30 +40,31 @@ AreGood ws = AllByRecursion Good ws
 
 -- no mark is a name
 mark_good : (t : List ℕ) (o : ℕ) → Good (word_of (mark_kind t) t o)
-mark_good t o = by (bytes_eq t (codes "{")) (bytes_eq t (codes "}")) (bytes_eq t (codes "[")) (bytes_eq t (codes "]")) (bytes_eq t (codes "(")) (bytes_eq t (codes ")")) (bytes_eq t (codes ",")) (bytes_eq t (codes ":")) (bytes_eq t (codes "?")) (bytes_eq t (codes "!")) (bytes_eq t (codes "&")) (bytes_eq t (codes "|")) (bytes_eq t (codes "...")) (bytes_eq t (codes "<")) (bytes_eq t (codes "<=")) (bytes_eq t (codes ">")) (bytes_eq t (codes ">=")) (bytes_eq t (codes "!=")) (bytes_eq t (codes "-")) (bytes_eq t (codes "*"))
+mark_good t o = by (bytes_eq t (codes "{")) (bytes_eq t (codes "}")) (bytes_eq t (codes "[")) (bytes_eq t (codes "]")) (bytes_eq t (codes "(")) (bytes_eq t (codes ")")) (bytes_eq t (codes ",")) (bytes_eq t (codes ":")) (bytes_eq t (codes "?")) (bytes_eq t (codes "!")) (bytes_eq t (codes "&")) (bytes_eq t (codes "|")) (bytes_eq t (codes "...")) (bytes_eq t (codes "<")) (bytes_eq t (codes "<=")) (bytes_eq t (codes ">")) (bytes_eq t (codes ">=")) (bytes_eq t (codes "!=")) (bytes_eq t (codes "-")) (bytes_eq t (codes "*")) (bytes_eq t (codes "=="))
   where
-    by : (b0 b1 b2 b3 b4 b5 b6 b7 b8 b9 b10 b11 b12 b13 b14 b15 b16 b17 b18 b19 : Bool) → Good (word_of (cond b0 kinds.OpenStruct (cond b1 kinds.CloseStruct (cond b2 kinds.OpenList (cond b3 kinds.CloseList (cond b4 kinds.OpenParen (cond b5 kinds.CloseParen (cond b6 kinds.Comma (cond b7 kinds.Colon (cond b8 kinds.Question (cond b9 kinds.Bang (cond b10 kinds.Amp (cond b11 kinds.Bar (cond b12 kinds.Dots (cond b13 kinds.Less (cond b14 kinds.AtMost (cond b15 kinds.More (cond b16 kinds.AtLeast (cond b17 kinds.Unequal (cond b18 kinds.Minus (cond b19 kinds.Star kinds.LeftOut)))))))))))))))))))) t o)
-    by true b1 b2 b3 b4 b5 b6 b7 b8 b9 b10 b11 b12 b13 b14 b15 b16 b17 b18 b19 = tt
-    by false true b2 b3 b4 b5 b6 b7 b8 b9 b10 b11 b12 b13 b14 b15 b16 b17 b18 b19 = tt
-    by false false true b3 b4 b5 b6 b7 b8 b9 b10 b11 b12 b13 b14 b15 b16 b17 b18 b19 = tt
-    by false false false true b4 b5 b6 b7 b8 b9 b10 b11 b12 b13 b14 b15 b16 b17 b18 b19 = tt
-    by false false false false true b5 b6 b7 b8 b9 b10 b11 b12 b13 b14 b15 b16 b17 b18 b19 = tt
-    by false false false false false true b6 b7 b8 b9 b10 b11 b12 b13 b14 b15 b16 b17 b18 b19 = tt
-    by false false false false false false true b7 b8 b9 b10 b11 b12 b13 b14 b15 b16 b17 b18 b19 = tt
-    by false false false false false false false true b8 b9 b10 b11 b12 b13 b14 b15 b16 b17 b18 b19 = tt
-    by false false false false false false false false true b9 b10 b11 b12 b13 b14 b15 b16 b17 b18 b19 = tt
-    by false false false false false false false false false true b10 b11 b12 b13 b14 b15 b16 b17 b18 b19 = tt
-    by false false false false false false false false false false true b11 b12 b13 b14 b15 b16 b17 b18 b19 = tt
-    by false false false false false false false false false false false true b12 b13 b14 b15 b16 b17 b18 b19 = tt
-    by false false false false false false false false false false false false true b13 b14 b15 b16 b17 b18 b19 = tt
-    by false false false false false false false false false false false false false true b14 b15 b16 b17 b18 b19 = tt
-    by false false false false false false false false false false false false false false true b15 b16 b17 b18 b19 = tt
-    by false false false false false false false false false false false false false false false true b16 b17 b18 b19 = tt
-    by false false false false false false false false false false false false false false false false true b17 b18 b19 = tt
-    by false false false false false false false false false false false false false false false false false true b18 b19 = tt
-    by false false false false false false false false false false false false false false false false false false true b19 = tt
-    by false false false false false false false false false false false false false false false false false false false true = tt
-    by false false false false false false false false false false false false false false false false false false false false = tt
+    by : (b0 b1 b2 b3 b4 b5 b6 b7 b8 b9 b10 b11 b12 b13 b14 b15 b16 b17 b18 b19 b20 : Bool) → Good (word_of (cond b0 kinds.OpenStruct (cond b1 kinds.CloseStruct (cond b2 kinds.OpenList (cond b3 kinds.CloseList (cond b4 kinds.OpenParen (cond b5 kinds.CloseParen (cond b6 kinds.Comma (cond b7 kinds.Colon (cond b8 kinds.Question (cond b9 kinds.Bang (cond b10 kinds.Amp (cond b11 kinds.Bar (cond b12 kinds.Dots (cond b13 kinds.Less (cond b14 kinds.AtMost (cond b15 kinds.More (cond b16 kinds.AtLeast (cond b17 kinds.Unequal (cond b18 kinds.Minus (cond b19 kinds.Star (cond b20 kinds.Equal kinds.LeftOut))))))))))))))))))))) t o)
+    by true b1 b2 b3 b4 b5 b6 b7 b8 b9 b10 b11 b12 b13 b14 b15 b16 b17 b18 b19 b20 = tt
+    by false true b2 b3 b4 b5 b6 b7 b8 b9 b10 b11 b12 b13 b14 b15 b16 b17 b18 b19 b20 = tt
+    by false false true b3 b4 b5 b6 b7 b8 b9 b10 b11 b12 b13 b14 b15 b16 b17 b18 b19 b20 = tt
+    by false false false true b4 b5 b6 b7 b8 b9 b10 b11 b12 b13 b14 b15 b16 b17 b18 b19 b20 = tt
+    by false false false false true b5 b6 b7 b8 b9 b10 b11 b12 b13 b14 b15 b16 b17 b18 b19 b20 = tt
+    by false false false false false true b6 b7 b8 b9 b10 b11 b12 b13 b14 b15 b16 b17 b18 b19 b20 = tt
+    by false false false false false false true b7 b8 b9 b10 b11 b12 b13 b14 b15 b16 b17 b18 b19 b20 = tt
+    by false false false false false false false true b8 b9 b10 b11 b12 b13 b14 b15 b16 b17 b18 b19 b20 = tt
+    by false false false false false false false false true b9 b10 b11 b12 b13 b14 b15 b16 b17 b18 b19 b20 = tt
+    by false false false false false false false false false true b10 b11 b12 b13 b14 b15 b16 b17 b18 b19 b20 = tt
+    by false false false false false false false false false false true b11 b12 b13 b14 b15 b16 b17 b18 b19 b20 = tt
+    by false false false false false false false false false false false true b12 b13 b14 b15 b16 b17 b18 b19 b20 = tt
+    by false false false false false false false false false false false false true b13 b14 b15 b16 b17 b18 b19 b20 = tt
+    by false false false false false false false false false false false false false true b14 b15 b16 b17 b18 b19 b20 = tt
+    by false false false false false false false false false false false false false false true b15 b16 b17 b18 b19 b20 = tt
+    by false false false false false false false false false false false false false false false true b16 b17 b18 b19 b20 = tt
+    by false false false false false false false false false false false false false false false false true b17 b18 b19 b20 = tt
+    by false false false false false false false false false false false false false false false false false true b18 b19 b20 = tt
+    by false false false false false false false false false false false false false false false false false false true b19 b20 = tt
+    by false false false false false false false false false false false false false false false false false false false true b20 = tt
+    by false false false false false false false false false false false false false false false false false false false false true = tt
+    by false false false false false false false false false false false false false false false false false false false false false = tt
 
 brace_good : (t : List ℕ) (o : ℕ) → Good (word_of (wide_kind t) t o)
 brace_good t o = by (bytes_eq t (codes "{")) (bytes_eq t (codes "("))
@@ -158,9 +159,10 @@ words_good (token {n} {o} {s} {bs} {l} {ks} h k) = (word_good s _ o h.token.spel
 words_good (finish {o} {l}) = comma_good l o _ (tt, tt)
 
 -- a mark that a profile takes is no name either
-star_good : (b : Bool) (t : List ℕ) (o : ℕ) → Good (word (lexeme (cond b sorts.Mark sorts.LeftOut) t o))
-star_good true t o = mark_good t o
-star_good false t o = tt
+star_good : (a b : Bool) (t : List ℕ) (o : ℕ) → Good (word (lexeme (cond a sorts.Mark (cond b sorts.Mark sorts.LeftOut)) t o))
+star_good true b t o = mark_good t o
+star_good false true t o = mark_good t o
+star_good false false t o = tt
 
 open_good : (a b : Bool) (t : List ℕ) (o : ℕ) → Good (word (lexeme (cond a sorts.Wide (cond b sorts.Wide sorts.Mark)) t o))
 open_good true b t o = brace_good t o
@@ -168,7 +170,7 @@ open_good false true t o = brace_good t o
 open_good false false t o = mark_good t o
 
 wide_good : (k : Lexeme) → Good (word k) → Good (word (wide_lexeme k))
-wide_good (lexeme sorts.LeftOut t o) h = star_good (bytes_eq t (codes "*")) t o
+wide_good (lexeme sorts.LeftOut t o) h = star_good (bytes_eq t (codes "*")) (bytes_eq t (codes "==")) t o
 wide_good (lexeme sorts.Name t o) h = h
 wide_good (lexeme sorts.Definition t o) h = h
 wide_good (lexeme sorts.Hidden t o) h = h
@@ -274,7 +276,44 @@ opening_left : {b : Bool} {ws us : Words} → SpellsOpening b ws us → AreGood 
 opening_left (unopened c) g = struct_left c g
 opening_left (opened d c) g = struct_left c (comma_left d g).1
 
--- the fields of declarations, where none is an embedding
+-- ---- conditions
+
+literal_atom : (s : List ℕ) (a : A.Atom) → literal_of s ≡ Some (atom a) → IsWrittenAtom a
+literal_atom s a = by (is_null s) (bytes_eq s (codes "true")) (bytes_eq s (codes "false"))
+  where
+    by : (n t f : Bool) → cond n (Some (atom A.null)) (cond t (Some (atom (A.boolean true))) (cond f (Some (atom (A.boolean false))) None)) ≡ Some (atom a) → IsWrittenAtom a
+    by true t f h = let k : a ≡ A.null = cc in rw k tt
+    by false true f h = let k : a ≡ A.boolean true = cc in rw k tt
+    by false false true h = let k : a ≡ A.boolean false = cc in rw k tt
+    by false false false h = absurd cc
+
+scalar_left : {a : A.Atom} {ws us : Words} → SpellsScalar a ws us → AreGood ws → IsWrittenAtom a × AreGood us
+scalar_left (scalar_name {s} {a} is) g = (literal_atom s a is, g.1)
+scalar_left (scalar_number n) g = number_left n g
+scalar_left scalar_text g = (tt, g.1)
+
+test_left : {t : Test} {b : Bool} {ws us : Words} → SpellsTest t b ws us → AreGood ws → IsWrittenTest t × AreGood us
+test_left is_true g = (tt, g)
+test_left (equal_to s) g = scalar_left s g.1
+test_left (unequal_to s) g = scalar_left s g.1
+test_left is_absent g = (tt, g.1.1)
+test_left is_present g = (tt, g.1.1)
+test_left (related n) g = number_left n g.1
+
+condition_left : {c : Condition} {ws us : Words} → SpellsCondition c ws us → AreGood ws → IsWrittenCondition c × AreGood us
+condition_left (asked_is is t) g = let a = test_left t g.1 in ((g.0, a.0), a.1)
+condition_left (denied_is is) g = ((g.1.0, tt), g.1.1)
+
+conditions_left : {cs : List Condition} {ws us : Words} → SpellsConditions cs ws us → AreGood ws → AllByRecursion IsWrittenCondition cs × AreGood us
+conditions_left (last_condition is c) g = let a = condition_left c g.1 in ((a.0, tt), a.1)
+conditions_left (next_condition is c cs) g =
+    let a = condition_left c g.1 in
+    let b = conditions_left cs a.1 in
+    ((a.0, b.0), b.1)
+
+-- ---- literals
+
+-- the fields of declarations, where each is a field
 abbrev AreWrittenAlone : Option Fields → Type 0
 AreWrittenAlone (Some fs) = AreWrittenFields fs
 AreWrittenAlone None = Unit {0}
@@ -287,6 +326,7 @@ written_alone : (ds : Declarations) → AreWrittenDeclarations ds → AreWritten
 written_alone no_declaration w = tt
 written_alone (declared l m e ds) w = written_more l m e (fields_alone ds) w.0 w.1 (written_alone ds w.2)
 written_alone (embedded o e ds) w = tt
+written_alone (conditional o cs e ds) w = tt
 
 literal_written : (p : ℕ) (ds : Declarations) (b : Bool) (fs : Option Fields) → AreWrittenDeclarations ds → AreWrittenAlone fs → IsWritten of_amp (literal_if p ds b fs)
 literal_written p ds b (Some fs) w k = k
@@ -367,6 +407,11 @@ mutual
       let a = expression_left k g in
       let b = more_left ks a.1 in
       ((a.0, b.0), b.1)
+  declarations_left (a_conditional at cs braced k ks) g =
+      let c = conditions_left cs g in
+      let a = expression_left k c.1 in
+      let b = more_left ks a.1 in
+      ((c.0, a.0, b.0), b.1)
 
   more_left : {ds : Declarations} {ws us : Words} → SpellsMore ds ws us → AreGood ws → AreWrittenDeclarations ds × AreGood us
   more_left no_more g = (tt, g)

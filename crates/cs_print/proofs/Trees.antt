@@ -14,7 +14,7 @@ use Rattle.cs_grammar.specs.Atom as A
 use Rattle.cs_grammar.specs.Atom.{Atom, Relation}
 use Rattle.cs_grammar.specs.Words as W
 use Rattle.cs_grammar.specs.Words.{Words}
-use Rattle.cs_grammar.specs.Tree.{Label, Tree, atom, named, reference, conjunction, disjunction, paren, struct, list, wide, Trees, none, more, Fields, no_field, field, End, closed, any, each}
+use Rattle.cs_grammar.specs.Tree.{Label, written_label, Tree, atom, named, reference, conjunction, disjunction, paren, struct, list, wide, Trees, none, more, Fields, no_field, field, End, closed, any, each}
 use Rattle.cs_grammar.specs.Spells.{is_reserved, literal_of, inserted, ClosesParen, paren_here, ClosesList, list_here, ClosesStruct, struct_here, struct_after, SpellsNumber, limit_is, other_number, other_text, other_null, SpellsLabel, bare_label, quoted_label, SpellsMark, regular, optional, required, SpellsOpening, unopened, opened, SpellsValue, long, SpellsField, labelled, every_key, SpellsExpr, one_branch, disjunction_is, SpellsBars, no_bar, a_bar, unmarked, SpellsConj, one_operand, conjunction_is, SpellsAmps, no_amp, an_amp, SpellsOperand, top_is, bottom_is, reference_is, name_is, number_is, text_is, bound_is, paren_is, struct_is, list_is, SpellsStruct, no_fields, dots_alone, fields, SpellsFields, no_more_fields, next_field, SpellsList, no_elements, rest_alone, elements, SpellsElements, no_more_elements, next_element, SpellsEnd, closed_is, rest_is, any_is, each_is}
 use Rattle.cs_grammar.specs.DefaultForms.{IsDefault, AreDefault, AreDefaultFields, IsDefaultEnd}
 use Rattle.cs_grammar.specs.Written.{Place, by_itself, of_bar, of_amp, IsName, IsDefinitionName, IsWrittenAtom, IsWrittenLabel, AreTwo, TakesAmps, TakesBars, IsWritten, AreWritten, AreWrittenFields, IsWrittenEnd}
@@ -156,9 +156,9 @@ pub record Headed (l : Label) (m : FieldMark) (ws us : Words) : Type 0 where
   pub spells : (e : Tree) (r : Words) → SpellsValue e us r → SpellsField l mark e ws r
 
 -- a label that is a name or a text
-named_label : (s : List ℕ) (b : Bool) → (b ≡ false → IsName s) → IsUtf8 s → Front a_stop (cond b (quoted s) s) Plain WantsComma (SpellsLabel (record { text = s; quotes = b }))
-named_label s true name h = read (SpellsLabel (record { text = s; quotes = true })) (λ ws us k. rw k.1 quoted_label) (quoted_front s h)
-named_label s false name h = read (SpellsLabel (record { text = s; quotes = false })) (λ ws us k. rw k.1 bare_label) (name_front s (name refl))
+named_label : (s : List ℕ) (b : Bool) → (b ≡ false → IsName s) → IsUtf8 s → Front a_stop (cond b (quoted s) s) Plain WantsComma (SpellsLabel (written_label s b))
+named_label s true name h = read (SpellsLabel (written_label s true)) (λ ws us k. rw k.1 quoted_label) (quoted_front s h)
+named_label s false name h = read (SpellsLabel (written_label s false)) (λ ws us k. rw k.1 bare_label) (name_front s (name refl))
 
 pub colon_text : Front nothing (codes ": ") WantsComma Plain (One W.colon)
 colon_text = read (One W.colon) (λ ws us k. (k.1.0, rw k.1.1 (rw k.2 refl))) (behind {xs = 58 ∷ []} {ys = 32 ∷ []} (λ rest ok. tt) colon_front (space_front 32 refl))
@@ -172,14 +172,18 @@ bang_text = read (SpellsMark Required) (λ ws us k. rw (k.1.1, k.2.1) required) 
     colon_plain : Front nothing (codes ": ") Plain Plain (One W.colon)
     colon_plain = read (One W.colon) (λ ws us k. (k.1.0, rw k.1.1 (rw k.2 refl))) (behind {xs = 58 ∷ []} {ys = 32 ∷ []} (λ rest ok. tt) colon_front (space_front 32 refl))
 
-head_front : (l : Label) (m : FieldMark) → IsWrittenLabel l m → IsUtf8 l.text → Front nothing (head_text l m) Plain Plain (Headed l m)
-head_front l Regular name h = read (Headed l Regular) (λ ws us k. record { mark = Regular; same = refl; spells = λ e r v. labelled k.1 (rw k.2.1 regular) v })
+-- a label that no condition asked for
+as_written : (l : Label) {ws us : Words} → l.asked ≡ false → SpellsLabel (written_label l.text l.quotes) ws us → SpellsLabel l ws us
+as_written l {ws} {us} h k = subst (λ b. SpellsLabel (record { text = l.text; quotes = l.quotes; asked = b }) ws us) (sym h) k
+
+head_front : (l : Label) (m : FieldMark) → IsWrittenLabel l m → l.asked ≡ false → IsUtf8 l.text → Front nothing (head_text l.text l.quotes m) Plain Plain (Headed l m)
+head_front l Regular name a h = read (Headed l Regular) (λ ws us k. record { mark = Regular; same = refl; spells = λ e r v. labelled (as_written l a k.1) (rw k.2.1 regular) v })
     (behind (λ rest ok. refl) (named_label l.text l.quotes name h) colon_text)
-head_front l Optional name h = read (Headed l Optional) (λ ws us k. record { mark = Optional; same = refl; spells = λ e r v. labelled k.1 k.2 v })
+head_front l Optional name a h = read (Headed l Optional) (λ ws us k. record { mark = Optional; same = refl; spells = λ e r v. labelled (as_written l a k.1) k.2 v })
     (behind (λ rest ok. refl) (named_label l.text l.quotes name h) question_text)
-head_front l Required name h = read (Headed l Required) (λ ws us k. record { mark = Required; same = refl; spells = λ e r v. labelled k.1 k.2 v })
+head_front l Required name a h = read (Headed l Required) (λ ws us k. record { mark = Required; same = refl; spells = λ e r v. labelled (as_written l a k.1) k.2 v })
     (behind (λ rest ok. refl) (named_label l.text l.quotes name h) bang_text)
-head_front l (Every o) is h = read (Headed l (Every o)) (λ ws us k. record {
+head_front l (Every o) is a h = read (Headed l (Every o)) (λ ws us k. record {
   mark = Every k.2.1.0;
   same = refl;
   spells = λ e r v.
@@ -203,7 +207,7 @@ inner_line (x ∷ xs) h = let p = and_parts (x == 10) (list_all (λ y. y == 9) x
 
 lines_stop : (line : List ℕ) → is_line line ≡ true → (fs : Fields) → Links a_stop a_stop (lines_text line fs)
 lines_stop line h no_field rest ok = ok
-lines_stop line h (field l m e fs) rest ok = subst (Follows a_stop) (sym (append_assoc line (head_text l m ++ (tree_text line e ++ lines_text line fs)) rest)) (line_stop line h ((head_text l m ++ (tree_text line e ++ lines_text line fs)) ++ rest))
+lines_stop line h (field l m e fs) rest ok = subst (Follows a_stop) (sym (append_assoc line (head_text l.text l.quotes m ++ (tree_text line e ++ lines_text line fs)) rest)) (line_stop line h ((head_text l.text l.quotes m ++ (tree_text line e ++ lines_text line fs)) ++ rest))
 
 -- the words of a field behind its line
 record SpeltField (l : Label) (m : FieldMark) (e : Tree) (ws us : Words) : Type 0 where
@@ -255,12 +259,12 @@ fields_made l m e fs b ws us k =
     let f = field_made l m e k.0 k.2.2.0 (k.2.0, k.2.1, k.2.2.1) in
     record { tree = field l f.mark f.tree k.2.2.2.1.tree; spelled = rw k.1 (fields f.spelled k.2.2.2.1.spelled k.2.2.2.2); same = rw (f.same_mark, f.same, k.2.2.2.1.same) refl }
 
-first_field : (line : List ℕ) → is_line line ≡ true → (b : Bool) (l : Label) (m : FieldMark) (e : Tree) (fs : Fields) → IsWrittenLabel l m → IsUtf8 l.text
+first_field : (line : List ℕ) → is_line line ≡ true → (b : Bool) (l : Label) (m : FieldMark) (e : Tree) (fs : Fields) → IsWrittenLabel l m → l.asked ≡ false → IsUtf8 l.text
     → Front a_stop (tree_text (inner line) e) Plain WantsComma (At by_itself e) → Front a_stop (lines_text (inner line) fs) WantsComma WantsComma (Spelt unplaced_fields SpellsFields fs)
     → Front nothing (lines_text (inner line) (field l m e fs) ++ closing_text line b false) Plain WantsComma (Then Same (Then (Headed l m) (Then (At by_itself e) (Then (Spelt unplaced_fields SpellsFields fs) (SpellsOpening b)))))
-first_field line h b l m e fs w x f g = read (Then Same (Then (Headed l m) (Then (At by_itself e) (Then (Spelt unplaced_fields SpellsFields fs) (SpellsOpening b)))))
+first_field line h b l m e fs w a x f g = read (Then Same (Then (Headed l m) (Then (At by_itself e) (Then (Spelt unplaced_fields SpellsFields fs) (SpellsOpening b)))))
     (λ ws us k. (k.1.0, k.1.1, (k.1.2.0, k.1.2.1, (k.1.2.2.0, k.1.2.2.1, (k.0, k.1.2.2.2, k.2)))))
-    (behind (closing_stop line h b l m e fs) (behind (λ rest ok. tt) (first_line_front (inner line) (inner_line line h)) (behind (λ rest ok. tt) (head_front l m w x) (behind (lines_stop (inner line) (inner_line line h) fs) f g))) (closing_front line h b l m e fs))
+    (behind (closing_stop line h b l m e fs) (behind (λ rest ok. tt) (first_line_front (inner line) (inner_line line h)) (behind (λ rest ok. tt) (head_front l m w a x) (behind (lines_stop (inner line) (inner_line line h) fs) f g))) (closing_front line h b l m e fs))
 
 struct_made : (p : Place) (o : ℕ) (fs : Fields) (b : Bool) (ws us : Words) → Then (One W.open_struct) (SpeltStruct fs b) ws us → At p (struct o fs b) ws us
 unfolding SpeltStruct
@@ -386,8 +390,8 @@ mutual
 
   struct_front : (line : List ℕ) → is_line line ≡ true → (b : Bool) (fs : Fields) → AreWrittenFields fs → AreDefaultFields fs → FieldsHaveTexts fs → Front nothing (lines_text (inner line) fs ++ closing_text line b (is_no_field fs)) Plain WantsComma (SpeltStruct fs b)
   struct_front line h b no_field w d x = empty_struct line b
-  struct_front line h b (field l m e fs) w d x = read (SpeltStruct (field l m e fs) b) (fields_made l m e fs b) (first_field line h b l m e fs w.0 x.0 (tree_front (inner line) (inner_line line h) Plain tt by_itself e w.1 d.0 x.1) (fields_front (inner line) (inner_line line h) fs w.2 d.1 x.2))
+  struct_front line h b (field l m e fs) w d x = read (SpeltStruct (field l m e fs) b) (fields_made l m e fs b) (first_field line h b l m e fs w.0 d.0 x.0 (tree_front (inner line) (inner_line line h) Plain tt by_itself e w.1 d.1 x.1) (fields_front (inner line) (inner_line line h) fs w.2 d.2 x.2))
 
   fields_front : (line : List ℕ) → is_line line ≡ true → (fs : Fields) → AreWrittenFields fs → AreDefaultFields fs → FieldsHaveTexts fs → Front a_stop (lines_text line fs) WantsComma WantsComma (Spelt unplaced_fields SpellsFields fs)
   fields_front line h no_field w d x = read (Spelt unplaced_fields SpellsFields no_field) no_fields_left empty
-  fields_front line h (field l m e fs) w d x = read (Spelt unplaced_fields SpellsFields (field l m e fs)) (more_fields l m e fs) (behind (λ rest ok. tt) (line_front line h) (behind (λ rest ok. tt) (head_front l m w.0 x.0) (behind (lines_stop line h fs) (tree_front line h Plain tt by_itself e w.1 d.0 x.1) (fields_front line h fs w.2 d.1 x.2))))
+  fields_front line h (field l m e fs) w d x = read (Spelt unplaced_fields SpellsFields (field l m e fs)) (more_fields l m e fs) (behind (λ rest ok. tt) (line_front line h) (behind (λ rest ok. tt) (head_front l m w.0 d.0 x.0) (behind (lines_stop line h fs) (tree_front line h Plain tt by_itself e w.1 d.1 x.1) (fields_front line h fs w.2 d.2 x.2))))

@@ -7,7 +7,7 @@ use Rattle.cs_grammar.specs.declared.ast.FieldMark.{FieldMark}
 use Rattle.cs_grammar.specs.declared.ast.FieldMark.TheVariants.{Regular, Optional, Required, Every}
 use Rattle.cs_grammar.specs.Atom.{Atom, top, bottom, null, boolean, integer, text, bound, not_integer, not_text, not_null, Relation, less, at_most, more, at_least}
 use Rattle.cs_grammar.specs.Tree as T
-use Rattle.cs_grammar.specs.Tree.{Label, Tree, atom, named, reference, conjunction, disjunction, paren, struct, list, wide, Trees, Fields, no_field, field, End, closed, any, each, DefinitionTree, definition, definitions, package_name, FileTree}
+use Rattle.cs_grammar.specs.Tree.{Tree, atom, named, reference, conjunction, disjunction, paren, struct, list, wide, Trees, Fields, no_field, field, End, closed, any, each, DefinitionTree, definition, definitions, package_name, FileTree}
 
 abbrev pub relation_text : Relation → List ℕ
 relation_text less = codes "<"
@@ -37,14 +37,14 @@ atom_text (not_text s) = codes "!=" ++ quoted s
 atom_text not_null = codes "!=null"
 
 -- a label, its mark, and the colon
-abbrev pub label_text : Label → List ℕ
-label_text l = if l.quotes then quoted l.text else l.text
+abbrev pub label_text : List ℕ → Bool → List ℕ
+label_text s quotes = if quotes then quoted s else s
 
-abbrev pub head_text : Label → FieldMark → List ℕ
-head_text l Regular = label_text l ++ codes ": "
-head_text l Optional = label_text l ++ codes "?: "
-head_text l Required = label_text l ++ codes "!: "
-head_text l (Every o) = codes "[string]: "
+abbrev pub head_text : List ℕ → Bool → FieldMark → List ℕ
+head_text s quotes Regular = label_text s quotes ++ codes ": "
+head_text s quotes Optional = label_text s quotes ++ codes "?: "
+head_text s quotes Required = label_text s quotes ++ codes "!: "
+head_text s quotes (Every o) = codes "[string]: "
 
 -- the line inside a struct
 abbrev pub inner : List ℕ → List ℕ
@@ -100,7 +100,7 @@ abbrev mutual
   -- each field behind the end of the line before
   pub lines_text : List ℕ → Fields → List ℕ
   lines_text line no_field = []
-  lines_text line (field l m e fs) = line ++ (head_text l m ++ (tree_text line e ++ lines_text line fs))
+  lines_text line (field l m e fs) = line ++ (head_text l.text l.quotes m ++ (tree_text line e ++ lines_text line fs))
 
 abbrev pub definition_text : DefinitionTree → List ℕ
 definition_text (definition s o e) = codes "#" ++ (s ++ (codes ": " ++ (tree_text (codes "\n") e ++ codes "\n")))

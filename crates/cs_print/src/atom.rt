@@ -1,7 +1,7 @@
 // Expressions without parts.
 ghost use Rattle.std.specs.Prelude.{◌≡◌, ◌++◌, codes, OnOk, string_bytes};
 ghost use Rattle.std.specs.Fmt.{signed_decimal};
-ghost use Rattle.cs_grammar.specs.View.{relation_of, label_of};
+ghost use Rattle.cs_grammar.specs.View.{relation_of};
 ghost use Rattle.cs_print.specs.Layout.{relation_text, limit_text, truth_text, head_text};
 
 use cs_grammar::{FieldMark, Relation};
@@ -56,7 +56,7 @@ pub(crate) fn put_head(
     mark: FieldMark,
 ) -> Result<(), AllocError>
     ensures { OnOk result (string_bytes out.new
-        ≡ string_bytes out.old ++ head_text (label_of label.now quoted) mark) }
+        ≡ string_bytes out.old ++ head_text label.now quoted mark) }
 {
     let behind = match mark {
         FieldMark::Regular => ": ",

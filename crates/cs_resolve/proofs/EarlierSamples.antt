@@ -1,6 +1,6 @@
 -- Samples of what the first edition took for a package. A wrong expectation stops the check here.
 use Rattle.std.proofs.Common.{◌≡◌, ℕ, Bool, true, false, List, [], ◌∷◌, length, get_or, Some, None, codes, inl, inr, refl, ap, arith}
-use Rattle.cs_grammar.specs.Tree.{Tree, named, reference, conjunction, struct, Trees, none, more, no_field, field, DefinitionTree, definition, FileTree, file}
+use Rattle.cs_grammar.specs.Tree.{written_label, Tree, named, reference, conjunction, struct, Trees, none, more, no_field, field, DefinitionTree, definition, FileTree, file}
 use Rattle.cs_grammar.specs.declared.ast.FieldMark.TheVariants.{Regular}
 use Rattle.cs_package.specs.Environment.{Environment}
 use Rattle.cs_package.specs.Expression as cue
@@ -17,7 +17,7 @@ use Rattle.cs_resolve.proofs.OnePackage.{one_package}
 
 -- `{k: int}` at an offset, and whether it ends with `...`; the same resolved
 abbrev literal : ℕ → Bool → Tree
-literal o opened = struct o (field (record { text = codes "k"; quotes = false }) Regular (named (codes "int") 0) no_field) opened
+literal o opened = struct o (field (written_label (codes "k") false) Regular (named (codes "int") 0) no_field) opened
 
 abbrev k_int : Bool → Expression
 k_int opened = cue.struct (cue.declaration (codes "k") cue.regular (cue.kind cue.int) cue.no_declarations) opened

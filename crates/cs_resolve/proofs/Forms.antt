@@ -1,6 +1,6 @@
 -- Samples of every form of tree and of every limit, worked by the definitions. A wrong expectation stops the check here.
 use Rattle.std.proofs.Common.{◌≡◌, ℕ, ◌-◌, ◌^◌, true, false, List, [], ◌∷◌, map, Option, Some, None, pos, neg_ℤ, codes, inl, inr, refl, arith}
-use Rattle.cs_grammar.specs.Tree.{Label, Tree, atom, named, reference, conjunction, disjunction, paren, struct, list, wide, marked, none, more, no_field, field, closed, any, each, DefinitionTree, definition, FileTree, file}
+use Rattle.cs_grammar.specs.Tree.{Label, written_label, Tree, atom, named, reference, conjunction, disjunction, paren, struct, list, wide, marked, none, more, no_field, field, closed, any, each, DefinitionTree, definition, FileTree, file}
 use Rattle.cs_grammar.specs.Atom as atoms
 use Rattle.cs_grammar.specs.Atom.{top, bottom, null, boolean, integer, text, bound, not_integer, not_text, not_null}
 use Rattle.cs_grammar.specs.declared.ast.FieldMark.TheVariants.{Regular, Optional, Required}
@@ -22,13 +22,13 @@ use Rattle.cs_resolve.proofs.Refined.{unopened_of}
 -- ---- short forms
 
 abbrev a : Label
-a = record { text = codes "a"; quotes = false }
+a = written_label (codes "a") false
 
 abbrev b : Label
-b = record { text = codes "b"; quotes = false }
+b = written_label (codes "b") false
 
 abbrev quoted_a : Label
-quoted_a = record { text = codes "a"; quotes = true }
+quoted_a = written_label (codes "a") true
 
 -- the forms that have no expression inside, in the order of the grammar
 abbrev leaves : List Tree

@@ -1,15 +1,15 @@
 -- Samples of closed bases and plain refinements, worked by the definitions.
 use Rattle.std.proofs.Common.{◌≡◌, ℕ, Bool, true, false, List, [], ◌∷◌, Option, Some, None, pos, codes, refl}
-use Rattle.cs_grammar.specs.Tree.{Label, Tree, atom, named, reference, conjunction, paren, struct, Trees, none, more, Fields, no_field, field, DefinitionTree, definition}
+use Rattle.cs_grammar.specs.Tree.{Label, written_label, Tree, atom, named, reference, conjunction, paren, struct, Trees, none, more, Fields, no_field, field, DefinitionTree, definition}
 use Rattle.cs_grammar.specs.Atom.{integer}
 use Rattle.cs_grammar.specs.declared.ast.FieldMark.TheVariants.{Regular, Every}
 use Rattle.cs_resolve.specs.ClosedBases.{bases, is_refinement}
 
 abbrev plain : List ℕ → Label
-plain t = record { text = t; quotes = false }
+plain t = written_label t false
 
 abbrev quoted : List ℕ → Label
-quoted t = record { text = t; quotes = true }
+quoted t = written_label t true
 
 -- `{k: 1}` under a label
 abbrev one : Label → Tree

@@ -1,7 +1,7 @@
 -- Samples of plain refinement in the opening rule and in what is resolved. A wrong expectation stops the check here.
 use Rattle.std.proofs.Common.{◌≡◌, ℕ, Bool, true, false, List, [], ◌∷◌, None, pos, codes, refl}
 use Rattle.std.specs.List.{flat_map}
-use Rattle.cs_grammar.specs.Tree.{Label, Tree, atom, named, reference, conjunction, paren, struct, list, none, more, Fields, no_field, field, each, DefinitionTree, definition, FileTree, file, definitions}
+use Rattle.cs_grammar.specs.Tree.{Label, written_label, Tree, atom, named, reference, conjunction, paren, struct, list, none, more, Fields, no_field, field, each, DefinitionTree, definition, FileTree, file, definitions}
 use Rattle.cs_grammar.specs.Atom.{integer, text, not_null}
 use Rattle.cs_grammar.specs.declared.ast.FieldMark.TheVariants.{Regular}
 use Rattle.cs_package.specs.Expression as cue
@@ -18,10 +18,10 @@ use Rattle.cs_resolve.specs.Resolved.{resolved, environment_of_files}
 -- ---- short forms
 
 abbrev k : Label
-k = record { text = codes "k"; quotes = false }
+k = written_label (codes "k") false
 
 abbrev z : Label
-z = record { text = codes "z"; quotes = false }
+z = written_label (codes "z") false
 
 -- `k: "x"`, and `k: 1`
 abbrev is_x : Fields

@@ -1,6 +1,6 @@
 -- Samples, worked by the definitions.
 use Rattle.std.proofs.Common.{◌≡◌, ℕ, true, false, List, [], ◌∷◌, pos, codes, refl}
-use Rattle.cs_grammar.specs.Tree.{Label, Tree, atom, named, reference, conjunction, paren, struct, none, more, Fields, no_field, field, definition, file}
+use Rattle.cs_grammar.specs.Tree.{Label, written_label, Tree, atom, named, reference, conjunction, paren, struct, none, more, Fields, no_field, field, definition, file}
 use Rattle.cs_grammar.specs.Atom as atoms
 use Rattle.cs_grammar.specs.Atom.{top, bottom, integer, bound}
 use Rattle.cs_grammar.specs.declared.ast.FieldMark.TheVariants.{Regular, Every}
@@ -18,10 +18,10 @@ use Rattle.std.proofs.Common.{Some, None}
 use Rattle.cs_resolve.proofs.Refined.{unopened_of}
 
 abbrev plain : List ℕ → Label
-plain t = record { text = t; quotes = false }
+plain t = written_label t false
 
 abbrev quoted : List ℕ → Label
-quoted t = record { text = t; quotes = true }
+quoted t = written_label t true
 
 -- `x: 1`
 abbrev one : List ℕ → Fields

@@ -5,6 +5,7 @@ use Rattle.std.specs.Str.{bytes_eq}
 use Rattle.cs_grammar.specs.declared.ast.FieldMark.{FieldMark}
 use Rattle.cs_grammar.specs.declared.ast.FieldMark.TheVariants.{Regular, Optional, Required, Every}
 use Rattle.cs_grammar.specs.Tree.{Tree, atom, named, reference, conjunction, disjunction, paren, struct, list, wide, Trees, none, more, Fields, no_field, field, DefinitionTree}
+pub use Rattle.cs_grammar.specs.Referred.{referred}
 use Rattle.cs_resolve.specs.Declarations.{bodies_of}
 use Rattle.cs_resolve.specs.Plain.{has_literal_or_reference}
 use Rattle.cs_resolve.specs.Scopes.{labels}
@@ -32,18 +33,6 @@ closed_literal (paren e) = closed_literal e
 closed_literal (struct o fs opened) = if opened || has_every_key fs then None else Some fs
 closed_literal (list es end) = None
 closed_literal (wide w) = None
-
--- the name of the definition that is referred to
-abbrev pub referred : Tree → Option (List ℕ)
-referred (atom a) = None
-referred (named n o) = None
-referred (reference n o) = Some n
-referred (conjunction es) = None
-referred (disjunction es) = None
-referred (paren e) = referred e
-referred (struct o fs opened) = None
-referred (list es end) = None
-referred (wide w) = None
 
 -- which definition is narrowed, and by which fields
 abbrev pub Narrowing : Type 0

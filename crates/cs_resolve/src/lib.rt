@@ -16,7 +16,6 @@ mod size;
 // The types of the package that `resolve` answers, for callers of this crate alone.
 pub use cs_package::{FieldMark, Kind, Package, Part, Relation, Shape, ShapeEnd};
 pub use fault::ResolveFault;
-pub use narrowing::referred;
 pub use offsets::offsets_law;
 pub use opening::opening_law;
 pub use refinement::refinement_law;

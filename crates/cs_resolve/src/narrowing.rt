@@ -7,7 +7,7 @@ ghost use Rattle.cs_resolve.specs.Refinement as Refinement;
 ghost use Rattle.cs_resolve.specs.Narrowed.{narrowing_view, HoldsTexts};
 
 use crate::plain::has_literal_or_reference;
-use cs_grammar::{Expr, Field, FieldMark};
+use cs_grammar::{Expr, Field, FieldMark, referred};
 use std::collections::BTreeSet;
 
 /// The labels of a struct literal.
@@ -50,19 +50,6 @@ pub(crate) fn closed_literal(expr: &Expr) -> Option<&Vec<Field>>
         }
         Expr::Paren(inner) => closed_literal(inner),
         // The others are no literals.
-        _ => None,
-    }
-}
-
-/// The name of the definition that an expression refers to, with its `#`, parentheses taken away; `None` of any other expression (CUE,
-/// "References").
-pub fn referred(expr: &Expr) -> Option<&str>
-    ensures { option_map (λ n. n.now) result ≡ Refinement.referred (expr_view expr.now) }
-{
-    match expr {
-        Expr::Reference { text, .. } => Some(text.as_str()),
-        Expr::Paren(inner) => referred(inner),
-        // The others are no references.
         _ => None,
     }
 }

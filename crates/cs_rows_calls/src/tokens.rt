@@ -47,8 +47,10 @@ const CONTROLS: &str = "#P \r; => Definition #P 0|Inserted  4|End  5|
 \tx// c\r#A => Name x 1|Inserted  2|End  9|
 \"\0\t\r\u{1}\u{7f}\" => Text \"\0\t\r\u{1}\u{7f}\" 0|Inserted  7|End  7|";
 
-/// Sources of the wide profile with attributes, and their tokens.
+/// Sources of the wide profile with attributes, or with `==`, and their tokens.
 const ATTRIBUTES: &str = r##"@go(A) => End  6|
+a == b = c => Name a 0|Mark == 2|Name b 5|LeftOut = 7|Name c 9|Inserted  10|End  10|
+a===1!==;b => Name a 0|Mark == 1|LeftOut = 3|Integer 1 4|Mark != 5|LeftOut = 7|Name b 9|Inserted  10|End  10|
 a @go(A), @protobuf(x,"y)") b => Name a 0|Mark , 8|Name b 28|Inserted  29|End  29|
 a @go(A);@x();b => Name a 0|Inserted  8|Name b 14|Inserted  15|End  15|
 a@b(c)d => Name a 0|Name d 6|Inserted  7|End  7|

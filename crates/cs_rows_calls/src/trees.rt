@@ -46,40 +46,49 @@ const BODIES: &str =
 #A: {...,} => Struct { at: 4, fields: [], opened: true }
 #A: {...;} => Struct { at: 4, fields: [], opened: true }
 #A: {a: 1}
-  … => Struct { at: 4, fields: [Field { label: "a", quoted: false, mark: Regular, value: Int(1), site: Site { at: 5, by: None, all: [] } }], opened: false }
+  … => Struct { at: 4, fields: [Field { label: "a", quoted: false, asked: false, mark: Regular, value: Int(1),
+  … site: Site { at: 5, by: None, all: [] } }], opened: false }
 #A: {a: 1,}
-  … => Struct { at: 4, fields: [Field { label: "a", quoted: false, mark: Regular, value: Int(1), site: Site { at: 5, by: None, all: [] } }], opened: false }
+  … => Struct { at: 4, fields: [Field { label: "a", quoted: false, asked: false, mark: Regular, value: Int(1),
+  … site: Site { at: 5, by: None, all: [] } }], opened: false }
 #A: {; a: 1;};
-  … => Struct { at: 4, fields: [Field { label: "a", quoted: false, mark: Regular, value: Int(1), site: Site { at: 7, by: None, all: [] } }], opened: false }
+  … => Struct { at: 4, fields: [Field { label: "a", quoted: false, asked: false, mark: Regular, value: Int(1),
+  … site: Site { at: 7, by: None, all: [] } }], opened: false }
 #A: {a: 1, ...}
-  … => Struct { at: 4, fields: [Field { label: "a", quoted: false, mark: Regular, value: Int(1), site: Site { at: 5, by: None, all: [] } }], opened: true }
+  … => Struct { at: 4, fields: [Field { label: "a", quoted: false, asked: false, mark: Regular, value: Int(1),
+  … site: Site { at: 5, by: None, all: [] } }], opened: true }
 #A: {a: 1;...;}
-  … => Struct { at: 4, fields: [Field { label: "a", quoted: false, mark: Regular, value: Int(1), site: Site { at: 5, by: None, all: [] } }], opened: true }
+  … => Struct { at: 4, fields: [Field { label: "a", quoted: false, asked: false, mark: Regular, value: Int(1),
+  … site: Site { at: 5, by: None, all: [] } }], opened: true }
 #A: {a?: 1}
-  … => Struct { at: 4, fields: [Field { label: "a", quoted: false, mark: Optional, value: Int(1), site: Site { at: 5, by: None, all: [] } }], opened: false }
+  … => Struct { at: 4, fields: [Field { label: "a", quoted: false, asked: false, mark: Optional, value: Int(1),
+  … site: Site { at: 5, by: None, all: [] } }], opened: false }
 #A: {"a": 1, b: 2}
-  … => Struct { at: 4, fields: [Field { label: "a", quoted: true, mark: Regular, value: Int(1), site: Site { at: 5, by: None, all: [] } },
-  … Field { label: "b", quoted: false, mark: Regular, value: Int(2), site: Site { at: 13, by: None, all: [] } }], opened: false }
+  … => Struct { at: 4, fields: [Field { label: "a", quoted: true, asked: false, mark: Regular, value: Int(1), site: Site { at: 5, by: None, all: [] } },
+  … Field { label: "b", quoted: false, asked: false, mark: Regular, value: Int(2), site: Site { at: 13, by: None, all: [] } }], opened: false }
 #A: {for!;: 2}
-  … => Struct { at: 4, fields: [Field { label: "for", quoted: false, mark: Required, value: Int(2), site: Site { at: 5, by: None, all: [] } }], opened: false }
+  … => Struct { at: 4, fields: [Field { label: "for", quoted: false, asked: false, mark: Required, value: Int(2),
+  … site: Site { at: 5, by: None, all: [] } }], opened: false }
 #A: a: 1
-  … => Struct { at: 4, fields: [Field { label: "a", quoted: false, mark: Regular, value: Int(1), site: Site { at: 4, by: None, all: [] } }], opened: false }
+  … => Struct { at: 4, fields: [Field { label: "a", quoted: false, asked: false, mark: Regular, value: Int(1),
+  … site: Site { at: 4, by: None, all: [] } }], opened: false }
 #A: for!: 2
-  … => Struct { at: 4, fields: [Field { label: "for", quoted: false, mark: Required, value: Int(2), site: Site { at: 4, by: None, all: [] } }], opened: false }
+  … => Struct { at: 4, fields: [Field { label: "for", quoted: false, asked: false, mark: Required, value: Int(2),
+  … site: Site { at: 4, by: None, all: [] } }], opened: false }
 #A: {[string]: 1}
-  … => Struct { at: 4, fields: [Field { label: "", quoted: true, mark: Every { at: 6 }, value: Int(1),
+  … => Struct { at: 4, fields: [Field { label: "", quoted: true, asked: false, mark: Every { at: 6 }, value: Int(1),
   … site: Site { at: 5, by: None, all: [] } }], opened: false }
 #A: {a: 1, [string]: 2;...}
-  … => Struct { at: 4, fields: [Field { label: "a", quoted: false, mark: Regular, value: Int(1), site: Site { at: 5, by: None, all: [] } },
-  … Field { label: "", quoted: true, mark: Every { at: 12 }, value: Int(2), site: Site { at: 11, by: None, all: [] } }], opened: true }
+  … => Struct { at: 4, fields: [Field { label: "a", quoted: false, asked: false, mark: Regular, value: Int(1), site: Site { at: 5, by: None, all: [] } },
+  … Field { label: "", quoted: true, asked: false, mark: Every { at: 12 }, value: Int(2), site: Site { at: 11, by: None, all: [] } }], opened: true }
 #A: [string]: 1
-  … => Struct { at: 4, fields: [Field { label: "", quoted: true, mark: Every { at: 5 }, value: Int(1),
+  … => Struct { at: 4, fields: [Field { label: "", quoted: true, asked: false, mark: Every { at: 5 }, value: Int(1),
   … site: Site { at: 4, by: None, all: [] } }], opened: false }
 #A: [string] => List { front: [Name { text: "string", at: 5 }], end: Closed }
 #A: [[string], string] => List { front: [List { front: [Name { text: "string", at: 6 }], end: Closed }, Name { text: "string", at: 15 }], end: Closed }
 #A: b: a: 1
-  … => Struct { at: 4, fields: [Field { label: "b", quoted: false, mark: Regular,
-  … value: Struct { at: 7, fields: [Field { label: "a", quoted: false, mark: Regular, value: Int(1),
+  … => Struct { at: 4, fields: [Field { label: "b", quoted: false, asked: false, mark: Regular,
+  … value: Struct { at: 7, fields: [Field { label: "a", quoted: false, asked: false, mark: Regular, value: Int(1),
   … site: Site { at: 7, by: None, all: [] } }], opened: false }, site: Site { at: 4, by: None, all: [] } }], opened: false }
 #A: 1, #B: 2;#C: 3; => Int(1) Int(2) Int(3)
 package p;#A: 1 => Int(1)

@@ -97,11 +97,40 @@ impl<'s, 'a> Near<'s, 'a> {
             && matches!(self.inside(), Inside::File | Inside::Struct)
     }
 
-    /// Whether an expression that a struct embeds begins with the token: a declaration without a colon of its own.
+    /// Whether an expression that a struct embeds begins with the token, or an `if`, which stands for one: a declaration without a colon of its own.
     pub fn begins_embedding(self) -> bool {
         let here = self.here();
-        let may_begin = here.sort == Sort::Definition || is_mark(here, "{") || is_mark(here, "(");
+        let may_begin = here.sort == Sort::Definition
+            || is_mark(here, "{")
+            || is_mark(here, "(")
+            || self.begins_conditional();
         may_begin && self.begins_declaration() && self.part().count(Colon) == 0
+    }
+
+    /// Whether a declaration of a struct begins with the token that is an `if`, and no field of this label.
+    pub fn begins_conditional(self) -> bool {
+        let here = self.here();
+        let is_if = here.sort == Sort::Name && here.text == "if";
+        is_if
+            && precedes_declaration(self.before(1))
+            && self.inside() == Inside::Struct
+            && !self.source.ends_label(self.place.saturating_add(1))
+    }
+
+    /// Whether the token is in the conditions of an `if` of a struct, or the first one that opens a struct there.
+    pub fn is_in_condition(self) -> bool {
+        let source = self.source;
+        let declaration = source.declaration_at(self.place);
+        let first = declaration.first();
+        first.is_some_and(|first| first.begins_conditional())
+            && (declaration.from..self.place).all(|place| !is_mark(source.token(place), "{"))
+    }
+
+    /// Whether the token names a field that an `if` of a struct asks about: it is the name behind that, or behind its `!`.
+    pub fn is_asked(self) -> bool {
+        let negations = usize::from(is_mark(self.before(1), "!"));
+        let word = self.before(negations.saturating_add(1)).text;
+        self.here().sort == Sort::Name && word == "if" && self.is_in_condition()
     }
 
     /// The operands of `&` that the token is in, in the same bracket.
@@ -211,6 +240,15 @@ impl<'s, 'a> Part<'s, 'a> {
         let from = before.map_or(0, |before| before.saturating_add(1));
         let to = self.source.separator(separator, place, self.to, 0);
         self.between(from.max(self.from), to.unwrap_or(self.to))
+    }
+
+    /// The struct under the conditions of the `if` that it is; none where it is something else.
+    pub fn under_conditions(self) -> Option<Part<'s, 'a>> {
+        let last = self.to.checked_sub(1)?;
+        let bracket = self.source.bracket(self.source.own(last));
+        let is_one = self.first()?.begins_conditional() && bracket.inside == Inside::Struct;
+        let body = self.between(bracket.first.checked_sub(1)?, self.to);
+        is_one.then_some(body)
     }
 
     /// What the bracket at its front has inside, if it closes at the end.

@@ -1,12 +1,17 @@
 -- What may follow an expression, and what begins one: so a reader with one word of look-ahead takes it for nothing else.
-use Rattle.std.proofs.Common.{◌≡◌, ℕ, ℤ, Bool, false, ◌∷◌, None, refl}
+use Rattle.std.proofs.Common.{◌≡◌, ℕ, ℤ, Bool, true, false, cond, List, ◌∷◌, Some, None, refl, sym, ◌∙◌}
+use Rattle.std.proofs.lemmas.Slice.Eq.{bytes_eq-Decides}
+use Rattle.std.specs.Option.{unwrap_or}
+use Rattle.std.specs.Prelude.{codes}
+use Rattle.std.specs.Str.{bytes_eq}
 use Rattle.cs_grammar.specs.declared.kind.Kind.TheVariants as kinds
 use Rattle.cs_grammar.specs.Atom as atoms
 use Rattle.cs_grammar.specs.Atom.{Relation, top, bottom, integer, text, not_integer, not_text, not_null}
-use Rattle.cs_grammar.specs.Words.{Words, relation}
+use Rattle.cs_grammar.specs.Words.{Words, open_struct, open_wide, relation}
+use Rattle.cs_grammar.specs.Tree as T
 use Rattle.cs_grammar.specs.Tree.{Tree, Trees, Fields, Declarations, End}
-use Rattle.cs_grammar.specs.Spells.{Comma, explicit, inserted, ClosesParen, paren_here, paren_after, ClosesList, list_here, list_after, ClosesStruct, struct_here, struct_after, SpellsNumber, positive, negative, SpellsBound, limit_is, other_number, other_text, other_null, SpellsOpening, unopened, opened, SpellsExpr, one_branch, disjunction_is, SpellsBars, no_bar, a_bar, SpellsBranch, unmarked, marked_is, SpellsConj, one_operand, conjunction_is, SpellsAmps, no_amp, an_amp, SpellsOperand, top_is, bottom_is, reference_is, name_is, number_is, text_is, bound_is, paren_is, struct_is, list_is, call_paren_is, shut_is, wide_struct_is, SpellsMore, no_more, next_declaration, SpellsFields, no_more_fields, next_field, SpellsElements, no_more_elements, next_element, SpellsEnd, closed_is, rest_is}
-use Rattle.cs_syntax.specs.Reading.{after, begins_with, begins_comma, goes_on_label, begins_field}
+use Rattle.cs_grammar.specs.Spells.{is_reserved, is_null, is_if, is_close, is_braced, literal_of, Comma, explicit, inserted, ClosesParen, paren_here, paren_after, ClosesList, list_here, list_after, ClosesStruct, struct_here, struct_after, SpellsNumber, positive, negative, SpellsBound, limit_is, other_number, other_text, other_null, SpellsOpening, unopened, opened, SpellsExpr, one_branch, disjunction_is, SpellsBars, no_bar, a_bar, SpellsBranch, unmarked, marked_is, SpellsConj, one_operand, conjunction_is, SpellsAmps, no_amp, an_amp, SpellsOperand, top_is, bottom_is, reference_is, name_is, number_is, text_is, bound_is, paren_is, struct_is, list_is, call_paren_is, shut_is, wide_struct_is, SpellsMore, no_more, next_declaration, SpellsFields, no_more_fields, next_field, SpellsElements, no_more_elements, next_element, SpellsEnd, closed_is, rest_is}
+use Rattle.cs_syntax.specs.Reading.{after, begins_with, begins_comma, goes_on_label, begins_field, begins_if}
 use Rattle.cs_syntax.proofs.BracketLabels.{list_no_label}
 use Rattle.cs_syntax.proofs.Calls.{close_stands}
 
@@ -195,3 +200,98 @@ operand_no_star (wide_struct_is e s) = refl
 pub conj_no_star : {e : Tree} {ts r : Words} → SpellsConj e ts r → after kinds.Star ts ≡ None
 conj_no_star (one_operand o) = operand_no_star o
 conj_no_star (conjunction_is o a) = operand_no_star o
+
+-- no operand begins with `if`
+no_if : (s : List ℕ) → is_reserved s ≡ false → is_if s ≡ false
+no_if s h = by (is_if s) refl
+  where
+    by : (b : Bool) → is_if s ≡ b → b ≡ false
+    by false e = refl
+    by true e =
+        let same : s ≡ codes "if" = (bytes_eq-Decides s (codes "if")).0 e in
+        let never : true ≡ false = rw same at h in absurd cc
+
+close_no_if : (s : List ℕ) → is_close s ≡ true → is_if s ≡ false
+close_no_if s h = no_if s (close_stands s h)
+
+operand_no_if : {e : Tree} {ts r : Words} → SpellsOperand e ts r → begins_if ts ≡ false
+operand_no_if top_is = refl
+operand_no_if bottom_is = refl
+operand_no_if reference_is = refl
+operand_no_if (name_is {s} h e) = no_if s h
+operand_no_if (number_is (positive h)) = refl
+operand_no_if (number_is (negative e h)) = refl
+operand_no_if text_is = refl
+operand_no_if (bound_is (limit_is n)) = refl
+operand_no_if (bound_is (other_number n)) = refl
+operand_no_if (bound_is other_text) = refl
+operand_no_if (bound_is (other_null h)) = refl
+operand_no_if (paren_is e c) = refl
+operand_no_if (struct_is s) = refl
+operand_no_if (list_is s) = refl
+operand_no_if (call_paren_is e c) = refl
+operand_no_if (shut_is {s} h e c) = close_no_if s h
+operand_no_if (wide_struct_is e s) = refl
+
+conj_no_if : {e : Tree} {ts r : Words} → SpellsConj e ts r → begins_if ts ≡ false
+conj_no_if (one_operand o) = operand_no_if o
+conj_no_if (conjunction_is o a) = operand_no_if o
+
+branch_no_if : {e : Tree} {ts r : Words} → SpellsBranch e ts r → begins_if ts ≡ false
+branch_no_if (unmarked c) = conj_no_if c
+branch_no_if (marked_is c) = refl
+
+pub expr_no_if : {e : Tree} {ts r : Words} → SpellsExpr e ts r → begins_if ts ≡ false
+expr_no_if (one_branch c) = branch_no_if c
+expr_no_if (disjunction_is c b) = branch_no_if c
+
+-- ---- a struct literal begins with its brace
+
+pub data OpensBrace : Words → Type 0 where
+  narrow_brace : {p : ℕ} {r : Words} → OpensBrace (open_struct p ∷ r)
+  wide_brace : {p : ℕ} {r : Words} → OpensBrace (open_wide p ∷ r)
+
+name_unbraced : (s : List ℕ) (p : ℕ) → is_braced (unwrap_or (literal_of s) (T.named s p)) ≡ false
+name_unbraced s p = by (is_null s) (bytes_eq s (codes "true")) (bytes_eq s (codes "false"))
+  where
+    by : (a b c : Bool) → is_braced (unwrap_or (cond a (Some (T.atom T.null)) (cond b (Some (T.atom (T.boolean true))) (cond c (Some (T.atom (T.boolean false))) None))) (T.named s p)) ≡ false
+    by true b c = refl
+    by false true c = refl
+    by false false true = refl
+    by false false false = refl
+
+bound_unbraced : {e : Tree} {ts r : Words} → SpellsBound e ts r → is_braced e ≡ false
+bound_unbraced (limit_is n) = refl
+bound_unbraced (other_number n) = refl
+bound_unbraced other_text = refl
+bound_unbraced (other_null h) = refl
+
+unbraced : {ts : Words} (e : Tree) → is_braced e ≡ true → is_braced e ≡ false → OpensBrace ts
+unbraced e h k = let never : true ≡ false = sym h ∙ k in absurd cc
+
+operand_braced : {e : Tree} {ts r : Words} → SpellsOperand e ts r → is_braced e ≡ true → OpensBrace ts
+operand_braced {e} top_is h = unbraced e h refl
+operand_braced {e} bottom_is h = unbraced e h refl
+operand_braced {e} reference_is h = unbraced e h refl
+operand_braced (name_is {s} {e} {p} k is) h = unbraced e h (rw is (name_unbraced s p))
+operand_braced {e} (number_is n) h = unbraced e h refl
+operand_braced {e} text_is h = unbraced e h refl
+operand_braced {e} (bound_is b) h = unbraced e h (bound_unbraced b)
+operand_braced {e} (paren_is k c) h = unbraced e h refl
+operand_braced (struct_is s) h = narrow_brace
+operand_braced {e} (list_is s) h = unbraced e h refl
+operand_braced {e} (call_paren_is k c) h = unbraced e h refl
+operand_braced {e} (shut_is s k c) h = unbraced e h refl
+operand_braced (wide_struct_is is s) h = wide_brace
+
+conj_braced : {e : Tree} {ts r : Words} → SpellsConj e ts r → is_braced e ≡ true → OpensBrace ts
+conj_braced (one_operand o) h = operand_braced o h
+conj_braced {e} (conjunction_is o a) h = unbraced e h refl
+
+branch_braced : {e : Tree} {ts r : Words} → SpellsBranch e ts r → is_braced e ≡ true → OpensBrace ts
+branch_braced (unmarked c) h = conj_braced c h
+branch_braced {e} (marked_is c) h = unbraced e h refl
+
+pub expr_braced : {e : Tree} {ts r : Words} → SpellsExpr e ts r → is_braced e ≡ true → OpensBrace ts
+expr_braced (one_branch c) h = branch_braced c h
+expr_braced {e} (disjunction_is c b) h = unbraced e h refl

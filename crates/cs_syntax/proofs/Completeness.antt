@@ -1,21 +1,20 @@
 -- What is spelled so is read.
-use Rattle.std.proofs.Common.{◌≡◌, ℕ, zero, suc, ◌<◌, ◌≤◌, ℤ, pos, Bool, true, false, List, [], ◌∷◌, length, Option, Some, None, Ok, refl, ap, arith}
-use Rattle.std.proofs.lemmas.Bool.Decides.{nat_tests}
-use Rattle.std.specs.Prelude.{FitsSigned, neg_ℤ, ◌&&◌, ◌||◌, max}
-use Rattle.std.specs.Int.{w64}
+use Rattle.std.proofs.Common.{◌≡◌, ℕ, zero, suc, ◌<◌, ◌≤◌, ℤ, Bool, true, false, List, [], ◌∷◌, length, Option, Some, None, Ok, refl, ap, arith}
+use Rattle.std.specs.Prelude.{◌||◌, max}
 use Rattle.std.specs.Option.{unwrap_or}
 use Rattle.cs_grammar.specs.declared.kind.Kind.TheVariants as kinds
 use Rattle.cs_grammar.specs.Atom.{top, bottom, integer, text, not_integer, not_text, not_null}
 use Rattle.cs_grammar.specs.declared.ast.FieldMark.{FieldMark}
 use Rattle.cs_grammar.specs.declared.ast.FieldMark.TheVariants.{Every}
 use Rattle.cs_grammar.specs.Words.{Words, comma, name, open_list, colon, quoted, top_mark, bottom_mark, definition_name, unequal, close_struct, close_list, dots, finish}
-use Rattle.cs_grammar.specs.Tree.{Label, Tree, atom, reference, closed, named, Trees, none, more, Fields, no_field, field, Declarations, no_declaration, declared, embedded, End, DefinitionTree, body, FileTree}
-use Rattle.cs_grammar.specs.View.{trees_of, fields_of, Seen, declarations_of, SeenDeclaration, field_seen, embedding_seen}
-use Rattle.cs_grammar.specs.Spells.{is_reserved, is_null, is_string, is_close, every_label, start_at, literal_of, literal, Comma, explicit, inserted, ClosesParen, paren_here, paren_after, ClosesList, list_here, list_after, ClosesStruct, struct_here, struct_after, SpellsNumber, positive, negative, SpellsBound, limit_is, other_number, other_text, other_null, SpellsLabel, bare_label, quoted_label, SpellsMark, regular, optional, required, SpellsOpening, unopened, opened, SpellsValue, long, short, SpellsField, labelled, every_key, SpellsExpr, one_branch, disjunction_is, SpellsBars, no_bar, a_bar, SpellsBranch, unmarked, marked_is, SpellsConj, one_operand, conjunction_is, SpellsAmps, no_amp, an_amp, SpellsOperand, top_is, bottom_is, reference_is, name_is, number_is, text_is, bound_is, paren_is, struct_is, list_is, call_paren_is, shut_is, wide_struct_is, SpellsWideStruct, no_declarations, wide_dots_alone, some_declarations, a_field, an_embedding, SpellsMore, no_more, next_declaration, SpellsStruct, no_fields, dots_alone, fields, SpellsFields, no_more_fields, next_field, SpellsList, no_elements, rest_alone, elements, SpellsElements, no_more_elements, next_element, SpellsEnd, closed_is, rest_is, SpellsRest, any_is, each_is, SpellsDefinition, defined, SpellsDefinitions, no_definition, next_definition, SpellsPackage, no_clause, clause, SpellsFile, spelled}
-use Rattle.cs_grammar.proofs.Rests.{no_longer, of_field, of_expr, of_branch, of_operand, of_definition}
-use Rattle.cs_syntax.specs.Reading.{◌>>=◌, Read, after, begins_with, comma_at, close_at, paren_end, goes_on_label, begins_field, another_field, another_element, opening_at, may_end, many, signed, number_at, bound_at, unequal_at, integer_at, unbracketed_at, label_at, mark_at, every_key_at, head_at, expected, field_with, fields_with, struct_with, declaration_with, declarations_with, wide_struct_with, rest_with, end_with, elements_with, list_with, paren_with, uncalled_with, operand_with, amps_with, conj_with, branch_with, bars_with, expr_with, inner, definition_at, line_at, before_end, definitions_at, clause_at, package_at, file_with, file_at}
+use Rattle.cs_grammar.specs.Tree.{Label, Condition, Tree, atom, reference, closed, named, Trees, none, more, Fields, no_field, field, Declarations, no_declaration, declared, embedded, conditional, End, DefinitionTree, body, FileTree}
+use Rattle.cs_grammar.specs.View.{trees_of, fields_of, Seen, declarations_of, SeenDeclaration, field_seen, embedding_seen, conditional_seen}
+use Rattle.cs_grammar.specs.Spells.{is_reserved, is_null, is_string, is_close, is_braced, every_label, start_at, literal_of, literal, Comma, explicit, inserted, ClosesParen, paren_here, paren_after, ClosesList, list_here, list_after, ClosesStruct, struct_here, struct_after, SpellsNumber, positive, negative, SpellsBound, limit_is, other_number, other_text, other_null, SpellsLabel, bare_label, quoted_label, SpellsMark, regular, optional, required, SpellsOpening, unopened, opened, SpellsConditions, SpellsValue, long, short, SpellsField, labelled, every_key, SpellsExpr, one_branch, disjunction_is, SpellsBars, no_bar, a_bar, SpellsBranch, unmarked, marked_is, SpellsConj, one_operand, conjunction_is, SpellsAmps, no_amp, an_amp, SpellsOperand, top_is, bottom_is, reference_is, name_is, number_is, text_is, bound_is, paren_is, struct_is, list_is, call_paren_is, shut_is, wide_struct_is, SpellsWideStruct, no_declarations, wide_dots_alone, some_declarations, a_field, an_embedding, a_conditional, SpellsMore, no_more, next_declaration, SpellsStruct, no_fields, dots_alone, fields, SpellsFields, no_more_fields, next_field, SpellsList, no_elements, rest_alone, elements, SpellsElements, no_more_elements, next_element, SpellsEnd, closed_is, rest_is, SpellsRest, any_is, each_is, SpellsDefinition, defined, SpellsDefinitions, no_definition, next_definition, SpellsPackage, no_clause, clause, SpellsFile, spelled}
+use Rattle.cs_grammar.proofs.Rests.{no_longer, of_conditions, of_field, of_expr, of_branch, of_operand, of_definition}
+use Rattle.cs_syntax.specs.Reading.{◌>>=◌, Read, after, begins_with, comma_at, close_at, paren_end, goes_on_label, begins_field, another_field, another_element, opening_at, may_end, number_at, bound_at, unequal_at, integer_at, unbracketed_at, label_at, mark_at, every_key_at, head_at, expected, field_with, fields_with, struct_with, begins_conditional, conditional_with, declaration_with, declarations_with, wide_struct_with, rest_with, end_with, elements_with, list_with, paren_with, uncalled_with, operand_with, amps_with, conj_with, branch_with, bars_with, expr_with, inner, definition_at, line_at, before_end, definitions_at, clause_at, package_at, file_with, file_at}
 use Rattle.cs_syntax.specs.Nesting.{nesting}
-use Rattle.cs_syntax.proofs.Boundaries.{Quiet, IsOpen, quiet_comma, quiet_closes_paren, quiet_closes_list, quiet_opening, quiet_fields, quiet_more, quiet_end, quiet_elements, Ended, quiet_ended, ended-bars, no_call-amps, expr_open, expr_no_field, conj_no_star}
+use Rattle.cs_syntax.proofs.Boundaries.{Quiet, IsOpen, quiet_comma, quiet_closes_paren, quiet_closes_list, quiet_opening, quiet_fields, quiet_more, quiet_end, quiet_elements, Ended, quiet_ended, ended-bars, no_call-amps, expr_open, expr_no_field, conj_no_star, OpensBrace, expr_braced}
+use Rattle.cs_syntax.proofs.ConditionsRead.{many_end, many_next, read_number, read_conditions, conditions_begin, conditions_open, and_false, field_no_conditional, expr_no_conditional}
 use Rattle.cs_syntax.proofs.NestingBounds.{inside, inside_all, inside_elements, inside_fields, inside_declarations, inside_literal, inside_end, inside_definitions, inside_file, inside_low, max_left, max_right}
 
 -- a comma takes a word
@@ -55,22 +54,7 @@ opening_is (unopened (struct_after inserted)) = refl
 opening_is (opened explicit d) = rw (struct_end_is d) refl
 opening_is (opened inserted d) = rw (struct_end_is d) refl
 
--- ---- numbers and bounds
-
-pub positive_signed : (n : ℕ) → FitsSigned w64 (pos n) → signed false n ≡ Some (pos n)
-positive_signed n h = let lt = h.sfits in grind (arith, nat_tests)
-
-pub negative_signed : (z : ℤ) (n : ℕ) → z ≡ neg_ℤ (pos n) → FitsSigned w64 z → signed true n ≡ Some z
-negative_signed z zero e h = ap Some (sym_of e)
-  where
-    sym_of : z ≡ pos 0 → pos 0 ≡ z
-    sym_of k = cc
-negative_signed z (suc n) e h = let lt = (rw e at h).sfits in rw e (grind (arith, nat_tests))
-
-read_number : {z : ℤ} {ts r : Words} → SpellsNumber z ts r → number_at ts ≡ Ok (z, r)
-unfolding number_at
-read_number (positive {n} h) = rw (positive_signed n h) refl
-read_number (negative {z} {n} e h) = rw (negative_signed z n e h) refl
+-- ---- bounds
 
 read_unequal_number : {z : ℤ} {ts r : Words} → SpellsNumber z ts r → unequal_at ts ≡ (number_at ts >>= λ y. Ok (atom (not_integer y.0), y.1))
 unfolding unequal_at
@@ -103,10 +87,6 @@ read_bottom p r = refl
 read_reference : (s : List ℕ) (p : ℕ) (r : Words) → unbracketed_at (definition_name s p ∷ r) ≡ Ok (reference s p, r)
 unfolding unbracketed_at
 read_reference s p r = refl
-
-and_false : (b : Bool) → b && false ≡ false
-and_false true = refl
-and_false false = refl
 
 -- a name that isn't called
 read_name : (f : Bool → Read Tree) (s : List ℕ) (e : Tree) (p : ℕ) (r : Words) → is_reserved s ≡ false → e ≡ unwrap_or (literal_of s) (named s p) → begins_with kinds.OpenCall r ≡ false → operand_with f (name s p ∷ r) ≡ Ok (e, r)
@@ -267,31 +247,36 @@ abbrev declarations_in : Declarations → List SeenDeclaration
 declarations_in no_declaration = []
 declarations_in (declared l m e ds) = field_seen (record { label = l; mark = m; value = e }) ∷ declarations_in ds
 declarations_in (embedded o e ds) = embedding_seen o e ∷ declarations_in ds
+declarations_in (conditional o cs e ds) = conditional_seen o cs e ∷ declarations_in ds
 
 declarations_back : (ds : Declarations) → declarations_of (declarations_in ds) ≡ ds
 declarations_back no_declaration = refl
 declarations_back (declared l m e ds) = ap (declared l m e) (declarations_back ds)
 declarations_back (embedded o e ds) = ap (embedded o e) (declarations_back ds)
-
-many_end : {A : Type 0} (skip : Words → Option Words) (p : Read A) (n : ℕ) (ts : Words) → skip ts ≡ None → many skip p n ts ≡ Ok ([], ts)
-unfolding many
-many_end skip p zero ts h = refl
-many_end skip p (suc n) ts h = rw h refl
-
-many_next : {A : Type 0} (skip : Words → Option Words) (p : Read A) (n : ℕ) {x : A} {xs : List A} {ts us vs r : Words} → skip ts ≡ Some us → p us ≡ Ok (x, vs) → many skip p n vs ≡ Ok (xs, r) → many skip p (suc n) ts ≡ Ok (x ∷ xs, r)
-unfolding many
-many_next skip p n h k m = rw (h, k, m) refl
+declarations_back (conditional o cs e ds) = ap (conditional o cs e) (declarations_back ds)
 
 literal_inside : (p : ℕ) (ds : Declarations) (b : Bool) {e : Tree} {d : ℕ} → e ≡ literal p ds b → inside e ≤ d → inside_declarations ds ≤ d
 literal_inside p ds b is h = omega (arith, h, ap inside is, inside_literal p ds b)
 
 field_declared : (r : Bool → Read Tree) {l : Label} {m : FieldMark} {e : Tree} {ts us : Words} → SpellsField l m e ts us → field_with r ts ≡ Ok (record { label = l; mark = m; value = e }, us) → declaration_with r ts ≡ Ok (field_seen (record { label = l; mark = m; value = e }), us)
 unfolding declaration_with
-field_declared r f h = rw (begins_label f, h) refl
+field_declared r f h = rw (field_no_conditional f, begins_label f, h) refl
 
-expr_embedded : (d : ℕ) (ts : Words) {o : ℕ} {e : Tree} {us : Words} → o ≡ start_at ts → begins_field ts ≡ false → expr_with (inner d) ts ≡ Ok (e, us) → declaration_with (inner (suc d)) ts ≡ Ok (embedding_seen o e, us)
+expr_embedded : (d : ℕ) (ts : Words) {o : ℕ} {e : Tree} {us : Words} → o ≡ start_at ts → begins_conditional ts ≡ false → begins_field ts ≡ false → expr_with (inner d) ts ≡ Ok (e, us) → declaration_with (inner (suc d)) ts ≡ Ok (embedding_seen o e, us)
 unfolding declaration_with inner
-expr_embedded d ts s n h = rw (n, h, s) refl
+expr_embedded d ts s c n h = rw (c, n, h, s) refl
+
+conditions_read : (r : Bool → Read Tree) (ts : Words) {o : ℕ} {cs : List Condition} {e : Tree} {us vs : Words} → o ≡ start_at ts → SpellsConditions cs ts us → is_braced e ≡ true → OpensBrace us → r false us ≡ Ok (e, vs) → conditional_with r ts ≡ Ok (conditional_seen o cs e, vs)
+unfolding conditional_with
+conditions_read r ts s cs b i h = rw (read_conditions cs (length ts) (omega arith) i, h, b, s) refl
+
+conditional_declared : (r : Bool → Read Tree) (ts : Words) {o : ℕ} {cs : List Condition} {e : Tree} {us vs : Words} → o ≡ start_at ts → SpellsConditions cs ts us → is_braced e ≡ true → OpensBrace us → r false us ≡ Ok (e, vs) → declaration_with r ts ≡ Ok (conditional_seen o cs e, vs)
+unfolding declaration_with
+conditional_declared r ts s cs b i h = rw (conditions_begin cs, conditions_read r ts s cs b i h) refl
+
+read_inside : (d : ℕ) (ts : Words) {e : Tree} {us : Words} → expr_with (inner d) ts ≡ Ok (e, us) → inner (suc d) false ts ≡ Ok (e, us)
+unfolding inner
+read_inside d ts h = h
 
 -- ---- the whole grammar
 
@@ -367,7 +352,13 @@ mutual
       let first : suc (inside x) ≤ suc d = max_left _ _ h in
       let begins = expr_open e in
       let q = quiet_more m (quiet_opening o) in
-      rw (wide_first (inner (suc d)) ts begins.no_struct_end begins.no_dots, expr_embedded d _ s (expr_no_field e q.no_label) (read_expr e d (omega (arith, first)) q), read_more m (suc d) (length us) (max_right _ _ h) (omega arith) (quiet_opening o) (no_other_field o), opening_is o) refl
+      rw (wide_first (inner (suc d)) ts begins.no_struct_end begins.no_dots, expr_embedded d _ s (expr_no_conditional e) (expr_no_field e q.no_label) (read_expr e d (omega (arith, first)) q), read_more m (suc d) (length us) (max_right _ _ h) (omega arith) (quiet_opening o) (no_other_field o), opening_is o) refl
+  read_wide_struct (some_declarations (a_conditional s cs b e m) o) zero h = let none_in = max_left _ _ h in let never : ⊥ = omega (arith, none_in) in absurd never
+  read_wide_struct (some_declarations (a_conditional {e = x} {ts = ts} {us = us} {vs = vs} s cs b e m) o) (suc d) h =
+      let first : suc (inside x) ≤ suc d = max_left _ _ h in
+      let begins = conditions_open cs in
+      let q = quiet_more m (quiet_opening o) in
+      rw (wide_first (inner (suc d)) ts begins.no_struct_end begins.no_dots, conditional_declared (inner (suc d)) ts s cs b (expr_braced e b) (read_inside d us (read_expr e d (omega (arith, first)) q)), read_more m (suc d) (length vs) (max_right _ _ h) (omega arith) (quiet_opening o) (no_other_field o), opening_is o) refl
 
   read_more : {ds : Declarations} {ts r : Words} → SpellsMore ds ts r → (d n : ℕ) → inside_declarations ds ≤ d → length ts ≤ n → Quiet r → another_field r ≡ None → declarations_with (inner d) n ts ≡ Ok (declarations_in ds, r)
   read_more (no_more {r}) d n h k q e = many_end another_field (declaration_with (inner d)) n r e
@@ -377,7 +368,12 @@ mutual
   read_more (next_declaration c (an_embedding {e = y} s x m)) (suc d) (suc n) h k q e =
       let first : suc (inside y) ≤ suc d = max_left _ _ h in
       let l = quiet_more m q in
-      many_next another_field (declaration_with (inner (suc d))) n (another_open c (expr_open x)) (expr_embedded d _ s (expr_no_field x l.no_label) (read_expr x d (omega (arith, first)) l)) (read_more m (suc d) n (max_right _ _ h) (omega (arith, shorter_comma c, no_longer (of_expr x))) q e)
+      many_next another_field (declaration_with (inner (suc d))) n (another_open c (expr_open x)) (expr_embedded d _ s (expr_no_conditional x) (expr_no_field x l.no_label) (read_expr x d (omega (arith, first)) l)) (read_more m (suc d) n (max_right _ _ h) (omega (arith, shorter_comma c, no_longer (of_expr x))) q e)
+  read_more (next_declaration c (a_conditional s cs b x m)) zero (suc n) h k q e = let none_in = max_left _ _ h in let never : ⊥ = omega (arith, none_in) in absurd never
+  read_more (next_declaration c (a_conditional {e = y} {ts = ts} {us = us} s cs b x m)) (suc d) (suc n) h k q e =
+      let first : suc (inside y) ≤ suc d = max_left _ _ h in
+      let l = quiet_more m q in
+      many_next another_field (declaration_with (inner (suc d))) n (another_open c (conditions_open cs)) (conditional_declared (inner (suc d)) ts s cs b (expr_braced x b) (read_inside d us (read_expr x d (omega (arith, first)) l))) (read_more m (suc d) n (max_right _ _ h) (omega (arith, shorter_comma c, no_longer (of_conditions cs), no_longer (of_expr x))) q e)
 
   read_list : {es : Trees} {end : End} {ts r : Words} → SpellsList es end ts r → (d : ℕ) → max (inside_elements es) (inside_end end) ≤ d → list_with (inner d) ts ≡ Ok ((trees_in es, end), r)
   read_list (no_elements {p} {r}) d h = empty_list (inner d) p r

@@ -8,11 +8,11 @@ use Rattle.std.specs.Prelude.{suc}
 use Rattle.cs_grammar.specs.declared.ast.Declaration.{Declaration}
 use Rattle.cs_grammar.specs.declared.ast.Field.{Field}
 use Rattle.cs_grammar.specs.Tree.{Fields, field}
-use Rattle.cs_grammar.specs.View.{Seen, SeenDeclaration, field_seen, embedding_seen, fields_of, field_view, fields_view, declaration_view, declarations_view, declarations_of}
+use Rattle.cs_grammar.specs.View.{Seen, SeenDeclaration, field_seen, embedding_seen, conditional_seen, fields_of, field_view, fields_view, declaration_view, declarations_view, declarations_of}
 use Rattle.cs_grammar.specs.Spells.{fields_alone}
 use Rattle.cs_syntax.specs.Left.{declared_field}
 
--- ---- whether no declaration is an embedding
+-- ---- whether each declaration is a field
 
 same_some : {A B : Type 0} (f : A → B) (o : Option A) → is_some (option_map f o) ≡ is_some o
 same_some f None = refl
@@ -28,6 +28,7 @@ are_fields ds = is_some (fields_alone (declarations_view ds))
 seen_each : (d : SeenDeclaration) (ds : List SeenDeclaration) → is_some (fields_alone (declarations_of (d ∷ ds))) ≡ (is_some (fields_alone (declarations_of (d ∷ []))) && is_some (fields_alone (declarations_of ds)))
 seen_each (field_seen f) ds = same_some (field f.label f.mark f.value) (fields_alone (declarations_of ds))
 seen_each (embedding_seen o e) ds = refl
+seen_each (conditional_seen o cs e) ds = refl
 
 each_field : (d : Declaration) (ds : List Declaration) → are_fields (d ∷ ds) ≡ (is_field d && are_fields ds)
 each_field d ds = seen_each (declaration_view d) (map declaration_view ds)
@@ -50,7 +51,7 @@ all_fields ds i l = ap are_fields (drop_all i ds l)
 abbrev pub fields_in : List Declaration → List Seen
 fields_in ds = filter_map (λ d. declared_field (declaration_view d)) ds
 
--- where none is an embedding, these are all
+-- where each is a field, these are all
 seen_all : (ds : List SeenDeclaration) (fs : Fields) → fields_alone (declarations_of ds) ≡ Some fs → fields_of (filter_map declared_field ds) ≡ fs
 seen_all [] fs is = cc
 seen_all (field_seen f ∷ ds) fs is = by (λ gs h. seen_all ds gs h) (fields_alone (declarations_of ds)) refl is
@@ -59,6 +60,7 @@ seen_all (field_seen f ∷ ds) fs is = by (λ gs h. seen_all ds gs h) (fields_al
     by again None h k = absurd cc
     by again (Some gs) h k = let made : field f.label f.mark f.value gs ≡ fs = cc in ap (field f.label f.mark f.value) (again gs h) ∙ made
 seen_all (embedding_seen o e ∷ ds) fs is = absurd cc
+seen_all (conditional_seen o cs e ∷ ds) fs is = absurd cc
 
 seen_in : (ds : List Declaration) → fields_in ds ≡ filter_map declared_field (map declaration_view ds)
 seen_in [] = refl

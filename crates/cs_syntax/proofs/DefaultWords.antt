@@ -1,4 +1,5 @@
--- The words of the default profile have no `*` and no `{` or `(` of the wide one, so the files that they spell have no form of the wide profile.
+-- The words of the default profile have no `*` and no `{` or `(` of the wide one, so the files that they spell have no form of the wide profile;
+-- and an author wrote what is spelled.
 use Rattle.std.proofs.Common.{◌≡◌, ℕ, Bool, true, false, cond, List, [], ◌∷◌, Option, Some, None, refl, sym, ap, ◌∙◌}
 use Rattle.std.proofs.lemmas.Slice.Eq.{bytes_eq-Decides}
 use Rattle.std.specs.Prelude.{◌==◌, codes}
@@ -18,7 +19,7 @@ use Rattle.cs_grammar.specs.Cut.{Lexeme, lexeme, comma_if, Cut, blank, new_line,
 use Rattle.cs_grammar.specs.DefaultForms.{IsDefault, AreDefault, AreDefaultFields, IsDefaultEnd, IsDefaultFile}
 use Rattle.cs_grammar.specs.Source.{IsSpelledBy}
 use Rattle.cs_grammar.specs.Spelling.{is_letter, is_digit, is_name_byte, is_integer, is_definition_rest, text_value, used_marks, left_out_marks, sort_if, underscore_sort, sort_of}
-use Rattle.cs_grammar.specs.Spells.{is_null, literal_of, SpellsBound, limit_is, other_number, other_text, other_null, SpellsValue, long, short, SpellsField, labelled, every_key, SpellsExpr, one_branch, disjunction_is, SpellsBars, no_bar, a_bar, SpellsBranch, unmarked, marked_is, SpellsConj, one_operand, conjunction_is, SpellsAmps, no_amp, an_amp, SpellsOperand, top_is, bottom_is, reference_is, name_is, number_is, text_is, bound_is, paren_is, struct_is, list_is, call_paren_is, shut_is, wide_struct_is, SpellsStruct, no_fields, dots_alone, fields, SpellsFields, no_more_fields, next_field, SpellsList, no_elements, rest_alone, elements, SpellsElements, no_more_elements, next_element, SpellsEnd, closed_is, rest_is, SpellsRest, any_is, each_is, SpellsDefinition, defined, SpellsDefinitions, no_definition, next_definition, SpellsFile, spelled}
+use Rattle.cs_grammar.specs.Spells.{is_null, literal_of, SpellsBound, limit_is, other_number, other_text, other_null, bare_label, quoted_label, SpellsValue, long, short, SpellsField, labelled, every_key, SpellsExpr, one_branch, disjunction_is, SpellsBars, no_bar, a_bar, SpellsBranch, unmarked, marked_is, SpellsConj, one_operand, conjunction_is, SpellsAmps, no_amp, an_amp, SpellsOperand, top_is, bottom_is, reference_is, name_is, number_is, text_is, bound_is, paren_is, struct_is, list_is, call_paren_is, shut_is, wide_struct_is, SpellsStruct, no_fields, dots_alone, fields, SpellsFields, no_more_fields, next_field, SpellsList, no_elements, rest_alone, elements, SpellsElements, no_more_elements, next_element, SpellsEnd, closed_is, rest_is, SpellsRest, any_is, each_is, SpellsDefinition, defined, SpellsDefinitions, no_definition, next_definition, SpellsFile, spelled}
 use Rattle.cs_grammar.specs.TokenWords.{mark_kind, word_of, word, words}
 use Rattle.cs_grammar.specs.Tree as T
 use Rattle.cs_grammar.specs.Tree.{Label, Tree, named, Trees, Fields, End, DefinitionTree, body, FileTree}
@@ -56,10 +57,16 @@ bound_default (other_number n) = tt
 bound_default other_text = tt
 bound_default (other_null is) = tt
 
+-- no condition asked for what words spell
+field_written : {l : Label} {m : FieldMark} {e : Tree} {ts r : Words} → SpellsField l m e ts r → l.asked ≡ false
+field_written (labelled bare_label m v) = refl
+field_written (labelled quoted_label m v) = refl
+field_written (every_key s v) = refl
+
 mutual
   value_default : {e : Tree} {ts r : Words} → SpellsValue e ts r → Narrow ts → IsDefault e
   value_default (long e) h = expr_default e h
-  value_default (short o f) h = (field_default f h, tt)
+  value_default (short o f) h = (field_written f, field_default f h, tt)
 
   field_default : {l : Label} {m : FieldMark} {e : Tree} {ts r : Words} → SpellsField l m e ts r → Narrow ts → IsDefault e
   field_default (labelled l m v) h = value_default v (kept (R.of_mark m) (kept (R.of_label l) h))
@@ -103,11 +110,11 @@ mutual
   struct_default : {fs : Fields} {b : Bool} {ts r : Words} → SpellsStruct fs b ts r → Narrow ts → AreDefaultFields fs
   struct_default no_fields h = tt
   struct_default (dots_alone c) h = tt
-  struct_default (fields f fs o) h = (field_default f h, fields_default fs (kept (R.of_field f) h))
+  struct_default (fields f fs o) h = (field_written f, field_default f h, fields_default fs (kept (R.of_field f) h))
 
   fields_default : {fs : Fields} {ts r : Words} → SpellsFields fs ts r → Narrow ts → AreDefaultFields fs
   fields_default no_more_fields h = tt
-  fields_default (next_field c f fs) h = let k = kept (R.of_comma c) h in (field_default f k, fields_default fs (kept (R.of_field f) k))
+  fields_default (next_field c f fs) h = let k = kept (R.of_comma c) h in (field_written f, field_default f k, fields_default fs (kept (R.of_field f) k))
 
   list_default : {es : Trees} {end : End} {ts r : Words} → SpellsList es end ts r → Narrow ts → AreDefault es × IsDefaultEnd end
   list_default no_elements h = (tt, tt)
@@ -151,9 +158,9 @@ unless : (b : Bool) (k : Kind) {l : Kind} → is_wide_kind k ≡ false → Other
 unless true k h i = record { is = h }
 unless false k h i = i
 
-unless_star : (b : Bool) → b ≡ false → Other (cond b kinds.Star kinds.LeftOut)
-unless_star true h = absurd cc
-unless_star false h = record { is = refl }
+unless_star : (b : Bool) {l : Kind} → b ≡ false → Other l → Other (cond b kinds.Star l)
+unless_star true h i = absurd cc
+unless_star false h i = i
 
 mark_other : (t : List ℕ) → bytes_eq t (codes "*") ≡ false → Other (mark_kind t)
 mark_other t h =
@@ -176,7 +183,9 @@ mark_other t h =
     unless (bytes_eq t (codes ">=")) kinds.AtLeast refl (
     unless (bytes_eq t (codes "!=")) kinds.Unequal refl (
     unless (bytes_eq t (codes "-")) kinds.Minus refl (
-    unless_star (bytes_eq t (codes "*")) h)))))))))))))))))))
+    unless_star (bytes_eq t (codes "*")) h (
+    unless (bytes_eq t (codes "==")) kinds.Equal refl (
+    record { is = refl })))))))))))))))))))))
 
 -- a mark of the grammar is no `*`
 mark_no_star : (t : List ℕ) → sort_of t ≡ Some sorts.Mark → bytes_eq t (codes "*") ≡ false

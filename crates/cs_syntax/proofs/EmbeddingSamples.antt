@@ -68,7 +68,7 @@ default_words : words (taken profiles.Default tokens) ≡ words_with (W.open_str
 default_words = refl
 
 abbrev b : Label
-b = record { text = codes "b"; quotes = false }
+b = record { text = codes "b"; quotes = false; asked = false }
 
 abbrev any_value : Tree
 any_value = T.atom T.top

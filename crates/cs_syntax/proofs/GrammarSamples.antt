@@ -40,8 +40,8 @@ short_form = one_body (W.name (codes "a") 4 ∷ W.colon 5 ∷ W.open_struct 7 �
 
 abbrev short_tree : Tree
 short_tree =
-    T.struct 4 (T.field (record { text = codes "a"; quotes = false }) Regular
-    (T.struct 7 (T.field (record { text = codes "b"; quotes = false }) Optional (T.list T.none T.any) T.no_field) true)
+    T.struct 4 (T.field (record { text = codes "a"; quotes = false; asked = false }) Regular
+    (T.struct 7 (T.field (record { text = codes "b"; quotes = false; asked = false }) Optional (T.list T.none T.any) T.no_field) true)
     T.no_field) false
 
 short_read : file_at short_form ≡ Ok (one_file short_tree)
@@ -80,7 +80,7 @@ abbrev beside_form : Words
 beside_form = one_body (W.open_struct 4 ∷ W.open_list 5 ∷ W.name (codes "string") 6 ∷ W.close_list 12 ∷ W.colon 13 ∷ W.name (codes "int") 15 ∷ W.comma 18 ∷ W.name (codes "a") 20 ∷ W.colon 21 ∷ W.name (codes "int") 23 ∷ W.close_struct 26 ∷ W.nl 27 ∷ W.finish 27 ∷ [])
 
 abbrev beside_tree : Tree
-beside_tree = T.struct 4 (T.field every_label (Every 6) (T.named (codes "int") 15) (T.field (record { text = codes "a"; quotes = false }) Regular (T.named (codes "int") 23) T.no_field)) false
+beside_tree = T.struct 4 (T.field every_label (Every 6) (T.named (codes "int") 15) (T.field (record { text = codes "a"; quotes = false; asked = false }) Regular (T.named (codes "int") 23) T.no_field)) false
 
 beside_read : file_at beside_form ≡ Ok (one_file beside_tree)
 unfolding unbracketed_at many label_at every_key_at head_at field_with struct_with operand_with uncalled_with paren_with conj_with branch_with expr_with inner definition_at line_at package_at file_with

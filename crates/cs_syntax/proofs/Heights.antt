@@ -8,7 +8,7 @@ use Rattle.cs_grammar.specs.declared.ast.Declaration.{Declaration}
 use Rattle.cs_grammar.specs.declared.ast.Field.{Field}
 use Rattle.cs_grammar.specs.Tree as T
 use Rattle.cs_grammar.specs.Tree.{Tree}
-use Rattle.cs_grammar.specs.View.{expr_view, fields_view, SeenDeclaration, field_seen, embedding_seen, declarations_of, declaration_view, declarations_view}
+use Rattle.cs_grammar.specs.View.{expr_view, fields_view, SeenDeclaration, field_seen, embedding_seen, conditional_seen, declarations_of, declaration_view, declarations_view}
 use Rattle.cs_grammar.proofs.Views.{view-value}
 use Rattle.cs_grammar.specs.Height.{height, height_all, height_fields, height_declarations, height_end}
 use Rattle.cs_syntax.specs.SeenHeight.{declaration_height}
@@ -52,6 +52,7 @@ field_parts f fs = ap (λ e. max (height e) (height_fields (fields_view fs))) (v
 seen_parts : (d : SeenDeclaration) (ds : List SeenDeclaration) → height_declarations (declarations_of (d ∷ ds)) ≡ max (declaration_height d) (height_declarations (declarations_of ds))
 seen_parts (field_seen f) ds = refl
 seen_parts (embedding_seen o e) ds = refl
+seen_parts (conditional_seen o cs e) ds = refl
 
 pub declaration_parts : (d : Declaration) (ds : List Declaration) → height_declarations (declarations_view (d ∷ ds)) ≡ max (declaration_height (declaration_view d)) (height_declarations (declarations_view ds))
 declaration_parts d ds = seen_parts (declaration_view d) (map declaration_view ds)

@@ -4,8 +4,9 @@ use Rattle.std.specs.List.{AllByRecursion}
 use Rattle.std.specs.Option.{option_map}
 use Rattle.cs_grammar.specs.declared.ast.FieldMark.{FieldMark}
 use Rattle.cs_grammar.specs.Labels.{HasLabel, IsLabelled, AreLabelled, AreLabelledFields, AreLabelledDeclarations, IsLabelledEnd, IsLabelledFile}
-use Rattle.cs_grammar.specs.Spells.{fields_alone, literal_if, literal, Comma, explicit, inserted, ClosesParen, paren_here, paren_after, ClosesList, list_here, list_after, ClosesStruct, struct_here, struct_after, SpellsNumber, positive, negative, SpellsBound, limit_is, other_number, other_text, other_null, SpellsLabel, bare_label, quoted_label, SpellsMark, regular, optional, required, SpellsOpening, unopened, opened, SpellsValue, long, short, SpellsField, labelled, every_key, SpellsExpr, one_branch, disjunction_is, SpellsBars, no_bar, a_bar, SpellsBranch, unmarked, marked_is, SpellsConj, one_operand, conjunction_is, SpellsAmps, no_amp, an_amp, SpellsOperand, top_is, bottom_is, reference_is, name_is, number_is, text_is, bound_is, paren_is, struct_is, list_is, call_paren_is, shut_is, wide_struct_is, SpellsWideStruct, no_declarations, wide_dots_alone, some_declarations, SpellsDeclarations, a_field, an_embedding, SpellsMore, no_more, next_declaration, SpellsStruct, no_fields, dots_alone, fields, SpellsFields, no_more_fields, next_field, SpellsList, no_elements, rest_alone, elements, SpellsElements, no_more_elements, next_element, SpellsEnd, closed_is, rest_is, SpellsRest, any_is, each_is, SpellsDefinition, defined, SpellsDefinitions, no_definition, next_definition, SpellsPackage, no_clause, clause, SpellsFile, spelled}
-use Rattle.cs_grammar.specs.Tree.{Label, Tree, Trees, Fields, field, Declarations, no_declaration, declared, embedded, End, DefinitionTree, body, FileTree}
+use Rattle.cs_grammar.specs.Spells.{fields_alone, literal_if, literal, Comma, explicit, inserted, ClosesParen, paren_here, paren_after, ClosesList, list_here, list_after, ClosesStruct, struct_here, struct_after, SpellsNumber, positive, negative, SpellsBound, limit_is, other_number, other_text, other_null, SpellsLabel, bare_label, quoted_label, SpellsMark, regular, optional, required, SpellsOpening, unopened, opened, SpellsScalar, scalar_name, scalar_number, scalar_text, SpellsTest, is_true, equal_to, unequal_to, is_absent, is_present, related, SpellsCondition, asked_is, denied_is, SpellsConditions, last_condition, next_condition, SpellsValue, long, short, SpellsField, labelled, every_key, SpellsExpr, one_branch, disjunction_is, SpellsBars, no_bar, a_bar, SpellsBranch, unmarked, marked_is, SpellsConj, one_operand, conjunction_is, SpellsAmps, no_amp, an_amp, SpellsOperand, top_is, bottom_is, reference_is, name_is, number_is, text_is, bound_is, paren_is, struct_is, list_is, call_paren_is, shut_is, wide_struct_is, SpellsWideStruct, no_declarations, wide_dots_alone, some_declarations, SpellsDeclarations, a_field, an_embedding, a_conditional, SpellsMore, no_more, next_declaration, SpellsStruct, no_fields, dots_alone, fields, SpellsFields, no_more_fields, next_field, SpellsList, no_elements, rest_alone, elements, SpellsElements, no_more_elements, next_element, SpellsEnd, closed_is, rest_is, SpellsRest, any_is, each_is, SpellsDefinition, defined, SpellsDefinitions, no_definition, next_definition, SpellsPackage, no_clause, clause, SpellsFile, spelled}
+use Rattle.cs_grammar.specs.Atom.{Atom}
+use Rattle.cs_grammar.specs.Tree.{Label, Test, Condition, Tree, Trees, Fields, field, Declarations, no_declaration, declared, embedded, conditional, End, DefinitionTree, body, FileTree}
 use Rattle.cs_grammar.specs.Words.{Word, Words, close_list, colon, question, bang}
 
 -- what goes on behind a label: a colon, or a mark
@@ -75,6 +76,29 @@ of_opening : {b : Bool} {ts r : Words} → SpellsOpening b ts r → Apart r → 
 of_opening (unopened c) h = of_struct_end c h
 of_opening (opened c d) h = of_comma c (refl, (of_struct_end d h).apart)
 
+-- ---- conditions
+
+of_scalar : {a : Atom} {ts r : Words} → SpellsScalar a ts r → Apart r → Follows ts
+of_scalar (scalar_name is) h = record { quiet = refl; apart = (refl, h) }
+of_scalar (scalar_number n) h = of_number n h
+of_scalar scalar_text h = record { quiet = refl; apart = (refl, h) }
+
+of_test : {t : Test} {b : Bool} {ts r : Words} → SpellsTest t b ts r → Apart r → Apart ts
+of_test is_true h = h
+of_test (equal_to s) h = (refl, (of_scalar s h).apart)
+of_test (unequal_to s) h = (refl, (of_scalar s h).apart)
+of_test is_absent h = (refl, (refl, h))
+of_test is_present h = (refl, (refl, h))
+of_test (related n) h = (refl, (of_number n h).apart)
+
+of_condition : {c : Condition} {ts r : Words} → SpellsCondition c ts r → Apart r → Apart ts
+of_condition (asked_is is t) h = (refl, of_test t h)
+of_condition (denied_is is) h = (refl, (refl, h))
+
+of_conditions : {cs : List Condition} {ts r : Words} → SpellsConditions cs ts r → Apart r → Follows ts
+of_conditions (last_condition is c) h = record { quiet = refl; apart = (refl, of_condition c h) }
+of_conditions (next_condition is c cs) h = record { quiet = refl; apart = (refl, of_condition c (of_conditions cs h).apart) }
+
 -- ---- literals of the wide profile
 
 alone_labelled : (ds : Declarations) (fs : Fields) → fields_alone ds ≡ Some fs → AreLabelledFields fs → AreLabelledDeclarations ds
@@ -88,6 +112,7 @@ alone_labelled (declared l m e ds) fs is h = by (λ gs k parts. alone_labelled d
         let parts : AreLabelledFields (field l m e gs) = subst AreLabelledFields same h in
         (parts.0, parts.1, again gs k parts.2)
 alone_labelled (embedded o e ds) fs is h = absurd cc
+alone_labelled (conditional o cs e ds) fs is h = absurd cc
 
 -- a literal has the labels of its declarations
 literal_labelled : (o : ℕ) (ds : Declarations) (b : Bool) → IsLabelled (literal o ds b) → AreLabelledDeclarations ds
@@ -151,6 +176,7 @@ mutual
   of_declarations : {ds : Declarations} {ts r : Words} → SpellsDeclarations ds ts r → AreLabelledDeclarations ds → Follows r → Follows ts
   of_declarations (a_field f m) is h = of_field f is.0 is.1 (of_more m is.2 h)
   of_declarations (an_embedding o e m) is h = of_expr e is.0 (of_more m is.1 h)
+  of_declarations (a_conditional o cs b e m) is h = of_conditions cs (of_expr e is.0 (of_more m is.1 h)).apart
 
   of_more : {ds : Declarations} {ts r : Words} → SpellsMore ds ts r → AreLabelledDeclarations ds → Follows r → Follows ts
   of_more no_more is h = h

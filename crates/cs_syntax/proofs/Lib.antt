@@ -10,8 +10,10 @@ pub mod Calls
 -- completeness, with the lists that a label's bracket begins, and what begins and follows an expression
 pub mod BracketLabels
 pub mod Boundaries
+pub mod ConditionsRead
 pub mod Completeness
 -- soundness, faults, and what the call answers
+pub mod ConditionsFound
 pub mod Soundness
 pub mod Places
 pub mod FileAnswers
@@ -34,3 +36,4 @@ pub mod Samples
 pub mod EarlierSamples
 pub mod ProfileSamples
 pub mod EmbeddingSamples
+pub mod ConditionSamples

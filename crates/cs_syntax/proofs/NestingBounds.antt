@@ -6,9 +6,10 @@ use Rattle.std.specs.Option.{option_map, unwrap_or}
 use Rattle.std.specs.Str.{bytes_eq}
 use Rattle.cs_grammar.specs.declared.ast.FieldMark.{FieldMark}
 use Rattle.cs_grammar.specs.Words.{Word, Words, name, quoted, open_list, close_list, comma, nl, colon}
+use Rattle.cs_grammar.specs.Atom.{Atom}
 use Rattle.cs_grammar.specs.Tree as T
-use Rattle.cs_grammar.specs.Tree.{Label, Tree, Trees, none, more, Fields, no_field, field, Declarations, no_declaration, declared, embedded, End, DefinitionTree, body, FileTree, definitions}
-use Rattle.cs_grammar.specs.Spells.{is_null, is_string, literal_of, fields_alone, literal_if, literal, Comma, explicit, inserted, ClosesParen, paren_here, paren_after, ClosesList, list_here, list_after, ClosesStruct, struct_here, struct_after, SpellsNumber, positive, negative, SpellsBound, limit_is, other_number, other_text, other_null, SpellsLabel, bare_label, quoted_label, SpellsMark, regular, optional, required, SpellsOpening, unopened, opened, SpellsValue, long, short, SpellsField, labelled, every_key, SpellsExpr, one_branch, disjunction_is, SpellsBars, no_bar, a_bar, SpellsBranch, unmarked, marked_is, SpellsConj, one_operand, conjunction_is, SpellsAmps, no_amp, an_amp, SpellsOperand, top_is, bottom_is, reference_is, name_is, number_is, text_is, bound_is, paren_is, struct_is, list_is, call_paren_is, shut_is, wide_struct_is, SpellsWideStruct, no_declarations, wide_dots_alone, some_declarations, SpellsDeclarations, a_field, an_embedding, SpellsMore, no_more, next_declaration, SpellsStruct, no_fields, dots_alone, fields, SpellsFields, no_more_fields, next_field, SpellsList, no_elements, rest_alone, elements, SpellsElements, no_more_elements, next_element, SpellsEnd, closed_is, rest_is, SpellsRest, any_is, each_is, defined, SpellsDefinitions, no_definition, next_definition, SpellsPackage, no_clause, clause, SpellsFile, spelled}
+use Rattle.cs_grammar.specs.Tree.{Label, Test, Condition, Tree, Trees, none, more, Fields, no_field, field, Declarations, no_declaration, declared, embedded, conditional, End, DefinitionTree, body, FileTree, definitions}
+use Rattle.cs_grammar.specs.Spells.{is_null, is_string, literal_of, fields_alone, literal_if, literal, Comma, explicit, inserted, ClosesParen, paren_here, paren_after, ClosesList, list_here, list_after, ClosesStruct, struct_here, struct_after, SpellsNumber, positive, negative, SpellsBound, limit_is, other_number, other_text, other_null, SpellsLabel, bare_label, quoted_label, SpellsMark, regular, optional, required, SpellsOpening, unopened, opened, SpellsScalar, scalar_name, scalar_number, scalar_text, SpellsTest, is_true, equal_to, unequal_to, is_absent, is_present, related, SpellsCondition, asked_is, denied_is, SpellsConditions, last_condition, next_condition, SpellsValue, long, short, SpellsField, labelled, every_key, SpellsExpr, one_branch, disjunction_is, SpellsBars, no_bar, a_bar, SpellsBranch, unmarked, marked_is, SpellsConj, one_operand, conjunction_is, SpellsAmps, no_amp, an_amp, SpellsOperand, top_is, bottom_is, reference_is, name_is, number_is, text_is, bound_is, paren_is, struct_is, list_is, call_paren_is, shut_is, wide_struct_is, SpellsWideStruct, no_declarations, wide_dots_alone, some_declarations, SpellsDeclarations, a_field, an_embedding, a_conditional, SpellsMore, no_more, next_declaration, SpellsStruct, no_fields, dots_alone, fields, SpellsFields, no_more_fields, next_field, SpellsList, no_elements, rest_alone, elements, SpellsElements, no_more_elements, next_element, SpellsEnd, closed_is, rest_is, SpellsRest, any_is, each_is, defined, SpellsDefinitions, no_definition, next_definition, SpellsPackage, no_clause, clause, SpellsFile, spelled}
 use Rattle.cs_syntax.specs.Nesting.{OpenLevels, ends_with_chained_label, is_short, counted_if, behind, nesting_at, nesting_from, nesting}
 use Rattle.cs_syntax.proofs.NestingCounts.{nesting-cons}
 
@@ -34,6 +35,7 @@ abbrev mutual
   inside_declarations no_declaration = 0
   inside_declarations (declared l m e ds) = max (suc (inside e)) (inside_declarations ds)
   inside_declarations (embedded o e ds) = max (suc (inside e)) (inside_declarations ds)
+  inside_declarations (conditional o cs e ds) = max (suc (inside e)) (inside_declarations ds)
 
   pub inside_all : Trees → ℕ
   inside_all none = 0
@@ -60,7 +62,7 @@ inside_definitions (d ∷ ds) = max (suc (inside (body d))) (inside_definitions 
 abbrev pub inside_file : FileTree → ℕ
 inside_file f = inside_definitions (definitions f)
 
--- a literal has inside what its declarations have, whether one is an embedding or none
+-- a literal has inside what its declarations have, whether all are fields or not
 inside_alone : (ds : Declarations) (fs : Fields) → fields_alone ds ≡ Some fs → inside_fields fs ≡ inside_declarations ds
 inside_alone no_declaration fs is = let none_is : no_field ≡ fs = cc in rw (sym none_is) refl
 inside_alone (declared l m e ds) fs is = by (λ gs h. inside_alone ds gs h) (fields_alone ds) refl is
@@ -69,6 +71,7 @@ inside_alone (declared l m e ds) fs is = by (λ gs h. inside_alone ds gs h) (fie
     by again None h k = absurd cc
     by again (Some gs) h k = let made : field l m e gs ≡ fs = cc in rw (sym made, again gs h) refl
 inside_alone (embedded o e ds) fs is = absurd cc
+inside_alone (conditional o cs e ds) fs is = absurd cc
 
 pub inside_literal : (o : ℕ) (ds : Declarations) (b : Bool) → inside (literal o ds b) ≡ inside_declarations ds
 inside_literal o ds b = by (fields_alone ds) refl
@@ -165,6 +168,31 @@ bound_flat (limit_is n) = refl
 bound_flat (other_number n) = refl
 bound_flat other_text = refl
 bound_flat (other_null e) = refl
+
+-- ---- conditions
+
+scalar_goes : {k : ℕ} {a : Atom} {ws ts r : Words} {ns : OpenLevels} → SpellsScalar a ts r → Runs k ws ns ts → Goes k ns r
+scalar_goes (scalar_name is) h = (_, pass h)
+scalar_goes (scalar_number n) h = number_goes n h
+scalar_goes scalar_text h = (_, pass h)
+
+test_goes : {k : ℕ} {t : Test} {b : Bool} {ws ts r : Words} {ns : OpenLevels} → SpellsTest t b ts r → Runs k ws ns ts → Goes k ns r
+test_goes is_true h = (_, h)
+test_goes (equal_to s) h = scalar_goes s (pass h)
+test_goes (unequal_to s) h = scalar_goes s (pass h)
+test_goes is_absent h = (_, pass (pass h))
+test_goes is_present h = (_, pass (pass h))
+test_goes (related n) h = number_goes n (pass h)
+
+condition_goes : {k : ℕ} {c : Condition} {ws ts r : Words} {ns : OpenLevels} → SpellsCondition c ts r → Runs k ws ns ts → Goes k ns r
+condition_goes (asked_is is t) h = test_goes t (pass h)
+condition_goes (denied_is is) h = (_, pass (pass h))
+
+conditions_go : {k : ℕ} {cs : List Condition} {ws ts r : Words} {ns : OpenLevels} → SpellsConditions cs ts r → Runs k ws ns ts → Goes k ns r
+conditions_go (last_condition is c) h = condition_goes c (pass h)
+conditions_go (next_condition is c cs) h = conditions_go cs (condition_goes c (pass h)).1
+
+-- ---- operands without parts
 
 name_flat : (s : List ℕ) (p : ℕ) → inside (unwrap_or (literal_of s) (T.named s p)) ≡ 0
 name_flat s p = null_or (is_null s)
@@ -294,6 +322,7 @@ mutual
   declarations_low : {k n : ℕ} {ds : Declarations} {ws ts r : Words} {ns : OpenLevels} → SpellsDeclarations ds ts r → begins_colon ws ≡ false → Runs k ws (0 ∷ n ∷ ns) ts → Fits k (inside_declarations ds) (n ∷ ns) × Leaves k (n ∷ ns) r
   declarations_low {n = n} {ns = ns} (a_field v m) f h = let x = field_low v f h in let y = more_low m x.1.1.1 in (max_plus _ _ _ (one_in _ n ns x.0) y.0, y.1)
   declarations_low {n = n} {ns = ns} (an_embedding o e m) f h = let x = expr_low e h in let y = more_low m x.1.1 in (max_plus _ _ _ (one_in _ n ns x.0) y.0, y.1)
+  declarations_low {n = n} {ns = ns} (a_conditional o cs b e m) f h = let x = expr_low e (conditions_go cs h).1 in let y = more_low m x.1.1 in (max_plus _ _ _ (one_in _ n ns x.0) y.0, y.1)
 
   more_low : {k m n : ℕ} {ds : Declarations} {ws ts r : Words} {ns : OpenLevels} → SpellsMore ds ts r → Runs k ws (m ∷ n ∷ ns) ts → Fits k (inside_declarations ds) (n ∷ ns) × Leaves k (n ∷ ns) r
   more_low {m = m} {n = n} {ns = ns} no_more h = (around m n ns h, (m, (_, h)))

@@ -18,11 +18,11 @@ use Rattle.cs_grammar.specs.CutIn.{CutIn}
 use Rattle.cs_grammar.specs.Stuck.{StuckIn, no_token, too_large, past_blank, past_line, past_comment, past_attribute, past_token}
 use Rattle.cs_grammar.specs.Words as W
 use Rattle.std.specs.Prelude.{◌&&◌, ◌||◌, not, cond}
-use Rattle.cs_grammar.specs.Words.{Word, Words, start, name, quoted, definition_name, numeral, top_mark, bottom_mark, open_paren, open_call, open_struct, open_wide, open_list, relation, unequal, minus}
-use Rattle.cs_grammar.specs.Tree.{Tree, atom, not_integer, DefinitionTree, FileTree, file}
-use Rattle.cs_grammar.specs.Spells.{is_reserved, is_null, literal_of}
+use Rattle.cs_grammar.specs.Words.{Word, Words, start, name, quoted, definition_name, numeral, top_mark, bottom_mark, open_paren, open_call, open_struct, open_wide, open_list, relation, unequal, minus, equal}
+use Rattle.cs_grammar.specs.Tree.{Condition, Tree, atom, not_integer, DefinitionTree, FileTree, file}
+use Rattle.cs_grammar.specs.Spells.{is_reserved, is_null, is_braced, literal_of, start_at}
 use Rattle.cs_grammar.specs.TokenWords.{words}
-use Rattle.cs_syntax.specs.Reading.{◌>>=◌, Read, word_kind, begins_with, begins_comma, fault_at, behind_if, after, after_comma, or_fault, beyond, comma_at, close_at, paren_end, expected, signed, number_or, number_at, name_or, null_or, bound_at, unequal_at, integer_at, unbracketed_at, or_more, many, another_field, another_element, opening, opening_if, opening_at, rest_behind, may_end, label_at, mark_if, mark_at, begins_string, string_at, every_key_at, head_if, head_at, field_with, fields_with, struct_if, struct_with, declaration_if, declaration_with, declarations_with, wide_struct_if, wide_struct_with, rest_if, rest_with, end_if, end_with, elements_with, list_if, list_with, paren_with, uncalled_with, operand_if, operand_with, begins_shut, amps_with, conj_with, branch_if, branch_with, bars_with, expr_with, value_if, begins_field, inner, definition_at, line_at, before_end, definitions_at, is_clause, clause_at, package_if, package_at, whole, file_with, file_at}
+use Rattle.cs_syntax.specs.Reading.{◌>>=◌, Read, word_kind, begins_with, begins_comma, fault_at, behind_if, after, after_comma, or_fault, beyond, comma_at, close_at, paren_end, expected, signed, number_or, number_at, name_or, null_or, bound_at, unequal_at, integer_at, unbracketed_at, or_more, many, another_field, another_element, opening, opening_if, opening_at, rest_behind, may_end, label_at, mark_if, mark_at, begins_string, string_at, every_key_at, head_if, head_at, field_with, fields_with, struct_if, struct_with, scalar_or, scalar_at, compared_if, compared_at, related_at, test_at, names_no_field, asked_or, asked_at, condition_if, condition_at, begins_if, after_if, conditions_at, conditional_or, conditional_with, begins_conditional, declaration_if, declaration_with, declarations_with, wide_struct_if, wide_struct_with, rest_if, rest_with, end_if, end_with, elements_with, list_if, list_with, paren_with, uncalled_with, operand_if, operand_with, begins_shut, amps_with, conj_with, branch_if, branch_with, bars_with, expr_with, value_if, begins_field, inner, definition_at, line_at, before_end, definitions_at, is_clause, clause_at, package_if, package_at, whole, file_with, file_at}
 use Rattle.cs_syntax.specs.Place.{is_left_out, fault_if, Ends, same, past, IsFaultIn}
 use Rattle.cs_lexer.specs.Lexed.{IsRefusalIn}
 use Rattle.cs_syntax.proofs.Calls.{Shut, is_shut, shut_of}
@@ -212,6 +212,72 @@ module _ {A : Type 0} (skip : Words → Option Words) (s : (ts : Words) → Well
   many_goes zero ts e = (same, e)
   many_goes (suc n) ts e = or_more_goes (many skip p n) (many_goes n) ts e (skip ts) (s ts e)
 
+-- ---- conditions
+
+scalar_or_goes : (o : Option Tree) (s : List ℕ) (p : ℕ) (ts : Words) → WellEnded ts → Goes (name s p ∷ ts) (scalar_or o s p ts)
+scalar_or_goes (Some (atom a)) s p ts e = (past same, e)
+scalar_or_goes o s p ts e = (name s p, ts, same, refl)
+
+scalar_number_goes : IsGoing (λ ts. number_at ts >>= λ z. Ok (atoms.integer z.0, z.1))
+scalar_number_goes ts e = then ts (number_at ts) _ (number_goes ts e) (λ x h. (same, h))
+
+scalar_goes : IsGoing scalar_at
+unfolding scalar_at
+scalar_goes (name s p ∷ ts) (before e) = scalar_or_goes (literal_of s) s p ts e
+scalar_goes (quoted s p ∷ ts) (before e) = (past same, e)
+scalar_goes ts e = scalar_number_goes ts e
+
+compared_goes : (b : Bool) → IsGoing (compared_at b)
+unfolding compared_at
+compared_goes b ts e = by (after kinds.Bottom ts) (after_goes kinds.Bottom refl ts e)
+  where
+    by : (o : Option Words) → GoesBehind ts o → Goes ts (compared_if b ts o)
+    by (Some us) g = g
+    by None g = then ts (scalar_at ts) _ (scalar_goes ts e) (λ x k. (same, k))
+
+related_goes : (b : atoms.Relation) → IsGoing (related_at b)
+unfolding related_at
+related_goes b ts e = then ts (number_at ts) _ (number_goes ts e) (λ x h. (same, h))
+
+test_goes : IsGoing test_at
+unfolding test_at
+test_goes (equal p ∷ ts) (before e) = moved (equal p ∷ ts) ts (compared_at true ts) (past same) (compared_goes true ts e)
+test_goes (unequal p ∷ ts) (before e) = moved (unequal p ∷ ts) ts (compared_at false ts) (past same) (compared_goes false ts e)
+test_goes (relation b p ∷ ts) (before e) = moved (relation b p ∷ ts) ts (related_at b ts) (past same) (related_goes b ts e)
+test_goes ts e = (same, e)
+
+asked_or_goes : (b : Bool) (s : List ℕ) (p : ℕ) (ts : Words) → WellEnded ts → Goes (name s p ∷ ts) (asked_or b s p ts)
+asked_or_goes true s p ts e = (name s p, ts, same, refl)
+asked_or_goes false s p ts e = (past same, e)
+
+asked_goes : IsGoing asked_at
+unfolding asked_at
+asked_goes (name s p ∷ ts) (before e) = asked_or_goes (names_no_field s) s p ts e
+asked_goes ts e = fault_here ts e
+
+condition_goes : IsGoing condition_at
+unfolding condition_at
+condition_goes ts e = by (after kinds.Bang ts) (after_goes kinds.Bang refl ts e)
+  where
+    by : (o : Option Words) → GoesBehind ts o → Goes ts (condition_if ts o)
+    by (Some us) g = moved ts us (condition_if ts (Some us)) g.0 (then us (asked_at us) _ (asked_goes us g.1) (λ x k. (same, k)))
+    by None g = then ts (asked_at ts) _ (asked_goes ts e) (λ x k. then x.1 (test_at x.1) _ (test_goes x.1 k) (λ y l. (same, l)))
+
+condition_skips : (ts : Words) → WellEnded ts → GoesBehind ts (after_if ts)
+condition_skips ts e = behind_goes begins_if (λ p. refl) ts e
+
+conditions_go : (n : ℕ) → IsGoing (conditions_at n)
+conditions_go n = many_goes after_if condition_skips condition_at condition_goes n
+
+-- a literal has to stand behind conditions, and else the fault is where it should begin
+braced_goes : (ts : Words) → WellEnded ts → (o : ℕ) (cs : List Condition) (m : Result (Tree × Words) SyntaxFault) → Goes ts m → Goes ts (m >>= λ e. conditional_or (is_braced e.0) o cs ts e.0 e.1)
+braced_goes ts w o cs (Err f) g = g
+braced_goes ts w o cs (Ok x) g = by (is_braced x.0)
+  where
+    by : (b : Bool) → Goes ts (conditional_or b o cs ts x.0 x.1)
+    by true = g
+    by false = fault_here ts w
+
 -- ---- fields, lists and expressions
 
 label_goes : IsGoing label_at
@@ -265,13 +331,18 @@ module _ (r : Bool → Read Tree) (h : (b : Bool) → IsGoing (r b)) where
       by None (Some us) g k = moved ts us (struct_if r ts None (Some us)) k.0 (then_to us (close_at kinds.CloseStruct us) _ (struct_end_goes us k.1) (λ vs l. (same, l)))
       by None None g k = then ts (field_with r ts) _ (field_goes ts e) (λ f l. then f.1 (fields_with r (length f.1) f.1) _ (many_goes another_field field_skips (field_with r) field_goes (length f.1) f.1 l) (λ fs m. then fs.1 (opening_at fs.1) _ (opening_goes fs.1 m) (λ b n. (same, n))))
 
+  conditional_goes : IsGoing (conditional_with r)
+  unfolding conditional_with
+  conditional_goes ts e = then ts (conditions_at (length ts) ts) _ (conditions_go (length ts) ts e) (λ cs k. braced_goes cs.1 k (start_at ts) cs.0 (r false cs.1) (h false cs.1 k))
+
   declaration_goes : IsGoing (declaration_with r)
   unfolding declaration_with
-  declaration_goes ts e = by (begins_field ts)
+  declaration_goes ts e = by (begins_conditional ts) (begins_field ts)
     where
-      by : (b : Bool) → Goes ts (declaration_if r b ts)
-      by true = then ts (field_with r ts) _ (field_goes ts e) (λ x k. (same, k))
-      by false = then ts (r false ts) _ (h false ts e) (λ x k. (same, k))
+      by : (c b : Bool) → Goes ts (declaration_if r c b ts)
+      by true b = conditional_goes ts e
+      by false true = then ts (field_with r ts) _ (field_goes ts e) (λ x k. (same, k))
+      by false false = then ts (r false ts) _ (h false ts e) (λ x k. (same, k))
 
   wide_struct_goes : IsGoing (wide_struct_with r)
   unfolding wide_struct_with

@@ -87,11 +87,12 @@ cut_quoted (finish {l}) = comma_quoted l _ _ refl
 
 -- in the wide profile, too
 wide_quoted : (s : Sort) (t : List ℕ) → is_quoted s t ≡ true → is_quoted (wide_sort s t) t ≡ true
-wide_quoted sorts.LeftOut t h = by (bytes_eq t (codes "*"))
+wide_quoted sorts.LeftOut t h = by (bytes_eq t (codes "*")) (bytes_eq t (codes "=="))
   where
-    by : (b : Bool) → is_quoted (cond b sorts.Mark sorts.LeftOut) t ≡ true
-    by true = refl
-    by false = refl
+    by : (a b : Bool) → is_quoted (cond a sorts.Mark (cond b sorts.Mark sorts.LeftOut)) t ≡ true
+    by true b = refl
+    by false true = refl
+    by false false = refl
 wide_quoted sorts.Mark t h = by (bytes_eq t (codes "{")) (bytes_eq t (codes "("))
   where
     by : (a b : Bool) → is_quoted (cond a sorts.Wide (cond b sorts.Wide sorts.Mark)) t ≡ true
@@ -142,7 +143,8 @@ mark_no_text t =
     unless (bytes_eq t (codes "!=")) kinds.Unequal refl (
     unless (bytes_eq t (codes "-")) kinds.Minus refl (
     unless (bytes_eq t (codes "*")) kinds.Star refl (
-    record { is = refl }))))))))))))))))))))
+    unless (bytes_eq t (codes "==")) kinds.Equal refl (
+    record { is = refl })))))))))))))))))))))
 
 wide_no_text : (t : List ℕ) → OtherKind (wide_kind t)
 wide_no_text t = unless (bytes_eq t (codes "{")) kinds.OpenWide refl (unless (bytes_eq t (codes "(")) kinds.OpenCall refl (record { is = refl }))

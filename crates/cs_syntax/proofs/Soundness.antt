@@ -1,33 +1,24 @@
 -- What is read is spelled so.
-use Rattle.std.proofs.Common.{◌≡◌, ℕ, zero, suc, ◌≤◌, ◌^◌, ℤ, pos, Bool, true, false, cond, List, [], ◌∷◌, length, drop, Option, Some, None, Result, Ok, Err, refl, subst, arith}
-use Rattle.std.proofs.lemmas.Bool.Decides.{nat_tests}
-use Rattle.std.specs.Prelude.{FitsSigned, neg_ℤ, nat_lt, nat_le, ◌&&◌, ◌||◌, not}
-use Rattle.std.specs.Int.{w64}
+use Rattle.std.proofs.Common.{◌≡◌, ℕ, zero, suc, Bool, true, false, cond, List, [], ◌∷◌, length, drop, Option, Some, None, Result, Ok, Err, refl, subst}
+use Rattle.std.proofs.lemmas.Bool.{and_parts}
+use Rattle.std.specs.Prelude.{◌&&◌, ◌||◌, not}
 use Rattle.cs_grammar.specs.declared.fault.SyntaxFault.{SyntaxFault}
 use Rattle.cs_grammar.specs.declared.kind.Kind.TheVariants as kinds
 use Rattle.cs_grammar.specs.declared.ast.FieldMark.{FieldMark}
 use Rattle.cs_grammar.specs.declared.ast.FieldMark.TheVariants.{Every}
 use Rattle.cs_grammar.specs.Atom as atoms
 use Rattle.cs_grammar.specs.Words.{Words, name, quoted, definition_name, top_mark, bottom_mark, numeral, open_paren, open_call, open_struct, open_wide, open_list, close_paren, close_struct, close_list, comma, nl, colon, question, bang, amp, bar, dots, relation, unequal, minus, star, finish}
-use Rattle.cs_grammar.specs.Tree.{Label, Tree, atom, wide, shut, not_integer, End, DefinitionTree, FileTree, file}
-use Rattle.cs_grammar.specs.View.{trees_of, fields_of, Seen, declarations_of, SeenDeclaration, field_seen, embedding_seen}
-use Rattle.cs_grammar.specs.Spells.{is_reserved, is_null, is_package, is_string, every_label, start_at, literal_of, Comma, explicit, inserted, ClosesParen, paren_here, paren_after, ClosesList, list_here, list_after, ClosesStruct, struct_here, struct_after, SpellsNumber, positive, negative, SpellsBound, limit_is, other_number, other_text, other_null, SpellsLabel, bare_label, quoted_label, SpellsMark, regular, optional, required, SpellsOpening, unopened, opened, SpellsValue, long, short, SpellsField, labelled, every_key, SpellsExpr, one_branch, disjunction_is, SpellsBars, no_bar, a_bar, SpellsBranch, unmarked, marked_is, SpellsConj, one_operand, conjunction_is, SpellsAmps, no_amp, an_amp, SpellsOperand, top_is, bottom_is, reference_is, name_is, number_is, text_is, bound_is, paren_is, struct_is, list_is, call_paren_is, shut_is, wide_struct_is, SpellsWideStruct, no_declarations, wide_dots_alone, some_declarations, SpellsDeclarations, a_field, an_embedding, SpellsMore, no_more, next_declaration, SpellsStruct, no_fields, dots_alone, fields, SpellsFields, no_more_fields, next_field, SpellsList, no_elements, rest_alone, elements, SpellsElements, no_more_elements, next_element, SpellsEnd, closed_is, rest_is, SpellsRest, any_is, each_is, SpellsDefinition, defined, SpellsDefinitions, no_definition, next_definition, SpellsPackage, no_clause, clause, SpellsFile, spelled}
-use Rattle.cs_syntax.specs.Reading.{◌>>=◌, Read, expected, begins_with, behind_if, begins_comma, comma_at, close_at, paren_end, another_field, another_element, opening, opening_if, opening_at, rest_behind, may_end, signed, number_or, number_at, name_or, null_or, bound_at, unequal_at, integer_at, unbracketed_at, or_fault, or_more, many, label_at, mark_at, string_at, every_key_at, head_at, field_with, fields_with, struct_with, declaration_if, declaration_with, declarations_with, wide_struct_with, rest_if, rest_with, end_if, end_with, elements_with, list_with, paren_with, uncalled_with, operand_if, operand_with, begins_shut, amps_with, conjunction_of, conj_with, branch_with, bars_with, disjunction_of, expr_with, value_if, begins_field, inner, definition_at, line_at, before_end, definitions_at, clause_at, package_if, package_at, whole, file_with, file_at}
+use Rattle.cs_grammar.specs.Tree.{Label, Condition, Tree, atom, wide, shut, not_integer, End, DefinitionTree, FileTree, file}
+use Rattle.cs_grammar.specs.View.{trees_of, fields_of, Seen, declarations_of, SeenDeclaration, field_seen, embedding_seen, conditional_seen}
+use Rattle.cs_grammar.specs.Spells.{is_reserved, is_null, is_package, is_string, is_braced, every_label, start_at, literal_of, Comma, explicit, inserted, ClosesParen, paren_here, paren_after, ClosesList, list_here, list_after, ClosesStruct, struct_here, struct_after, SpellsNumber, SpellsBound, limit_is, other_number, other_text, other_null, SpellsLabel, bare_label, quoted_label, SpellsMark, regular, optional, required, SpellsOpening, unopened, opened, SpellsConditions, SpellsValue, long, short, SpellsField, labelled, every_key, SpellsExpr, one_branch, disjunction_is, SpellsBars, no_bar, a_bar, SpellsBranch, unmarked, marked_is, SpellsConj, one_operand, conjunction_is, SpellsAmps, no_amp, an_amp, SpellsOperand, top_is, bottom_is, reference_is, name_is, number_is, text_is, bound_is, paren_is, struct_is, list_is, call_paren_is, shut_is, wide_struct_is, SpellsWideStruct, no_declarations, wide_dots_alone, some_declarations, SpellsDeclarations, a_field, an_embedding, a_conditional, SpellsMore, no_more, next_declaration, SpellsStruct, no_fields, dots_alone, fields, SpellsFields, no_more_fields, next_field, SpellsList, no_elements, rest_alone, elements, SpellsElements, no_more_elements, next_element, SpellsEnd, closed_is, rest_is, SpellsRest, any_is, each_is, SpellsDefinition, defined, SpellsDefinitions, no_definition, next_definition, SpellsPackage, no_clause, clause, SpellsFile, spelled}
+use Rattle.cs_syntax.specs.Reading.{◌>>=◌, Read, expected, begins_with, behind_if, begins_comma, comma_at, close_at, paren_end, another_field, another_element, opening, opening_if, opening_at, rest_behind, may_end, number_at, name_or, null_or, bound_at, unequal_at, integer_at, unbracketed_at, or_fault, or_more, many, label_at, mark_at, string_at, every_key_at, head_at, field_with, fields_with, struct_with, begins_if, ends_label, begins_conditional, conditions_at, conditional_or, conditional_with, declaration_if, declaration_with, declarations_with, wide_struct_with, rest_if, rest_with, end_if, end_with, elements_with, list_with, paren_with, uncalled_with, operand_if, operand_with, begins_shut, amps_with, conjunction_of, conj_with, branch_with, bars_with, disjunction_of, expr_with, value_if, begins_field, inner, definition_at, line_at, before_end, definitions_at, clause_at, package_if, package_at, whole, file_with, file_at}
 use Rattle.cs_syntax.proofs.Calls.{Shut, is_shut, shut_of}
+use Rattle.cs_syntax.proofs.ConditionsFound.{IfRead, if_bind, number_of, conditions_of}
 
--- P of what was read and of what is left
-abbrev IfRead : {A : Type 0} → (A → Words → Type 0) → Result (A × Words) SyntaxFault → Type 0
-IfRead P (Ok x) = P x.0 x.1
-IfRead P (Err f) = Unit {0}
-
+-- P of what is left
 abbrev IfLeft : (Words → Type 0) → Result Words SyntaxFault → Type 0
 IfLeft P (Ok us) = P us
 IfLeft P (Err f) = Unit {0}
-
-if_bind : {A B : Type 0} (P : A → Words → Type 0) (Q : B → Words → Type 0) (m : Result (A × Words) SyntaxFault) (f : A × Words → Result (B × Words) SyntaxFault)
-    → IfRead P m → ((x : A) (us : Words) → P x us → IfRead Q (f (x, us))) → IfRead Q (m >>= f)
-if_bind P Q (Ok x) f h k = k x.0 x.1 h
-if_bind P Q (Err e) f h k = tt
 
 if_left : {B : Type 0} (P : Words → Type 0) (Q : B → Words → Type 0) (m : Result Words SyntaxFault) (f : Words → Result (B × Words) SyntaxFault)
     → IfLeft P m → ((us : Words) → P us → IfRead Q (f us)) → IfRead Q (m >>= f)
@@ -38,42 +29,6 @@ if_left P Q (Err e) f h k = tt
 abbrev IfBehind : (Words → Type 0) → Option Words → Type 0
 IfBehind P (Some us) = P us
 IfBehind P None = Unit {0}
-
--- ---- numbers
-
-signed_positive : (n : ℕ) (z : ℤ) → signed false n ≡ Some z → (z ≡ pos n) × FitsSigned w64 (pos n)
-signed_positive n z h = by (nat_lt n (2 ^ 63)) refl h
-  where
-    by : (b : Bool) → nat_lt n (2 ^ 63) ≡ b → cond b (Some (pos n)) None ≡ Some z → (z ≡ pos n) × FitsSigned w64 (pos n)
-    by true e k = (cc, record { sfits = grind (arith, nat_tests) })
-    by false e k = absurd cc
-
-negated_fits : (n : ℕ) → n ≤ 2 ^ 63 → FitsSigned w64 (neg_ℤ (pos n))
-negated_fits zero h = record { sfits = omega arith }
-negated_fits (suc n) h = record { sfits = omega arith }
-
-signed_negative : (n : ℕ) (z : ℤ) → signed true n ≡ Some z → (z ≡ neg_ℤ (pos n)) × FitsSigned w64 z
-signed_negative n z h = by (nat_le n (2 ^ 63)) refl h
-  where
-    by : (b : Bool) → nat_le n (2 ^ 63) ≡ b → cond b (Some (neg_ℤ (pos n))) None ≡ Some z → (z ≡ neg_ℤ (pos n)) × FitsSigned w64 z
-    by true e k = let is : z ≡ neg_ℤ (pos n) = cc in (is, rw is (negated_fits n (grind (arith, nat_tests))))
-    by false e k = absurd cc
-
-positive_of : (n p : ℕ) (ts : Words) (o : Option ℤ) → signed false n ≡ o → IfRead (λ z r. SpellsNumber z (numeral n p ∷ ts) r) (number_or o p ts)
-positive_of n p ts None e = tt
-positive_of n p ts (Some z) e = let h = signed_positive n z e in rw h.0 (positive h.1)
-
-negative_of : (q n p : ℕ) (ts : Words) (o : Option ℤ) → signed true n ≡ o → IfRead (λ z r. SpellsNumber z (minus q ∷ numeral n p ∷ ts) r) (number_or o p ts)
-negative_of q n p ts None e = tt
-negative_of q n p ts (Some z) e = let h = signed_negative n z e in negative h.0 h.1
-
-number_of : (ts : Words) → IfRead (λ z r. SpellsNumber z ts r) (number_at ts)
-unfolding number_at
-number_of (numeral n p ∷ ts) = positive_of n p ts (signed false n) refl
-number_of (minus q ∷ numeral n p ∷ ts) = negative_of q n p ts (signed true n) refl
-number_of (minus q ∷ ts) = tt
-number_of (relation atoms.less p ∷ ts) = tt
-number_of ts = tt
 
 -- ---- marks
 
@@ -282,6 +237,14 @@ record InParen (ts : Words) (e : Tree) (us : Words) : Type 0 where
 shut_made : {ts us vs : Words} {e : Tree} → Shut ts us → InParen us e vs → SpellsOperand (wide (shut (start_at ts) e)) ts vs
 shut_made (is_shut h) s = shut_is h s.spelled s.closes
 
+-- conditions, and the struct literal under them
+record ConditionalOf (ts : Words) (o : ℕ) (cs : List Condition) (e : Tree) (us : Words) : Type 0 where
+  begins : o ≡ start_at ts
+  behind : Words
+  asked : SpellsConditions cs ts behind
+  braced : is_braced e ≡ true
+  spelled : SpellsExpr e behind us
+
 abbrev FieldOf : Words → Seen → Words → Type 0
 FieldOf ts f us = SpellsField f.label f.mark f.value ts us
 
@@ -319,18 +282,28 @@ module _ (r : Bool → Read Tree) (h : IsSound r) where
   struct_of (relation atoms.less p ∷ ts) = first_field_of (relation atoms.less p ∷ ts)
   struct_of ts = first_field_of ts
 
-  -- a field, or an embedding with where it begins
+  -- a field, or an embedding or a literal under conditions with where it begins
   abbrev DeclarationOf : Words → SeenDeclaration → Words → Type 0
   DeclarationOf ts (field_seen f) us = FieldOf ts f us
   DeclarationOf ts (embedding_seen o e) us = (o ≡ start_at ts) × SpellsExpr e ts us
+  DeclarationOf ts (conditional_seen o cs e) us = ConditionalOf ts o cs e us
+
+  braced_of : (ts us : Words) (cs : List Condition) (e : Tree) (vs : Words) → SpellsConditions cs ts us → SpellsExpr e us vs → (b : Bool) → is_braced e ≡ b → IfRead (DeclarationOf ts) (conditional_or b (start_at ts) cs us e vs)
+  braced_of ts us cs e vs s t true k = record { begins = refl; behind = us; asked = s; braced = k; spelled = t }
+  braced_of ts us cs e vs s t false k = tt
+
+  conditional_of : (ts : Words) → begins_conditional ts ≡ true → IfRead (DeclarationOf ts) (conditional_with r ts)
+  unfolding conditional_with
+  conditional_of ts k = if_bind (λ cs us. SpellsConditions cs ts us) (DeclarationOf ts) (conditions_at (length ts) ts) _ (conditions_of ts (and_parts (begins_if ts) (not (ends_label (drop 1 ts))) k).0) (λ cs us s. if_bind (λ e vs. SpellsExpr e us vs) (DeclarationOf ts) (r false us) _ (h.exprs us) (λ e vs t. braced_of ts us cs e vs s t (is_braced e) refl))
 
   declaration_of : (ts : Words) → IfRead (DeclarationOf ts) (declaration_with r ts)
   unfolding declaration_with
-  declaration_of ts = by (begins_field ts)
+  declaration_of ts = by (begins_conditional ts) (begins_field ts) refl
     where
-      by : (b : Bool) → IfRead (DeclarationOf ts) (declaration_if r b ts)
-      by true = if_bind (FieldOf ts) (DeclarationOf ts) (field_with r ts) _ (field_of ts) (λ f us s. s)
-      by false = if_bind (λ e us. SpellsExpr e ts us) (DeclarationOf ts) (r false ts) _ (h.exprs ts) (λ e us s. (refl, s))
+      by : (c b : Bool) → begins_conditional ts ≡ c → IfRead (DeclarationOf ts) (declaration_if r c b ts)
+      by true b k = conditional_of ts k
+      by false true k = if_bind (FieldOf ts) (DeclarationOf ts) (field_with r ts) _ (field_of ts) (λ f us s. s)
+      by false false k = if_bind (λ e us. SpellsExpr e ts us) (DeclarationOf ts) (r false ts) _ (h.exprs ts) (λ e us s. (refl, s))
 
   abbrev MoreOf : Words → List SeenDeclaration → Words → Type 0
   MoreOf ts ds us = SpellsMore (declarations_of ds) ts us
@@ -338,6 +311,7 @@ module _ (r : Bool → Read Tree) (h : IsSound r) where
   declared_by : {ts us ws : Words} (d : SeenDeclaration) (ds : List SeenDeclaration) → DeclarationOf ts d us → MoreOf us ds ws → SpellsDeclarations (declarations_of (d ∷ ds)) ts ws
   declared_by (field_seen f) ds s m = a_field s m
   declared_by (embedding_seen o e) ds s m = an_embedding s.0 s.1 m
+  declared_by (conditional_seen o cs e) ds s m = a_conditional s.begins s.asked s.braced s.spelled m
 
   many_declarations_of : (n : ℕ) (ts : Words) → IfRead (MoreOf ts) (declarations_with r n ts)
   unfolding many

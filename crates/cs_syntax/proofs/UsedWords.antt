@@ -3,10 +3,11 @@ use Rattle.std.proofs.Common.{◌≡◌, ℕ, ◌≤◌, ℤ, Bool, false, List,
 use Rattle.cs_grammar.specs.declared.ast.FieldMark.{FieldMark}
 use Rattle.cs_grammar.specs.declared.profile.Profile.TheVariants as profiles
 use Rattle.cs_grammar.specs.Cut.{Lexeme}
-use Rattle.cs_grammar.specs.Spells.{Comma, explicit, inserted, ClosesParen, paren_here, paren_after, ClosesList, list_here, list_after, ClosesStruct, struct_here, struct_after, SpellsNumber, positive, negative, SpellsBound, limit_is, other_number, other_text, other_null, SpellsLabel, bare_label, quoted_label, SpellsMark, regular, optional, required, SpellsOpening, unopened, opened, SpellsValue, long, short, SpellsField, labelled, every_key, SpellsExpr, one_branch, disjunction_is, SpellsBars, no_bar, a_bar, SpellsBranch, unmarked, marked_is, SpellsConj, one_operand, conjunction_is, SpellsAmps, no_amp, an_amp, SpellsOperand, top_is, bottom_is, reference_is, name_is, number_is, text_is, bound_is, paren_is, struct_is, list_is, call_paren_is, shut_is, wide_struct_is, SpellsWideStruct, no_declarations, wide_dots_alone, some_declarations, SpellsDeclarations, a_field, an_embedding, SpellsMore, no_more, next_declaration, SpellsStruct, no_fields, dots_alone, fields, SpellsFields, no_more_fields, next_field, SpellsList, no_elements, rest_alone, elements, SpellsElements, no_more_elements, next_element, SpellsEnd, closed_is, rest_is, SpellsRest, any_is, each_is, SpellsDefinition, defined, SpellsDefinitions, no_definition, next_definition, SpellsPackage, no_clause, clause, SpellsFile, spelled}
+use Rattle.cs_grammar.specs.Spells.{Comma, explicit, inserted, ClosesParen, paren_here, paren_after, ClosesList, list_here, list_after, ClosesStruct, struct_here, struct_after, SpellsNumber, positive, negative, SpellsBound, limit_is, other_number, other_text, other_null, SpellsLabel, bare_label, quoted_label, SpellsMark, regular, optional, required, SpellsOpening, unopened, opened, SpellsScalar, scalar_name, scalar_number, scalar_text, SpellsTest, is_true, equal_to, unequal_to, is_absent, is_present, related, SpellsCondition, asked_is, denied_is, SpellsConditions, last_condition, next_condition, SpellsValue, long, short, SpellsField, labelled, every_key, SpellsExpr, one_branch, disjunction_is, SpellsBars, no_bar, a_bar, SpellsBranch, unmarked, marked_is, SpellsConj, one_operand, conjunction_is, SpellsAmps, no_amp, an_amp, SpellsOperand, top_is, bottom_is, reference_is, name_is, number_is, text_is, bound_is, paren_is, struct_is, list_is, call_paren_is, shut_is, wide_struct_is, SpellsWideStruct, no_declarations, wide_dots_alone, some_declarations, SpellsDeclarations, a_field, an_embedding, a_conditional, SpellsMore, no_more, next_declaration, SpellsStruct, no_fields, dots_alone, fields, SpellsFields, no_more_fields, next_field, SpellsList, no_elements, rest_alone, elements, SpellsElements, no_more_elements, next_element, SpellsEnd, closed_is, rest_is, SpellsRest, any_is, each_is, SpellsDefinition, defined, SpellsDefinitions, no_definition, next_definition, SpellsPackage, no_clause, clause, SpellsFile, spelled}
 use Rattle.cs_grammar.specs.Taken.{wide_lexeme}
 use Rattle.cs_grammar.specs.TokenWords.{words}
-use Rattle.cs_grammar.specs.Tree.{Label, Tree, Trees, Fields, Declarations, End, DefinitionTree, FileTree}
+use Rattle.cs_grammar.specs.Atom.{Atom}
+use Rattle.cs_grammar.specs.Tree.{Label, Test, Condition, Tree, Trees, Fields, Declarations, End, DefinitionTree, FileTree}
 use Rattle.cs_grammar.specs.Words.{Words}
 use Rattle.cs_lexer.proofs.CutWide.{cut_wide}
 use Rattle.cs_syntax.specs.Answer.{IsSpelled}
@@ -59,6 +60,29 @@ of_mark required h = (refl, (refl, h))
 of_opening : {b : Bool} {ts r : Words} → SpellsOpening b ts r → Used r → Used ts
 of_opening (unopened c) h = of_struct_end c h
 of_opening (opened c d) h = of_comma c (refl, of_struct_end d h)
+
+-- ---- conditions
+
+of_scalar : {a : Atom} {ts r : Words} → SpellsScalar a ts r → Used r → Used ts
+of_scalar (scalar_name is) h = (refl, h)
+of_scalar (scalar_number n) h = of_number n h
+of_scalar scalar_text h = (refl, h)
+
+of_test : {t : Test} {b : Bool} {ts r : Words} → SpellsTest t b ts r → Used r → Used ts
+of_test is_true h = h
+of_test (equal_to s) h = (refl, of_scalar s h)
+of_test (unequal_to s) h = (refl, of_scalar s h)
+of_test is_absent h = (refl, (refl, h))
+of_test is_present h = (refl, (refl, h))
+of_test (related n) h = (refl, of_number n h)
+
+of_condition : {c : Condition} {ts r : Words} → SpellsCondition c ts r → Used r → Used ts
+of_condition (asked_is is t) h = (refl, of_test t h)
+of_condition (denied_is is) h = (refl, (refl, h))
+
+of_conditions : {cs : List Condition} {ts r : Words} → SpellsConditions cs ts r → Used r → Used ts
+of_conditions (last_condition is c) h = (refl, of_condition c h)
+of_conditions (next_condition is c cs) h = (refl, of_condition c (of_conditions cs h))
 
 -- ---- values
 
@@ -114,6 +138,7 @@ mutual
   of_declarations : {ds : Declarations} {ts r : Words} → SpellsDeclarations ds ts r → Used r → Used ts
   of_declarations (a_field f m) h = of_field f (of_more m h)
   of_declarations (an_embedding o e m) h = of_expr e (of_more m h)
+  of_declarations (a_conditional o cs b e m) h = of_conditions cs (of_expr e (of_more m h))
 
   of_more : {ds : Declarations} {ts r : Words} → SpellsMore ds ts r → Used r → Used ts
   of_more no_more h = h

@@ -8,10 +8,11 @@ use Rattle.cs_grammar.specs.declared.kind.Kind.{Kind}
 use Rattle.cs_grammar.specs.declared.kind.Kind.TheVariants as kinds
 use Rattle.cs_grammar.specs.declared.token.Sort.TheVariants as sorts
 use Rattle.cs_grammar.specs.Cut.{Lexeme, lexeme}
-use Rattle.cs_grammar.specs.Spells.{start_at, fields_alone, literal, Comma, explicit, inserted, ClosesParen, paren_here, paren_after, ClosesList, list_here, list_after, ClosesStruct, struct_here, struct_after, SpellsNumber, positive, negative, SpellsBound, limit_is, other_number, other_text, other_null, SpellsLabel, bare_label, quoted_label, SpellsMark, regular, optional, required, SpellsOpening, unopened, opened, SpellsValue, long, short, SpellsField, labelled, every_key, SpellsExpr, one_branch, disjunction_is, SpellsBars, no_bar, a_bar, SpellsBranch, unmarked, marked_is, SpellsConj, one_operand, conjunction_is, SpellsAmps, no_amp, an_amp, SpellsOperand, top_is, bottom_is, reference_is, name_is, number_is, text_is, bound_is, paren_is, struct_is, list_is, call_paren_is, shut_is, wide_struct_is, SpellsWideStruct, no_declarations, wide_dots_alone, some_declarations, SpellsDeclarations, a_field, an_embedding, SpellsMore, no_more, next_declaration, SpellsStruct, no_fields, dots_alone, fields, SpellsFields, no_more_fields, next_field, SpellsList, no_elements, rest_alone, elements, SpellsElements, no_more_elements, next_element, SpellsEnd, closed_is, rest_is, SpellsRest, any_is, each_is, SpellsDefinition, defined, SpellsDefinitions, no_definition, next_definition, SpellsPackage, no_clause, clause, SpellsFile, spelled}
+use Rattle.cs_grammar.specs.Spells.{start_at, fields_alone, literal, Comma, explicit, inserted, ClosesParen, paren_here, paren_after, ClosesList, list_here, list_after, ClosesStruct, struct_here, struct_after, SpellsNumber, positive, negative, SpellsBound, limit_is, other_number, other_text, other_null, SpellsLabel, bare_label, quoted_label, SpellsMark, regular, optional, required, SpellsOpening, unopened, opened, SpellsScalar, scalar_name, scalar_number, scalar_text, SpellsTest, is_true, equal_to, unequal_to, is_absent, is_present, related, SpellsCondition, asked_is, denied_is, SpellsConditions, last_condition, next_condition, SpellsValue, long, short, SpellsField, labelled, every_key, SpellsExpr, one_branch, disjunction_is, SpellsBars, no_bar, a_bar, SpellsBranch, unmarked, marked_is, SpellsConj, one_operand, conjunction_is, SpellsAmps, no_amp, an_amp, SpellsOperand, top_is, bottom_is, reference_is, name_is, number_is, text_is, bound_is, paren_is, struct_is, list_is, call_paren_is, shut_is, wide_struct_is, SpellsWideStruct, no_declarations, wide_dots_alone, some_declarations, SpellsDeclarations, a_field, an_embedding, a_conditional, SpellsMore, no_more, next_declaration, SpellsStruct, no_fields, dots_alone, fields, SpellsFields, no_more_fields, next_field, SpellsList, no_elements, rest_alone, elements, SpellsElements, no_more_elements, next_element, SpellsEnd, closed_is, rest_is, SpellsRest, any_is, each_is, SpellsDefinition, defined, SpellsDefinitions, no_definition, next_definition, SpellsPackage, no_clause, clause, SpellsFile, spelled}
 use Rattle.cs_grammar.specs.Taken.{wide_lexeme}
 use Rattle.cs_grammar.specs.TokenWords.{mark_kind, word_of, word}
-use Rattle.cs_grammar.specs.Tree.{Label, Tree, struct, Trees, Fields, no_field, field, Declarations, no_declaration, declared, End, DefinitionTree, FileTree}
+use Rattle.cs_grammar.specs.Atom.{Atom}
+use Rattle.cs_grammar.specs.Tree.{Label, Test, Condition, Tree, struct, Trees, Fields, no_field, field, Declarations, no_declaration, declared, End, DefinitionTree, FileTree}
 use Rattle.cs_grammar.specs.Words.{Word, Words, name, quoted, open_struct, open_wide, open_paren, open_call, open_list, close_list, colon, question, bang, left_out}
 use Rattle.cs_syntax.specs.Nesting.{OpenLevels, ends_with_chained_label, ends_with_chained_string, is_short, counted_if, behind, nesting_at, nesting_from, nesting}
 
@@ -84,6 +85,29 @@ wide_opening : {b : Bool} {ts r : Words} → SpellsOpening b ts r → SpellsOpen
 wide_opening (unopened c) = unopened (wide_struct_end c)
 wide_opening (opened c d) = opened (wide_comma c) (wide_struct_end d)
 
+-- ---- conditions
+
+wide_scalar : {a : Atom} {ts r : Words} → SpellsScalar a ts r → SpellsScalar a (all_widened ts) (all_widened r)
+wide_scalar (scalar_name is) = scalar_name is
+wide_scalar (scalar_number n) = scalar_number (wide_number n)
+wide_scalar scalar_text = scalar_text
+
+wide_test : {t : Test} {b : Bool} {ts r : Words} → SpellsTest t b ts r → SpellsTest t b (all_widened ts) (all_widened r)
+wide_test is_true = is_true
+wide_test (equal_to s) = equal_to (wide_scalar s)
+wide_test (unequal_to s) = unequal_to (wide_scalar s)
+wide_test is_absent = is_absent
+wide_test is_present = is_present
+wide_test (related n) = related (wide_number n)
+
+wide_condition : {c : Condition} {ts r : Words} → SpellsCondition c ts r → SpellsCondition c (all_widened ts) (all_widened r)
+wide_condition (asked_is is t) = asked_is is (wide_test t)
+wide_condition (denied_is is) = denied_is is
+
+wide_conditions : {cs : List Condition} {ts r : Words} → SpellsConditions cs ts r → SpellsConditions cs (all_widened ts) (all_widened r)
+wide_conditions (last_condition is c) = last_condition is (wide_condition c)
+wide_conditions (next_condition is c cs) = next_condition is (wide_condition c) (wide_conditions cs)
+
 -- ---- values
 
 mutual
@@ -147,6 +171,7 @@ mutual
   wide_declarations : {ds : Declarations} {ts r : Words} → SpellsDeclarations ds ts r → SpellsDeclarations ds (all_widened ts) (all_widened r)
   wide_declarations (a_field f m) = a_field (wide_field f) (wide_more m)
   wide_declarations (an_embedding {ts = ts} o e m) = an_embedding (o ∙ sym (start_same ts)) (wide_expr e) (wide_more m)
+  wide_declarations (a_conditional {ts = ts} o cs b e m) = a_conditional (o ∙ sym (start_same ts)) (wide_conditions cs) b (wide_expr e) (wide_more m)
 
   wide_more : {ds : Declarations} {ts r : Words} → SpellsMore ds ts r → SpellsMore ds (all_widened ts) (all_widened r)
   wide_more no_more = no_more
@@ -268,7 +293,8 @@ mark_other t h j = rw (h, j) (
     unless (bytes_eq t (codes "!=")) kinds.Unequal refl (
     unless (bytes_eq t (codes "-")) kinds.Minus refl (
     unless (bytes_eq t (codes "*")) kinds.Star refl (
-    record { is = refl })))))))))))))))))))
+    unless (bytes_eq t (codes "==")) kinds.Equal refl (
+    record { is = refl }))))))))))))))))))))
 
 word_same : (k : Kind) (t : List ℕ) (o : ℕ) → opens k ≡ false → word_of k t o ≡ widened (word_of k t o)
 word_same kinds.OpenStruct t o h = absurd cc

@@ -10,7 +10,7 @@ use Rattle.cs_grammar.specs.View.{lexemes_view}
 use Rattle.cs_grammar.specs.TokenWords.{word_of, words}
 pub use Rattle.cs_grammar.proofs.Views.{start_word_of}
 use Rattle.cs_syntax.specs.Place.{fault_of}
-use Rattle.cs_syntax.specs.Reading.{Fails, Read, fault_at, unsigned_at, unequal_at, unbracketed_at, uncalled_with, number_at, begins_with, before_end}
+use Rattle.cs_syntax.specs.Reading.{Fails, Read, fault_at, unsigned_at, unequal_at, scalar_at, unbracketed_at, uncalled_with, number_at, begins_with, before_end}
 
 -- a word that is no integer begins no number
 pub unsigned_other : (b : Bool) (k : Kind) (t : List ℕ) (o : ℕ) (ts : Words) → (k ≡ kinds.Integer → ⊥) → unsigned_at b (word_of k t o ∷ ts) ≡ Err (fault_of (word_of k t o))
@@ -25,6 +25,10 @@ at_end read ts f e h r = rw (h, e, r) refl
 pub unequal_end : unequal_at [] ≡ Err (fault_at [])
 unfolding unequal_at number_at
 unequal_end = refl
+
+pub scalar_end : scalar_at [] ≡ Err (fault_at [])
+unfolding scalar_at number_at
+scalar_end = refl
 
 pub uncalled_end : (r : Bool → Read Tree) → uncalled_with r [] ≡ Err (fault_at [])
 unfolding uncalled_with unbracketed_at

@@ -1,15 +1,16 @@
 -- What the parser's calls answer and leave.
-use Rattle.std.specs.Prelude.{◌≡◌, ◌+◌, Bool, true, false, List, [], ◌∷◌, drop, reverse, Option, Some, None, Result, Ok, Err, String, string_bytes}
+use Rattle.std.specs.Prelude.{◌≡◌, ℕ, ◌+◌, Bool, true, false, List, [], ◌∷◌, drop, reverse, Option, Some, None, Result, Ok, Err, String, string_bytes}
 use Rattle.std.specs.declared.alloc.Global.{Global}
 use Rattle.cs_grammar.specs.declared.fault.SyntaxFault.{SyntaxFault}
 use Rattle.cs_syntax.specs.declared.parser.place.Parser.{Parser}
 use Rattle.cs_grammar.specs.declared.ast.FieldMark.{FieldMark}
+use Rattle.cs_grammar.specs.declared.ast.Test as tests
 use Rattle.cs_grammar.specs.declared.token.Token.{Token}
 use Rattle.cs_syntax.specs.declared.parser.nesting.NestingState as rust
 use Rattle.cs_syntax.specs.Counting.{NestingState}
 use Rattle.cs_grammar.specs.Words.{Words}
-use Rattle.cs_grammar.specs.Tree.{Label}
-use Rattle.cs_grammar.specs.View.{lexemes_view, label_of, Seen, SeenDeclaration, field_seen, embedding_seen}
+use Rattle.cs_grammar.specs.Tree.{Label, Test}
+use Rattle.cs_grammar.specs.View.{lexemes_view, label_of, test_view, Seen, SeenDeclaration, field_seen, embedding_seen, conditional_seen}
 use Rattle.cs_grammar.specs.TokenWords.{words}
 use Rattle.cs_syntax.specs.Reading.{Fails}
 
@@ -42,6 +43,13 @@ label_view x = label_of (string_bytes x.0) x.1
 abbrev pub head_view : String Global × Bool × FieldMark → Label × FieldMark
 head_view x = (label_of (string_bytes x.0) x.1, x.2)
 
+-- the field that a condition asks: its name and its offset; and what is asked, with whether that has to be met
+abbrev pub asked_view : String Global × ℕ → List ℕ × ℕ
+asked_view x = (string_bytes x.0, x.1)
+
+abbrev pub met_view : tests.Test × Bool → Test × Bool
+met_view x = (test_view x.0, x.1)
+
 -- What a call answers, seen by view, with what it leaves, is what reading gives, unless memory ran out.
 abbrev pub Reads : {X Y : Type 0} → (X → Y) → Result X SyntaxFault → Parser → Result (Y × Words) SyntaxFault → Type 0
 Reads view (Ok x) p read = read ≡ Ok (view x, left p)
@@ -57,6 +65,7 @@ ReadsPast (Err e) p read = Fails e read
 abbrev pub declared_field : SeenDeclaration → Option Seen
 declared_field (field_seen f) = Some f
 declared_field (embedding_seen o e) = None
+declared_field (conditional_seen o cs e) = None
 
 -- ---- the nesting of tokens
 

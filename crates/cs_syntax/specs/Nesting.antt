@@ -1,7 +1,7 @@
 -- How deep words nest, whatever they spell (own rule): at a word, the brackets that are open, and on each open level the short colons since that level's last comma.
 use Rattle.std.specs.Prelude.{ℕ, suc, ◌+◌, ◌-◌, max, Bool, true, false, ◌||◌, List, [], ◌∷◌, length}
 use Rattle.std.specs.List.{sum}
-use Rattle.cs_grammar.specs.Words.{Word, Words, name, definition_name, hidden, top_mark, bottom_mark, numeral, quoted, open_struct, open_wide, close_struct, open_list, close_list, open_paren, open_call, close_paren, comma, nl, colon, question, bang, amp, bar, dots, relation, unequal, minus, star, left_out, finish}
+use Rattle.cs_grammar.specs.Words.{Word, Words, name, definition_name, hidden, top_mark, bottom_mark, numeral, quoted, open_struct, open_wide, close_struct, open_list, close_list, open_paren, open_call, close_paren, comma, nl, colon, question, bang, amp, bar, dots, relation, unequal, minus, star, equal, left_out, finish}
 use Rattle.cs_grammar.specs.Spells.{is_string}
 
 -- These words, the newest first, end with a name or a text that is directly behind a colon.
@@ -72,6 +72,7 @@ behind before (relation r o) ns = ns
 behind before (unequal o) ns = ns
 behind before (minus o) ns = ns
 behind before (star o) ns = ns
+behind before (equal o) ns = ns
 behind before (left_out o) ns = ns
 behind before (finish o) ns = ns
 

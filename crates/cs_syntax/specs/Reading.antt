@@ -1,20 +1,20 @@
--- Reading from left to right with one word of look-ahead, and three behind a bracket that may begin a label.
-use Rattle.std.specs.Prelude.{◌≡◌, ℕ, ℤ, pos, neg_ℤ, zero, suc, ◌+◌, ◌^◌, [], ◌∷◌, List, length, drop, Bool, true, false, ◌&&◌, ◌||◌, not, nat_lt, nat_le, if◌then◌else◌, Option, Some, None, Result, Ok, Err}
+-- Reading from left to right with one word of look-ahead, and three behind a bracket that may begin a label or an `if` that may be one.
+use Rattle.std.specs.Prelude.{◌≡◌, ℕ, ℤ, pos, neg_ℤ, zero, suc, ◌+◌, ◌^◌, [], ◌∷◌, List, length, drop, Bool, true, false, ◌&&◌, ◌||◌, not, is_some, nat_lt, nat_le, if◌then◌else◌, Option, Some, None, Result, Ok, Err}
 use Rattle.std.specs.Option.{unwrap_or}
 use denote.Enum.Bare.{sameb}
 use Rattle.cs_grammar.specs.contracts.kind.Kind.{the_type}
 use Rattle.cs_grammar.specs.declared.kind.Kind.{Kind}
 use Rattle.cs_grammar.specs.declared.kind.Kind.TheVariants as kinds
 use Rattle.cs_grammar.specs.Atom as atoms
-use Rattle.cs_grammar.specs.Atom.{Relation, top, bottom, integer, text, bound, not_integer, not_text, not_null}
+use Rattle.cs_grammar.specs.Atom.{Atom, Relation, top, bottom, integer, text, bound, not_integer, not_text, not_null}
 use Rattle.cs_grammar.specs.declared.fault.SyntaxFault.{SyntaxFault}
 use Rattle.cs_grammar.specs.declared.fault.SyntaxFault.TheVariants as faults
-use Rattle.cs_grammar.specs.Words.{Word, Words, name, definition_name, hidden, top_mark, bottom_mark, numeral, quoted, open_struct, open_wide, close_struct, open_list, close_list, open_paren, open_call, close_paren, comma, nl, colon, question, bang, amp, bar, dots, relation, unequal, minus, star, left_out, finish}
+use Rattle.cs_grammar.specs.Words.{Word, Words, name, definition_name, hidden, top_mark, bottom_mark, numeral, quoted, open_struct, open_wide, close_struct, open_list, close_list, open_paren, open_call, close_paren, comma, nl, colon, question, bang, amp, bar, dots, relation, unequal, minus, star, equal, left_out, finish}
 use Rattle.cs_grammar.specs.declared.ast.FieldMark.{FieldMark}
 use Rattle.cs_grammar.specs.declared.ast.FieldMark.TheVariants.{Regular, Optional, Required, Every}
-use Rattle.cs_grammar.specs.Tree.{Label, Tree, atom, named, reference, conjunction, disjunction, paren, struct, list, wide, marked, shut, End, closed, any, each, DefinitionTree, definition, FileTree, file}
-use Rattle.cs_grammar.specs.View.{trees_of, fields_of, Seen, declarations_of, SeenDeclaration, field_seen, embedding_seen}
-use Rattle.cs_grammar.specs.Spells.{is_reserved, is_null, is_package, is_string, is_close, every_label, literal_of, literal, start_at}
+use Rattle.cs_grammar.specs.Tree.{Label, written_label, Test, present, truth, equals, compares, Condition, Tree, atom, named, reference, conjunction, disjunction, paren, struct, list, wide, marked, shut, End, closed, any, each, DefinitionTree, definition, FileTree, file}
+use Rattle.cs_grammar.specs.View.{trees_of, fields_of, Seen, declarations_of, SeenDeclaration, field_seen, embedding_seen, conditional_seen}
+use Rattle.cs_grammar.specs.Spells.{is_reserved, is_null, is_package, is_string, is_close, is_if, is_braced, every_label, literal_of, literal, start_at}
 use Rattle.cs_syntax.specs.Place.{fault_of}
 use Rattle.cs_syntax.specs.Nesting.{most_nested}
 
@@ -75,6 +75,7 @@ word_kind (relation atoms.at_least o) = kinds.AtLeast
 word_kind (unequal o) = kinds.Unequal
 word_kind (minus o) = kinds.Minus
 word_kind (star o) = kinds.Star
+word_kind (equal o) = kinds.Equal
 word_kind (left_out o) = kinds.LeftOut
 word_kind (finish o) = kinds.End
 
@@ -183,6 +184,23 @@ begins_close (w ∷ ts) = names_close w
 abbrev pub begins_shut : Words → Bool
 begins_shut ts = begins_close ts && begins_with kinds.OpenCall (drop 1 ts)
 
+-- the name `if`
+abbrev pub names_if : Word → Bool
+names_if (name s p) = is_if s
+names_if w = false
+
+abbrev pub begins_if : Words → Bool
+begins_if [] = false
+begins_if (w ∷ ts) = names_if w
+
+-- what makes a label of the name before it: [ `?` or `!` ] `:`
+abbrev pub ends_label : Words → Bool
+ends_label ts = begins_with kinds.Colon ts || ((begins_with kinds.Question ts || begins_with kinds.Bang ts) && begins_with kinds.Colon (drop 1 ts))
+
+-- an `if` that is no label
+abbrev pub begins_conditional : Words → Bool
+begins_conditional ts = begins_if ts && not (ends_label (drop 1 ts))
+
 -- behind a comma: another field, another element, or `...`
 abbrev pub another_field : Words → Option Words
 another_field ts = behind_if (begins_comma ts && not (begins_with kinds.CloseStruct (drop 1 ts) || begins_with kinds.Dots (drop 1 ts))) ts
@@ -270,8 +288,8 @@ unbracketed_at ts = Err (fault_at ts)
 -- In what follows `r true` reads the values that are inside, and `r false` the expressions, where no short form is allowed.
 
 unfoldable pub label_at : Read Label
-label_at (name s p ∷ ts) = Ok (record { text = s; quotes = false }, ts)
-label_at (quoted s p ∷ ts) = Ok (record { text = s; quotes = true }, ts)
+label_at (name s p ∷ ts) = Ok (written_label s false, ts)
+label_at (quoted s p ∷ ts) = Ok (written_label s true, ts)
 label_at ts = Err (fault_at ts)
 
 abbrev pub mark_if : Words → Option Words → Option Words → FieldMark × Words
@@ -343,19 +361,102 @@ struct_if r ts None None = do
 unfoldable pub struct_with : (Bool → Read Tree) → Read (List Seen × Bool)
 struct_with r ts = struct_if r ts (after kinds.CloseStruct ts) (after kinds.Dots ts)
 
+-- ---- conditions of the wide profile
+
+abbrev pub scalar_or : Option Tree → List ℕ → ℕ → Words → Result (Atom × Words) SyntaxFault
+scalar_or (Some (atom a)) s p ts = Ok (a, ts)
+scalar_or t s p ts = Err (fault_of (name s p))
+
+-- a literal without parts
+unfoldable pub scalar_at : Read Atom
+scalar_at (name s p ∷ ts) = scalar_or (literal_of s) s p ts
+scalar_at (quoted s p ∷ ts) = Ok (text s, ts)
+scalar_at ts = do
+  z ← number_at ts
+  Ok (integer z.0, z.1)
+
+abbrev pub compared_if : Bool → Words → Option Words → Result ((Test × Bool) × Words) SyntaxFault
+compared_if b ts (Some us) = Ok ((present, not b), us)
+compared_if b ts None = do
+  a ← scalar_at ts
+  Ok ((equals a.0, b), a.1)
+
+-- what is behind `==`, where b is true, or `!=`: a field that is `_|_` isn't there
+unfoldable pub compared_at : Bool → Read (Test × Bool)
+compared_at b ts = compared_if b ts (after kinds.Bottom ts)
+
+-- a number, behind a relation
+unfoldable pub related_at : Relation → Read (Test × Bool)
+related_at b ts = do
+  z ← number_at ts
+  Ok ((compares b z.0, true), z.1)
+
+-- what is asked, and whether that has to be met; where nothing stands, that the field is true
+unfoldable pub test_at : Read (Test × Bool)
+test_at (equal p ∷ ts) = compared_at true ts
+test_at (unequal p ∷ ts) = compared_at false ts
+test_at (relation b p ∷ ts) = related_at b ts
+test_at ts = Ok ((truth, true), ts)
+
+-- a name that is a literal, or no operand
+abbrev pub names_no_field : List ℕ → Bool
+names_no_field s = is_some (literal_of s) || is_reserved s
+
+abbrev pub asked_or : Bool → List ℕ → ℕ → Words → Result ((List ℕ × ℕ) × Words) SyntaxFault
+asked_or true s p ts = Err (fault_of (name s p))
+asked_or false s p ts = Ok ((s, p), ts)
+
+-- the name of the field that is asked
+unfoldable pub asked_at : Read (List ℕ × ℕ)
+asked_at (name s p ∷ ts) = asked_or (names_no_field s) s p ts
+asked_at ts = Err (fault_at ts)
+
+abbrev pub condition_if : Words → Option Words → Result (Condition × Words) SyntaxFault
+condition_if ts (Some us) = do
+  f ← asked_at us
+  Ok (record { label = f.0.0; at = f.0.1; test = truth; is_met = false }, f.1)
+condition_if ts None = do
+  f ← asked_at ts
+  t ← test_at f.1
+  Ok (record { label = f.0.0; at = f.0.1; test = t.0.0; is_met = t.0.1 }, t.1)
+
+-- a name and what is asked of it, or `!` and a name
+unfoldable pub condition_at : Read Condition
+condition_at ts = condition_if ts (after kinds.Bang ts)
+
+-- the words behind `if`
+abbrev pub after_if : Words → Option Words
+after_if ts = behind_if (begins_if ts) ts
+
+-- { `if` Condition }
+abbrev pub conditions_at : ℕ → Read (List Condition)
+conditions_at = many after_if condition_at
+
+abbrev pub conditional_or : Bool → ℕ → List Condition → Words → Tree → Words → Result (SeenDeclaration × Words) SyntaxFault
+conditional_or true o cs ts e us = Ok (conditional_seen o cs e, us)
+conditional_or false o cs ts e us = Err (fault_at ts)
+
+-- conditions, and the struct literal under them
+unfoldable pub conditional_with : (Bool → Read Tree) → Read SeenDeclaration
+conditional_with r ts = do
+  cs ← conditions_at (length ts) ts
+  e ← r false cs.1
+  conditional_or (is_braced e.0) (start_at ts) cs.0 cs.1 e.0 e.1
+
 -- ---- literals of the wide profile
 
-abbrev pub declaration_if : (Bool → Read Tree) → Bool → Read SeenDeclaration
-declaration_if r true ts = do
+abbrev pub declaration_if : (Bool → Read Tree) → Bool → Bool → Read SeenDeclaration
+declaration_if r true b ts = conditional_with r ts
+declaration_if r false true ts = do
   f ← field_with r ts
   Ok (field_seen f.0, f.1)
-declaration_if r false ts = do
+declaration_if r false false ts = do
   e ← r false ts
   Ok (embedding_seen (start_at ts) e.0, e.1)
 
--- a field where one begins, and else an expression that is embedded
+-- a literal under conditions or a field where one begins, and else an expression that is embedded
 unfoldable pub declaration_with : (Bool → Read Tree) → Read SeenDeclaration
-declaration_with r ts = declaration_if r (begins_field ts) ts
+declaration_with r ts = declaration_if r (begins_conditional ts) (begins_field ts) ts
 
 -- { comma Declaration }
 abbrev pub declarations_with : (Bool → Read Tree) → ℕ → Read (List SeenDeclaration)

@@ -1,6 +1,7 @@
 // From tokens to a tree, by recursive descent with one token of look-ahead, and three behind a
-// bracket that may begin a label (CUE, expressions).
+// bracket that may begin a label or an `if` that may be one (CUE, expressions).
 
+mod condition;
 mod expression;
 mod field;
 pub(crate) mod file;

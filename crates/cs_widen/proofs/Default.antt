@@ -1,5 +1,5 @@
 -- What the default profile accepts stands for itself, in either profile.
-use Rattle.std.proofs.Common.{ℕ, List, [], ◌∷◌, refl, subst, ◌∙◌}
+use Rattle.std.proofs.Common.{◌≡◌, ℕ, false, List, [], ◌∷◌, refl, subst, ◌∙◌}
 use Rattle.std.specs.List.{AllByRecursion}
 use Rattle.cs_grammar.specs.declared.profile.Profile.TheVariants as profiles
 use Rattle.cs_grammar.specs.DefaultForms.{IsDefaultFile}
@@ -9,6 +9,8 @@ use Rattle.cs_syntax.specs.AnswerIn.{IsSpelledIn}
 use Rattle.cs_package.specs.Environment.{Environment}
 use Rattle.cs_resolve.specs.Resolved.{IsPackage}
 use Rattle.cs_print.specs.Printed.{IsReadAs}
+use Rattle.cs_conditions.specs.Conditions.{AreChosen}
+use Rattle.cs_conditions.specs.Having.{have_conditions}
 use Rattle.cs_defaults.specs.Widened.{IsUnmarked}
 use Rattle.cs_tool.specs.Accepted.{AreFiles, IsAccepted}
 use Rattle.cs_tool.specs.FilesIn.{AreFilesIn}
@@ -21,6 +23,12 @@ use Rattle.cs_widen.proofs.Printed.{HaveDefaultForms, WritesSpelled, all_spelled
 
 abbrev pub Stay : Type 0
 Stay = (fs : List FileTree) → AllByRecursion IsDefaultFile fs → IsUnmarked fs fs
+
+abbrev pub HaveNoConditions : Type 0
+HaveNoConditions = (fs : List FileTree) → AllByRecursion IsDefaultFile fs → have_conditions fs ≡ false
+
+abbrev pub StayChosen : Type 0
+StayChosen = (fs : List FileTree) → have_conditions fs ≡ false → AreChosen fs fs
 
 abbrev pub AreReadWide : Type 0
 AreReadWide = (source : List ℕ) (f : FileTree) → IsSpelled source f → IsSpelledIn profiles.Wide source f
@@ -35,12 +43,19 @@ all_wide law (s ∷ ss) (f ∷ fs) h = (law s f h.0, all_wide law ss fs h.1)
 abbrev pub StandForThemselves : Type 0
 StandForThemselves = (ss : List (List ℕ)) (fs : List FileTree) (E : Environment) → AreFiles ss fs → IsPackage fs E → AreMeant fs fs
 
-pub themselves : HaveDefaultForms → WritesSpelled → Stay → StandForThemselves
-themselves law writes stay ss fs E spelled one_package =
+pub themselves : HaveDefaultForms → WritesSpelled → HaveNoConditions → StayChosen → Stay → StandForThemselves
+themselves law writes free stay_chosen stay ss fs E spelled one_package =
     let forms = spelled_default law ss fs spelled in
     let written = all_spelled writes profiles.Default ss fs spelled in
     let low = spelled_low profiles.Default ss fs spelled in
-    record { joined = fs; are_joined = package_stands fs E forms written low one_package; low = low; unmarked = stay fs forms }
+    record {
+      chosen = fs;
+      are_chosen = stay_chosen fs (free fs forms);
+      joined = fs;
+      are_joined = package_stands fs E forms written low one_package;
+      low = low;
+      unmarked = stay fs forms;
+    }
 
 module _ (ss : List (List ℕ)) where
   pub accepted_in_default : (E : Environment) → IsAccepted ss E → IsAcceptedIn profiles.Default ss E

@@ -142,7 +142,7 @@ module _ (ds : List DefinitionTree) where
       kept_fields no_field d w h = tt
       kept_fields (field l m e fs) d w h =
           let parts = both KeepsRule (conjunctions rs e) (conjunctions_fields rs fs) h in
-          (kept by_itself e d.0 w.1 parts.0, kept_fields fs d.1 w.2 parts.1)
+          (kept by_itself e d.1 w.1 parts.0, kept_fields fs d.2 w.2 parts.1)
 
       kept_end : (end : End) → IsDefaultEnd end → IsWrittenEnd end → AllByRecursion KeepsRule (conjunctions_end rs end) → IsKeptEnd end
       kept_end closed d w h = tt

@@ -107,7 +107,7 @@ mutual
   literals_fields_open no_field d h = refl
   literals_fields_open (field l m e fs) d h =
       let parts = both (λ (l : Literal). l.opened ≡ true) (literals e) (literals_fields fs) h in
-      and_from (is_open e) (fields_open fs) (literals_open e d.0 parts.0) (literals_fields_open fs d.1 parts.1)
+      and_from (is_open e) (fields_open fs) (literals_open e d.1 parts.0) (literals_fields_open fs d.2 parts.1)
 
   literals_end_open : (end : End) → IsDefaultEnd end → AreOpened (literals_end end) → end_open end ≡ true
   literals_end_open closed d h = refl
@@ -314,10 +314,10 @@ module _ (s : List ℕ) where
 
   values_among : (fs : Fields) → AreDefaultFields fs → AreWrittenFields fs → AreAmong (values_of (those_of s (declarations_of fs))) (values (one s) (named_fields fs))
   values_among no_field d w = record { default = tt; written = tt; fewer = omega arith; opened = λ o. o }
-  values_among (field l Regular e fs) d w = here _ _ _ _ d.0 w.1 refl (values_among fs d.1 w.2) (is_plain e) (bytes_eq l.text s)
-  values_among (field l Optional e fs) d w = here _ _ _ _ d.0 w.1 refl (values_among fs d.1 w.2) (is_plain e) (bytes_eq l.text s)
-  values_among (field l Required e fs) d w = here _ _ _ _ d.0 w.1 refl (values_among fs d.1 w.2) (is_plain e) (bytes_eq l.text s)
-  values_among (field l (Every o) e fs) d w = one_more e _ _ (values_among fs d.1 w.2)
+  values_among (field l Regular e fs) d w = here _ _ _ _ d.1 w.1 refl (values_among fs d.2 w.2) (l.asked || is_plain e) (bytes_eq l.text s)
+  values_among (field l Optional e fs) d w = here _ _ _ _ d.1 w.1 refl (values_among fs d.2 w.2) (l.asked || is_plain e) (bytes_eq l.text s)
+  values_among (field l Required e fs) d w = here _ _ _ _ d.1 w.1 refl (values_among fs d.2 w.2) (l.asked || is_plain e) (bytes_eq l.text s)
+  values_among (field l (Every o) e fs) d w = one_more e _ _ (values_among fs d.2 w.2)
 
 module _ (ds : List DefinitionTree) (fs : Fields) (d : AreDefaultFields fs) (w : AreWrittenFields fs) where
   label_apart : (s : List ℕ) → KeepsRule (values (one s) (named_fields fs)) → gathers ds (those_of s (declarations_of fs)) ≡ false
@@ -327,8 +327,8 @@ module _ (ds : List DefinitionTree) (fs : Fields) (d : AreDefaultFields fs) (w :
       and_right (nat_le (length (those_of s (declarations_of fs))) most_gathered) (unites ds es)
       (apart_by_rule ds by_itself es among.default among.written (kept_by es (values (one s) (named_fields fs)) among k))
 
-  held_apart : (s : List ℕ) (e : Tree) → KeepsRule (values (one s) (named_fields fs)) → (not (is_plain e) && gathers ds (those_of s (declarations_of fs))) ≡ false
-  held_apart s e k = and_right (not (is_plain e)) (gathers ds (those_of s (declarations_of fs))) (label_apart s k)
+  held_apart : (s : List ℕ) (alone : Bool) → KeepsRule (values (one s) (named_fields fs)) → (not alone && gathers ds (those_of s (declarations_of fs))) ≡ false
+  held_apart s alone k = and_right (not alone) (gathers ds (those_of s (declarations_of fs))) (label_apart s k)
 
   pub not_gathered : (gs : Fields) → AllByRecursion KeepsRule (map (λ n. values n.name (named_fields fs)) (named_fields gs))
       → AllByRecursion (λ c. is_gathered ds (declarations_of fs) c ≡ false) (declarations_of gs)
@@ -337,9 +337,9 @@ module _ (ds : List DefinitionTree) (fs : Fields) (d : AreDefaultFields fs) (w :
     where
       by : (m : FieldMark) → KeepsRule (values (declared_for l m) (named_fields fs))
           → is_gathered ds (declarations_of fs) (record { label = l; mark = m; value = e; place = None; embedding = None }) ≡ false
-      by Regular k = held_apart l.text e k
-      by Optional k = held_apart l.text e k
-      by Required k = held_apart l.text e k
+      by Regular k = held_apart l.text (l.asked || is_plain e) k
+      by Optional k = held_apart l.text (l.asked || is_plain e) k
+      by Required k = held_apart l.text (l.asked || is_plain e) k
       by (Every o) k = refl
 
 -- ---- nor are the bodies of a definition

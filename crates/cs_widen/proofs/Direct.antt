@@ -6,7 +6,7 @@ use Rattle.std.specs.Str.{bytes_eq}
 use Rattle.cs_document.specs.Document.{Document, object, Entry, entries, under}
 use Rattle.cs_grammar.specs.declared.ast.FieldMark.{FieldMark}
 use Rattle.cs_grammar.specs.declared.ast.FieldMark.TheVariants.{Regular, Optional, Required, Every}
-use Rattle.cs_grammar.specs.Tree.{Label, Tree, struct, Fields, no_field, field}
+use Rattle.cs_grammar.specs.Tree.{Label, written_label, Tree, struct, Fields, no_field, field}
 use Rattle.cs_instance.specs.Constraint.{declaration_holds, value_holds, allows}
 use Rattle.cs_instance.specs.Instance.{Rule, node, IsInstance}
 use Rattle.cs_package.specs.Environment.{Environment}
@@ -68,7 +68,7 @@ module _ (rs : Refinements) (has : List ℕ → Bool) (I : Rule → Document →
   all_hold (field l m e fs) ms = rw (holds (has_default has (leading e)) l.text m e ms refl, all_hold fs ms) refl
 
   -- which keys are allowed
-  allows_here : (d : Bool) (k : List ℕ) (l : List ℕ) (m : FieldMark) (e : Tree) (more : Bool) (fs : Fields) → more ≡ is_allowed k fs → (allows (declared l d m e) k || more) ≡ is_allowed k (field (record { text = l; quotes = false }) m e fs)
+  allows_here : (d : Bool) (k : List ℕ) (l : List ℕ) (m : FieldMark) (e : Tree) (more : Bool) (fs : Fields) → more ≡ is_allowed k fs → (allows (declared l d m e) k || more) ≡ is_allowed k (field (written_label l false) m e fs)
   allows_here true k l Regular e more fs h = ap (λ b. bytes_eq k l || b) h
   allows_here false k l Regular e more fs h = ap (λ b. bytes_eq k l || b) h
   allows_here true k l Optional e more fs h = ap (λ b. bytes_eq k l || b) h
@@ -78,7 +78,7 @@ module _ (rs : Refinements) (has : List ℕ → Bool) (I : Rule → Document →
   allows_here true k l (Every o) e more fs h = refl
   allows_here false k l (Every o) e more fs h = refl
 
-  same_label : (k : List ℕ) (l : Label) (m : FieldMark) (e : Tree) (fs : Fields) → is_allowed k (field (record { text = l.text; quotes = false }) m e fs) ≡ is_allowed k (field l m e fs)
+  same_label : (k : List ℕ) (l : Label) (m : FieldMark) (e : Tree) (fs : Fields) → is_allowed k (field (written_label l.text false) m e fs) ≡ is_allowed k (field l m e fs)
   same_label k l Regular e fs = refl
   same_label k l Optional e fs = refl
   same_label k l Required e fs = refl

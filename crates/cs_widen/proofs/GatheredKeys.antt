@@ -28,7 +28,7 @@ regular_or (Every o) n p q = cc
 
 not_every : (s : List ℕ) (bs : List Brought) → is_every (mark_of (those_of s bs)) ≡ false
 not_every s [] = refl
-not_every s (d ∷ bs) = by (is_every d.mark) (is_plain d.value) (bytes_eq d.label.text s) refl (not_every s bs)
+not_every s (d ∷ bs) = by (is_every d.mark) (d.label.asked || is_plain d.value) (bytes_eq d.label.text s) refl (not_every s bs)
   where
     by : (b p c : Bool) → is_every d.mark ≡ b → is_every (mark_of (those_of s bs)) ≡ false
         → is_every (mark_of (cond (not (b || p) && c) (d ∷ those_of s bs) (those_of s bs))) ≡ false
@@ -83,7 +83,7 @@ module _ (k : List ℕ) where
             → DeclareAlike (is_declared k before)
             (is_declared k (cond b (cond (list_any (is_of d.label.text) before) [] (together d.label.text (those_of d.label.text all) ∷ [])) (d ∷ []))) (declares d)
         by true is =
-            let regular = not_first (is_every d.mark) (is_plain d.value) (and_parts (not (stays_alone d)) (gathers ds (those_of d.label.text all)) is).0 in
+            let regular = not_first (is_every d.mark) (d.label.asked || is_plain d.value) (and_parts (not (stays_alone d)) (gathers ds (those_of d.label.text all)) is).0 in
             first regular (list_any (is_of d.label.text) before) refl
         by false is = inl refl
 

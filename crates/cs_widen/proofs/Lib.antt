@@ -10,8 +10,10 @@ mod Default
 mod Refusals
 mod Judged
 pub mod Judgements
--- a literal with defaults, one with embeddings and one without, and operands that are plain, read as they are written
+-- a literal with defaults, one with embeddings and one without, operands that are plain, and fields that conditions ask for, read as they are written
 mod Direct
+mod AskedLiterals
+mod Asked
 mod GatheredKeys
 mod Embedding
 mod PlainOperands

@@ -9,6 +9,7 @@ use Rattle.cs_grammar.specs.Limits.{most_height}
 use Rattle.cs_grammar.specs.Source.{IsSpelledBy, IsSpelledByIn}
 use Rattle.cs_grammar.specs.Tree.{DefinitionTree, FileTree, definitions}
 use Rattle.cs_grammar.specs.Written.{IsWrittenFile}
+use Rattle.cs_conditions.specs.Conditions.{AreChosen}
 use Rattle.cs_defaults.specs.Unmarked.{unmarked_file}
 use Rattle.cs_defaults.specs.Widened.{IsUnmarked, handing_on}
 use Rattle.cs_embeddings.specs.Without.{IsJoined, IsWithin}
@@ -55,6 +56,9 @@ unmarked_low law has (f ∷ fs) h =
 abbrev pub WritesSpelled : Type 0
 WritesSpelled = (p : Profile) (source : List ℕ) (f : FileTree) → IsSpelledByIn p source f → IsWrittenFile f
 
+abbrev pub WritesChosen : Type 0
+WritesChosen = (fs gs : List FileTree) → AreChosen fs gs → AllByRecursion IsWrittenFile fs → AllByRecursion IsWrittenFile gs
+
 abbrev pub WritesJoined : Type 0
 WritesJoined = (fs gs : List FileTree) → AllByRecursion IsWrittenFile fs → IsJoined fs gs → AllByRecursion IsWrittenFile gs
 
@@ -96,16 +100,25 @@ AreRead = (source : List ℕ) (fs : List FileTree) → IsPrinted source fs → h
 
 -- ---- what the files of sources stand for
 
-pub are_meant : (fs js gs : List FileTree) → IsJoined fs js → IsWithin js → IsUnmarked js gs → AreMeant fs gs
-are_meant fs js gs joined within unmarked = record { joined = js; are_joined = joined; low = within.low; unmarked = unmarked }
+pub are_meant : (fs cs js gs : List FileTree) → AreChosen fs cs → IsJoined cs js → IsWithin js → IsUnmarked js gs → AreMeant fs gs
+are_meant fs cs js gs chosen joined within unmarked = record {
+  chosen = cs;
+  are_chosen = chosen;
+  joined = js;
+  are_joined = joined;
+  low = within.low;
+  unmarked = unmarked;
+}
 
 module _ (fs gs : List FileTree) (stand_for : AreMeant fs gs) where
   abbrev has : List ℕ → Bool
   has = handing_on stand_for.joined
 
-  wide_written : (ss : List (List ℕ)) → AreFilesIn profiles.Wide ss fs → WritesSpelled → WritesJoined → WritesUnmarked → AllByRecursion IsWrittenFile gs
-  wide_written ss spelled law joins keeps =
-      let written = joins fs stand_for.joined (all_spelled law profiles.Wide ss fs spelled) stand_for.are_joined in
+  wide_written : (ss : List (List ℕ)) → AreFilesIn profiles.Wide ss fs → WritesSpelled → WritesChosen → WritesJoined → WritesUnmarked
+      → AllByRecursion IsWrittenFile gs
+  wide_written ss spelled law chooses joins keeps =
+      let chosen = chooses fs stand_for.chosen stand_for.are_chosen (all_spelled law profiles.Wide ss fs spelled) in
+      let written = joins stand_for.chosen stand_for.joined chosen stand_for.are_joined in
       subst (λ hs. AllByRecursion IsWrittenFile hs) (sym stand_for.unmarked.unmarked) (all_unmarked keeps has stand_for.joined written)
 
   wide_default : HaveNoMarks → AllByRecursion IsDefaultFile gs
@@ -118,10 +131,11 @@ module _ (fs gs : List FileTree) (stand_for : AreMeant fs gs) where
 
 -- the same in a profile: those of the default one are what is spelled
 module _ (fs gs : List FileTree) where
-  pub meant_written : (p : Profile) (ss : List (List ℕ)) → AreFilesIn p ss fs → AreMeantIn p fs gs → WritesSpelled → WritesJoined → WritesUnmarked
-      → AllByRecursion IsWrittenFile gs
-  meant_written profiles.Default ss spelled same law joins keeps = subst (λ hs. AllByRecursion IsWrittenFile hs) (sym same) (all_spelled law profiles.Default ss fs spelled)
-  meant_written profiles.Wide ss spelled stand_for law joins keeps = wide_written fs gs stand_for ss spelled law joins keeps
+  pub meant_written : (p : Profile) (ss : List (List ℕ)) → AreFilesIn p ss fs → AreMeantIn p fs gs → WritesSpelled → WritesChosen → WritesJoined
+      → WritesUnmarked → AllByRecursion IsWrittenFile gs
+  meant_written profiles.Default ss spelled same law chooses joins keeps =
+      subst (λ hs. AllByRecursion IsWrittenFile hs) (sym same) (all_spelled law profiles.Default ss fs spelled)
+  meant_written profiles.Wide ss spelled stand_for law chooses joins keeps = wide_written fs gs stand_for ss spelled law chooses joins keeps
 
   pub meant_default : (p : Profile) (ss : List (List ℕ)) → AreFilesIn p ss fs → AreMeantIn p fs gs → HaveDefaultForms → HaveNoMarks
       → AllByRecursion IsDefaultFile gs

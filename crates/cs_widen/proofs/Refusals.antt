@@ -11,6 +11,10 @@ use Rattle.cs_resolve.specs.declared.fault.ResolveFault.TheVariants as names
 use Rattle.cs_guard.specs.Cycles as guard
 use Rattle.cs_guard.specs.declared.fault.GuardFault.{GuardFault}
 use Rattle.cs_guard.specs.declared.fault.GuardFault.TheVariants as cycles
+use Rattle.cs_conditions.specs.Conditions as conditions
+use Rattle.cs_conditions.specs.Conditions.{AreChosen}
+use Rattle.cs_conditions.specs.declared.fault.ConditionFault.{ConditionFault}
+use Rattle.cs_conditions.specs.declared.fault.ConditionFault.TheVariants as choices
 use Rattle.cs_defaults.specs.Widened as defaults
 use Rattle.cs_defaults.specs.declared.fault.DefaultFault.{DefaultFault}
 use Rattle.cs_defaults.specs.declared.fault.DefaultFault.TheVariants as marks
@@ -24,7 +28,7 @@ use Rattle.cs_tool.specs.Conversions.{of_resolve, of_guard}
 use Rattle.cs_tool.specs.First.{SpellingRefusal}
 use Rattle.cs_tool.specs.declared.fault.Fault.{Fault}
 use Rattle.cs_tool.specs.declared.fault.Fault.TheVariants.{SourcesTooLong, NotUtf8, NoToken, Syntax, LeftOut, IntegerRange, TooHigh, OutOfMemory}
-use Rattle.cs_widen.specs.Refused.{of_embedding, of_mark, IsEmbeddingRefusal, IsMarkRefusal, IsNoPackageIn, IsUnguardedIn, RefusalIn}
+use Rattle.cs_widen.specs.Refused.{of_condition, of_embedding, of_mark, IsConditionRefusal, IsEmbeddingRefusal, IsMarkRefusal, IsNoPackageIn, IsUnguardedIn, RefusalIn}
 use Rattle.cs_widen.specs.Stands.{AreMeantBy}
 
 pub by_spelling : (p : Profile) (ss : List (List ℕ)) (e : Fault) → SpellingRefusal p ss e → RefusalIn p ss e
@@ -40,25 +44,46 @@ by_spelling p ss _ h = absurd h
 
 -- the sources spell these files in the wide profile
 module _ (ss : List (List ℕ)) (texts : AreTexts ss) (fs : List FileTree) (spelled : AreFilesIn profiles.Wide ss fs) where
-  embedding_refusal : (f : EmbeddingFault) → embeddings.IsRefusal f fs → IsEmbeddingRefusal ss (of_embedding f)
-  embedding_refusal f h = record { texts = texts; files = fs; spelled = spelled; fault = f; refused = h; told = refl }
+  condition_refusal : (f : ConditionFault) → conditions.IsRefusal f fs → IsConditionRefusal ss (of_condition f)
+  condition_refusal f h = record { texts = texts; files = fs; spelled = spelled; fault = f; refused = h; told = refl }
 
-  pub by_embedding : (f : EmbeddingFault) → embeddings.IsRefusal f fs → RefusalIn profiles.Wide ss (of_embedding f)
-  by_embedding joins.OutOfMemory h = tt
-  by_embedding (joins.UnknownName i o) h = inl (embedding_refusal (joins.UnknownName i o) h)
-  by_embedding (joins.NoStruct i o) h = inl (embedding_refusal (joins.NoStruct i o) h)
-  by_embedding (joins.Reopened i o) h = inl (embedding_refusal (joins.Reopened i o) h)
-  by_embedding (joins.TooHigh i) h = inr (embedding_refusal (joins.TooHigh i) h)
-  by_embedding joins.TooLarge h = inl (embedding_refusal joins.TooLarge h)
+  pub by_condition : (f : ConditionFault) → conditions.IsRefusal f fs → RefusalIn profiles.Wide ss (of_condition f)
+  by_condition choices.OutOfMemory h = tt
+  by_condition (choices.LeftOut i o) h = inr (inl (condition_refusal (choices.LeftOut i o) h))
+  by_condition (choices.MayBeAbsent i o) h = inl (condition_refusal (choices.MayBeAbsent i o) h)
 
-  -- they have no flaw, and are these without embeddings
-  module _ (js : List FileTree) (joined : IsJoined fs js) where
-    mark_refusal : (f : DefaultFault) → defaults.IsRefusal f js → IsMarkRefusal ss (of_mark f)
-    mark_refusal f h = record { texts = texts; files = fs; spelled = spelled; joined = js; are_joined = joined; fault = f; refused = h; told = refl }
+  -- they are these without conditions
+  module _ (cs : List FileTree) (chosen : AreChosen fs cs) where
+    embedding_refusal : (f : EmbeddingFault) → embeddings.IsRefusal f cs → IsEmbeddingRefusal ss (of_embedding f)
+    embedding_refusal f h = record { texts = texts; files = fs; spelled = spelled; chosen = cs; are_chosen = chosen; fault = f; refused = h; told = refl }
 
-    pub by_mark : (f : DefaultFault) → defaults.IsRefusal f js → RefusalIn profiles.Wide ss (of_mark f)
-    by_mark marks.OutOfMemory h = tt
-    by_mark (marks.Mark i o) h = inr (mark_refusal (marks.Mark i o) h)
+    pub by_embedding : (f : EmbeddingFault) → embeddings.IsRefusal f cs → RefusalIn profiles.Wide ss (of_embedding f)
+    by_embedding joins.OutOfMemory h = tt
+    by_embedding (joins.UnknownName i o) h = inl (embedding_refusal (joins.UnknownName i o) h)
+    by_embedding (joins.NoStruct i o) h = inl (embedding_refusal (joins.NoStruct i o) h)
+    by_embedding (joins.Reopened i o) h = inl (embedding_refusal (joins.Reopened i o) h)
+    by_embedding (joins.TooHigh i) h = inr (embedding_refusal (joins.TooHigh i) h)
+    by_embedding joins.TooLarge h = inl (embedding_refusal joins.TooLarge h)
+
+    -- these have no flaw, and are these without embeddings
+    module _ (js : List FileTree) (joined : IsJoined cs js) where
+      mark_refusal : (f : DefaultFault) → defaults.IsRefusal f js → IsMarkRefusal ss (of_mark f)
+      mark_refusal f h = record {
+        texts = texts;
+        files = fs;
+        spelled = spelled;
+        chosen = cs;
+        are_chosen = chosen;
+        joined = js;
+        are_joined = joined;
+        fault = f;
+        refused = h;
+        told = refl;
+      }
+
+      pub by_mark : (f : DefaultFault) → defaults.IsRefusal f js → RefusalIn profiles.Wide ss (of_mark f)
+      by_mark marks.OutOfMemory h = tt
+      by_mark (marks.Mark i o) h = inr (inr (mark_refusal (marks.Mark i o) h))
 
 -- the sources spell files, which stand for these
 module _ (p : Profile) (ss : List (List ℕ)) (gs : List FileTree) (meant : AreMeantBy p ss gs) where
@@ -78,7 +103,7 @@ module _ (p : Profile) (ss : List (List ℕ)) (gs : List FileTree) (meant : AreM
   by_resolve names.OutOfMemory h = tt
   by_resolve (names.PackageName i) h = no_package (names.PackageName i) h
   by_resolve (names.UnknownName i o) h = inr (no_package (names.UnknownName i o) h)
-  by_resolve (names.FieldReference i o) h = no_package (names.FieldReference i o) h
+  by_resolve (names.FieldReference i o) h = inr (no_package (names.FieldReference i o) h)
   by_resolve (names.NotOpened i o) h = inr (no_package (names.NotOpened i o) h)
   by_resolve (names.TooLarge n) h = inr (no_package (names.TooLarge n) h)
 

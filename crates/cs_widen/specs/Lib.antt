@@ -5,5 +5,6 @@ pub mod Meant
 pub mod Refused
 pub mod Calls
 pub mod Direct
+pub mod Asked
 pub mod Embedding
 pub mod Schemas

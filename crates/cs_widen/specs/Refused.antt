@@ -9,6 +9,10 @@ use Rattle.cs_resolve.specs.Resolved.{IsPackage}
 use Rattle.cs_resolve.specs.declared.fault.ResolveFault.{ResolveFault}
 use Rattle.cs_guard.specs.Cycles as guard
 use Rattle.cs_guard.specs.declared.fault.GuardFault.{GuardFault}
+use Rattle.cs_conditions.specs.Conditions as conditions
+use Rattle.cs_conditions.specs.Conditions.{AreChosen}
+use Rattle.cs_conditions.specs.declared.fault.ConditionFault.{ConditionFault}
+use Rattle.cs_conditions.specs.declared.fault.ConditionFault.TheVariants as choices
 use Rattle.cs_defaults.specs.Widened as defaults
 use Rattle.cs_defaults.specs.declared.fault.DefaultFault.{DefaultFault}
 use Rattle.cs_defaults.specs.declared.fault.DefaultFault.TheVariants as marks
@@ -25,6 +29,12 @@ use Rattle.cs_tool.specs.declared.fault.Fault.TheVariants.{SourcesTooLong, NotUt
 use Rattle.cs_widen.specs.Meant.{IsMeantIn}
 use Rattle.cs_widen.specs.Stands.{AreMeantIn}
 
+-- a condition that isn't taken is a form that is left out, and a field that may be absent where it is asked about is one that a name depends on
+abbrev pub of_condition : ConditionFault → Fault
+of_condition choices.OutOfMemory = OutOfMemory
+of_condition (choices.LeftOut file offset) = LeftOut file offset
+of_condition (choices.MayBeAbsent file offset) = FieldReference file offset
+
 -- what can't be embedded, or would be opened by an embedding, is a literal that isn't opened
 abbrev pub of_embedding : EmbeddingFault → Fault
 of_embedding joins.OutOfMemory = OutOfMemory
@@ -39,22 +49,35 @@ abbrev pub of_mark : DefaultFault → Fault
 of_mark marks.OutOfMemory = OutOfMemory
 of_mark (marks.Mark file offset) = LeftOut file offset
 
--- the sources spell files in the wide profile, and that is why these don't stand for files without embeddings
+-- the sources spell files in the wide profile, and that is why these don't stand for files without conditions
+pub record IsConditionRefusal (sources : List (List ℕ)) (f : Fault) : Type 0 where
+  pub texts : AreTexts sources
+  pub files : List FileTree
+  pub spelled : AreFilesIn profiles.Wide sources files
+  pub fault : ConditionFault
+  pub refused : conditions.IsRefusal fault files
+  pub told : f ≡ of_condition fault
+
+-- they stand for files without conditions, and that is why these don't stand for files without embeddings
 pub record IsEmbeddingRefusal (sources : List (List ℕ)) (f : Fault) : Type 0 where
   pub texts : AreTexts sources
   pub files : List FileTree
   pub spelled : AreFilesIn profiles.Wide sources files
+  pub chosen : List FileTree
+  pub are_chosen : AreChosen files chosen
   pub fault : EmbeddingFault
-  pub refused : embeddings.IsRefusal fault files
+  pub refused : embeddings.IsRefusal fault chosen
   pub told : f ≡ of_embedding fault
 
--- they stand for files without embeddings, and that is the first mark at fault in these
+-- these stand for files without embeddings, and that is the first mark at fault in these
 pub record IsMarkRefusal (sources : List (List ℕ)) (f : Fault) : Type 0 where
   pub texts : AreTexts sources
   pub files : List FileTree
   pub spelled : AreFilesIn profiles.Wide sources files
+  pub chosen : List FileTree
+  pub are_chosen : AreChosen files chosen
   pub joined : List FileTree
-  pub are_joined : IsJoined files joined
+  pub are_joined : IsJoined chosen joined
   pub fault : DefaultFault
   pub refused : defaults.IsRefusal fault joined
   pub told : f ≡ of_mark fault
@@ -97,11 +120,13 @@ RefusalIn p sources (NoToken number offset) = SpellingRefusal p sources (NoToken
 RefusalIn p sources (Syntax number offset) = SpellingRefusal p sources (Syntax number offset)
 RefusalIn p sources (IntegerRange number offset) = SpellingRefusal p sources (IntegerRange number offset)
 RefusalIn p sources (TooHigh number) = SpellingRefusal p sources (TooHigh number) ⊎ OfWide p (IsEmbeddingRefusal sources (TooHigh number))
-RefusalIn p sources (LeftOut number offset) = IsMisspelledIn p sources (LeftOut number offset) ⊎ OfWide p (IsMarkRefusal sources (LeftOut number offset))
+RefusalIn p sources (LeftOut number offset) =
+    IsMisspelledIn p sources (LeftOut number offset) ⊎ OfWide p (IsConditionRefusal sources (LeftOut number offset) ⊎ IsMarkRefusal sources (LeftOut number offset))
 RefusalIn p sources (PackageName number) = IsNoPackageIn p sources (PackageName number)
 RefusalIn p sources (TooLarge definitions) = OfWide p (IsEmbeddingRefusal sources (TooLarge definitions)) ⊎ IsNoPackageIn p sources (TooLarge definitions)
 RefusalIn p sources (UnknownName number offset) = OfWide p (IsEmbeddingRefusal sources (UnknownName number offset)) ⊎ IsNoPackageIn p sources (UnknownName number offset)
-RefusalIn p sources (FieldReference number offset) = IsNoPackageIn p sources (FieldReference number offset)
+RefusalIn p sources (FieldReference number offset) =
+    OfWide p (IsConditionRefusal sources (FieldReference number offset)) ⊎ IsNoPackageIn p sources (FieldReference number offset)
 RefusalIn p sources (NotOpened number offset) = OfWide p (IsEmbeddingRefusal sources (NotOpened number offset)) ⊎ IsNoPackageIn p sources (NotOpened number offset)
 RefusalIn p sources (Cycle names) = IsUnguardedIn p sources (Cycle names)
 RefusalIn p sources (ChainTooLong names) = IsUnguardedIn p sources (ChainTooLong names)

@@ -8,6 +8,7 @@ ghost use Rattle.cs_package.specs.Environment.{Environment};
 ghost use Rattle.cs_resolve.specs.Resolved.{IsPackage};
 ghost use Rattle.cs_tool.specs.Accepted.{AreFiles, IsAccepted};
 ghost use Rattle.cs_widen.specs.Accepted.{IsAcceptedIn};
+ghost use Rattle.cs_widen.specs.Asked.{AreAskedReadDirectly};
 ghost use Rattle.cs_widen.specs.Direct.{AreReadDirectly};
 ghost use Rattle.cs_widen.specs.Embedding.{AreEmbeddingsReadDirectly, AreLiteralsReadDirectly, ArePlainReadDirectly, AreUnionsReadDirectly};
 ghost use Rattle.cs_widen.specs.Stands.{AreMeant};
@@ -44,12 +45,21 @@ pub fn literals_are_read_directly()
     ensures { (E : Environment) (I : Rule → Document → Bool) → IsInstance E I → AreLiteralsReadDirectly I }
 {}
 
+/// A law: a map meets the declaration that a condition makes of its field, where it holds or where it doesn't, exactly where the field is so, if it
+/// is of one of the kinds that its other declarations may admit: it is as the test asks, or isn't; and where it is missing so is its default, or it
+/// is asked that it isn't there.
+pub fn asked_fields_are_read_directly()
+    ensures { (E : Environment) (I : Rule → Document → Bool) → IsInstance E I → AreAskedReadDirectly I }
+{}
+
 /// A law: files that sources of the default profile spell, and that are a package, stand for themselves in the wide profile.
 pub(crate) fn default_packages_are_meant()
     ensures { (sources : List (List ℕ)) (fs : List FileTree) (E : Environment)
         → AreFiles sources fs → IsPackage fs E → AreMeant fs fs }
 {
-    cs_syntax::default_files_have_default_forms(); // for the proof: nothing is embedded in them
+    cs_syntax::default_files_have_default_forms(); // for the proof: nothing is embedded in them, and nothing under a condition
+    cs_conditions::default_files_have_no_conditions(); // for the proof: so they have none
+    cs_conditions::files_without_conditions_stay(); // for the proof: and stand for themselves
     cs_print::spelled_files_are_written(); // for the proof: `&` has two operands; by the opening rule nothing is put together
     cs_defaults::default_files_stay(); // for the proof: and nothing is marked
 }

@@ -3,6 +3,9 @@ ghost use Rattle.std.specs.Prelude.{◌≡◌, [], map, IfOk, IfErr, IsOkUnless,
 ghost use Rattle.cs_grammar.specs.View.{file_view};
 ghost use Rattle.cs_grammar.specs.declared.profile.Profile.TheVariants as profiles;
 ghost use Rattle.cs_package.specs.Environment.{Environment};
+ghost use Rattle.cs_conditions.specs.declared.fault.ConditionFault.{ConditionFault};
+ghost use Rattle.cs_conditions.specs.Conditions as conditions;
+ghost use Rattle.cs_conditions.specs.Conditions.{AreChosen, condition_faults};
 ghost use Rattle.cs_defaults.specs.declared.fault.DefaultFault.{DefaultFault};
 ghost use Rattle.cs_defaults.specs.Widened as defaults;
 ghost use Rattle.cs_defaults.specs.Widened.{IsUnmarked, mark_faults};
@@ -14,9 +17,10 @@ ghost use Rattle.cs_tool.specs.First.{SourcesRefusal};
 ghost use Rattle.cs_tool.specs.Given.{bytes_in};
 ghost use Rattle.cs_widen.specs.Accepted.{IsAcceptedIn};
 ghost use Rattle.cs_widen.specs.Meant.{IsMeant, IsMeantIn};
-ghost use Rattle.cs_widen.specs.Refused.{RefusalIn, of_embedding, of_mark};
+ghost use Rattle.cs_widen.specs.Refused.{RefusalIn, of_condition, of_embedding, of_mark};
 ghost use Rattle.cs_widen.specs.Stands.{AreMeantBy};
 
+use cs_conditions::{ConditionFault, have_conditions, without_conditions};
 use cs_defaults::{DefaultFault, without_marks};
 use cs_embeddings::{EmbeddingFault, without_embeddings};
 use cs_guard::guard;
@@ -43,8 +47,8 @@ pub fn widen(alloc: Global, sources: &[&[u8]]) -> Result<String, Fault>
 ///
 /// # Errors
 /// The first condition that the sources fail, as the clause `refused` says: their size and characters, then those that spell no file in
-/// the profile, what is embedded and can't be, the first mark of a default at fault, and then why what they stand for is no package, or
-/// isn't guarded. `OutOfMemory`.
+/// the profile, the first condition of an `if` at fault, what is embedded and can't be, the first mark of a default at fault, and then why
+/// what they stand for is no package, or isn't guarded. `OutOfMemory`.
 pub fn widen_in(alloc: Global, profile: Profile, sources: &[&[u8]]) -> Result<String, Fault>
     ensures found { IfOk result (λ s. IsMeantIn profile (bytes_in sources.now) (string_bytes s)) }
     ensures refused { IfErr result (λ e. RefusalIn profile (bytes_in sources.now) e) }
@@ -54,6 +58,7 @@ pub fn widen_in(alloc: Global, profile: Profile, sources: &[&[u8]]) -> Result<St
     let meant = files_meant_by(alloc, profile, sources)?;
     cs_print::spelled_files_are_written(); // for the proof: what a source spells can be printed
     cs_print::printed_sources_are_read(); // for the proof: what is printed keeps the limits
+    cs_conditions::chosen_files_can_be_written(); // for the proof: what has no conditions can be printed
     cs_embeddings::joined_files_can_be_written(); // for the proof: what has no embeddings can be printed
     cs_defaults::unmarked_files_are_no_higher(); // for the proof: what is printed keeps the limits
     cs_syntax::default_files_have_default_forms(); // for the proof: what the default profile spells can be printed
@@ -65,8 +70,8 @@ pub fn widen_in(alloc: Global, profile: Profile, sources: &[&[u8]]) -> Result<St
     Ok(source)
 }
 
-/// The files that sources stand for in a profile: those that they spell, in the wide one first without embeddings and then without marks of
-/// defaults.
+/// The files that sources stand for in a profile: those that they spell, in the wide one first without conditions, then without embeddings,
+/// and then without marks of defaults.
 fn files_meant_by(alloc: Global, profile: Profile, sources: &[&[u8]]) -> Result<Vec<File>, Fault>
     ensures found { IfOk result (λ v. AreMeantBy profile (bytes_in sources.now) (map file_view v.items)) }
     ensures refused { IfErr result (λ e. RefusalIn profile (bytes_in sources.now) e) }
@@ -97,11 +102,34 @@ fn wide_files(alloc: Global, sources: &[&[u8]]) -> Result<Vec<File>, Fault>
         → IsAcceptedIn profiles.Wide (bytes_in sources.now) E → IsOkUnless result Fault.OutOfMemory }
 {
     let spelled = spelled_files(alloc, Profile::Wide, sources)?;
-    let joined = joined_files(alloc, &spelled)?;
+    let chosen = chosen_files(alloc, spelled)?;
+    let joined = joined_files(alloc, &chosen)?;
     meant_files(alloc, &joined)
 }
 
-/// Files without embeddings.
+/// Files without conditions: those that have none as they are.
+fn chosen_files(alloc: Global, spelled: Vec<File>) -> Result<Vec<File>, Fault>
+    ensures found { IfOk result (λ v. AreChosen (map file_view spelled.items) (map file_view v.items)) }
+    ensures refused { IfErr result (λ e. (f : ConditionFault) × (e ≡ of_condition f)
+        × conditions.IsRefusal f (map file_view spelled.items)) }
+    ensures only { condition_faults (map file_view spelled.items) ≡ []
+        → IsOkUnless result Fault.OutOfMemory }
+{
+    cs_conditions::files_without_conditions_stay(); // for the proof: they stand for themselves
+    if !have_conditions(&spelled) {
+        return Ok(spelled);
+    }
+    match without_conditions(alloc, &spelled) {
+        Ok(chosen) => Ok(chosen),
+        Err(ConditionFault::OutOfMemory) => Err(Fault::OutOfMemory),
+        Err(ConditionFault::LeftOut { file, offset }) => Err(Fault::LeftOut { file, offset }),
+        Err(ConditionFault::MayBeAbsent { file, offset }) => {
+            Err(Fault::FieldReference { file, offset })
+        }
+    }
+}
+
+/// Files without embeddings, that have no conditions.
 fn joined_files(alloc: Global, spelled: &[File]) -> Result<Vec<File>, Fault>
     ensures found { IfOk result (λ v. IsJoined (map file_view spelled.now) (map file_view v.items)) }
     ensures within { IfOk result (λ v. IsWithin (map file_view v.items)) }

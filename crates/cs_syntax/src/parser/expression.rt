@@ -60,6 +60,7 @@ impl Parser<'_, '_> {
         Ok(Field {
             label,
             quoted,
+            asked: false,
             mark,
             value,
             site,
@@ -105,7 +106,7 @@ impl Parser<'_, '_> {
         Ok((fields, opened))
     }
 
-    /// A declaration of a literal of the wide profile: a field, or an expression that is embedded.
+    /// A declaration of a literal of the wide profile: a field, an expression that is embedded, or a literal under conditions.
     #[cycle(parse)]
     #[tactic(auto, unfolding(crate::specs::Reading::declaration_with))]
     fn declaration(&mut self, depth: usize) -> Result<Declaration, SyntaxFault>
@@ -113,6 +114,9 @@ impl Parser<'_, '_> {
         ensures { Reads declaration_view result self.new
             (declaration_with (inner depth) (left self.old)) }
     {
+        if self.begins_conditional() {
+            return self.conditional(depth);
+        }
         if self.begins_field() {
             return Ok(Declaration::Field(self.field(depth)?));
         }

@@ -161,7 +161,8 @@ fn file_within(alloc: Global, tokens: &[Token<'_>]) -> Result<File, SyntaxFault>
 }
 
 /// The file that a source spells in a profile (CUE, source file organization). In the wide one an operand of `|` may have the
-/// mark of a default, `*`, before it (CUE, default values).
+/// mark of a default, `*`, before it (CUE, default values), and a struct literal may have embeddings (CUE, structs: embedding) and
+/// literals under conditions (CUE, comprehensions).
 ///
 /// # Errors
 /// Those of `lex_in`. `TooHigh` where the tokens nest deeper than 28, or a body is higher than that.

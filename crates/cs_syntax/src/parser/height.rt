@@ -81,6 +81,7 @@ fn are_low_declarations(declarations: &Vec<Declaration>, limit: usize) -> bool
     true
 }
 
+/// Each condition is a level.
 #[cycle(height)]
 fn is_low_declaration(declaration: &Declaration, limit: usize) -> bool
     ensures { result ≡ nat_le (declaration_height (declaration_view declaration.now)) limit }
@@ -88,6 +89,14 @@ fn is_low_declaration(declaration: &Declaration, limit: usize) -> bool
     match declaration {
         Declaration::Field(field) => is_low(&field.value, limit),
         Declaration::Embedded { value, .. } => is_low(value, limit),
+        Declaration::Conditional {
+            conditions,
+            value,
+            ..
+        } => {
+            let levels = conditions.len();
+            levels <= limit && is_low(value, limit - levels)
+        }
     }
 }
 

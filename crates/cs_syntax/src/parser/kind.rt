@@ -3,9 +3,9 @@
 ghost use Rattle.std.specs.Prelude.{◌≡◌};
 ghost use Rattle.cs_grammar.specs.View.{lexeme_view};
 ghost use Rattle.cs_grammar.specs.TokenWords.{mark_kind, wide_kind, kind_of, word};
-ghost use Rattle.cs_syntax.specs.Reading.{names_string, names_close};
+ghost use Rattle.cs_syntax.specs.Reading.{names_string, names_close, names_if};
 
-use crate::parser::name::{is_close, is_string};
+use crate::parser::name::{is_close, is_if, is_string};
 use cs_grammar::{Kind, Sort, Token};
 
 /// What a mark is for the grammar.
@@ -33,6 +33,7 @@ fn mark_kind(text: &str) -> Kind
         "!=" => Kind::Unequal,
         "-" => Kind::Minus,
         "*" => Kind::Star,
+        "==" => Kind::Equal,
         _ => Kind::LeftOut,
     }
 }
@@ -80,4 +81,11 @@ pub(crate) fn names_close(token: &Token<'_>) -> bool
     ensures { result ≡ names_close (word (lexeme_view token.now)) }
 {
     kind_of(token) == Kind::Name && is_close(token.text)
+}
+
+/// Whether a token is the name `if`.
+pub(crate) fn names_if(token: &Token<'_>) -> bool
+    ensures { result ≡ names_if (word (lexeme_view token.now)) }
+{
+    kind_of(token) == Kind::Name && is_if(token.text)
 }

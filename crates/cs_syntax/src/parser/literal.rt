@@ -10,18 +10,18 @@ ghost use Rattle.cs_syntax.specs.Left.{declared_field};
 use cs_grammar::{Declaration, Expr, Field, Wide};
 use std::alloc::{AllocError, Global};
 
-/// Whether a declaration is a field: a literal of it alone has no embedding.
+/// Whether a declaration is a field: a literal of it alone has no embedding and no condition.
 fn is_field(declaration: &Declaration) -> bool
     ensures { result
         ≡ is_some (fields_alone (declarations_of (declaration_view declaration.now ∷ []))) }
 {
     match declaration {
         Declaration::Field(_) => true,
-        Declaration::Embedded { .. } => false,
+        Declaration::Embedded { .. } | Declaration::Conditional { .. } => false,
     }
 }
 
-/// Whether no declaration is an embedding.
+/// Whether each declaration is a field.
 fn are_fields(declarations: &[Declaration]) -> bool
     ensures { result ≡ is_some (fields_alone (declarations_view declarations.now)) }
 {
@@ -39,7 +39,7 @@ fn declared_field(declaration: Declaration) -> Option<Field>
 {
     match declaration {
         Declaration::Field(field) => Some(field),
-        Declaration::Embedded { .. } => None,
+        Declaration::Embedded { .. } | Declaration::Conditional { .. } => None,
     }
 }
 
@@ -58,7 +58,7 @@ fn fields_among(alloc: Global, declarations: Vec<Declaration>) -> Result<Vec<Fie
     Ok(fields)
 }
 
-/// A literal with these declarations, which is one of the default profile where none is an embedding.
+/// A literal with these declarations, which is one of the default profile where each is a field.
 pub(crate) fn literal(
     alloc: Global,
     at: usize,

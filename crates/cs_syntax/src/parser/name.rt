@@ -2,7 +2,7 @@
 
 ghost use Rattle.std.specs.Prelude.{◌≡◌};
 ghost use Rattle.cs_grammar.specs.TokenWords.{bare_name};
-ghost use Rattle.cs_grammar.specs.Spells.{is_reserved, is_package, is_string, is_close};
+ghost use Rattle.cs_grammar.specs.Spells.{is_reserved, is_package, is_string, is_close, is_if};
 
 /// Whether a name can't be an operand.
 pub(crate) fn is_reserved(text: &str) -> bool
@@ -30,6 +30,13 @@ pub(crate) fn is_close(text: &str) -> bool
     ensures { result ≡ is_close text.now }
 {
     text == "close"
+}
+
+/// Whether a name begins a condition.
+pub(crate) fn is_if(text: &str) -> bool
+    ensures { result ≡ is_if text.now }
+{
+    text == "if"
 }
 
 /// The name of a definition without its `#`.

@@ -27,7 +27,7 @@ fn literal_of(text: &str) -> Option<Expr>
 }
 
 /// The relation of a mark.
-fn relation_of(kind: Kind) -> Option<Relation>
+pub(crate) fn relation_of(kind: Kind) -> Option<Relation>
     ensures { option_map View.relation_of result ≡ relation_of kind }
 {
     match kind {

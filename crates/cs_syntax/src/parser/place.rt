@@ -34,7 +34,7 @@ pub(crate) fn fault_of(token: &Token<'_>) -> SyntaxFault
     ensures { result ≡ fault_of (word (lexeme_view token.now)) }
 {
     let left_out = match kind_of(token) {
-        Kind::LeftOut | Kind::Hidden | Kind::Star => true,
+        Kind::LeftOut | Kind::Hidden | Kind::Star | Kind::Equal => true,
         Kind::Name => is_left_out_name(token.text),
         _ => false,
     };

@@ -12,13 +12,13 @@ ghost use Rattle.cs_syntax.specs.AnswerIn.{IsSpelledIn};
 
 use cs_grammar::{Profile, Sort, Token};
 
-/// The sort of a token in the wide profile: `*` is a mark of the grammar, `{` opens a literal that may have embeddings, and
-/// `(` may stand behind `close`.
+/// The sort of a token in the wide profile: `*` and `==` are marks of the grammar, `{` opens a literal that may have embeddings or
+/// conditions, and `(` may stand behind `close`.
 fn wide_sort(sort: Sort, text: &str) -> Sort
     ensures { result ≡ wide_sort sort text.now }
 {
     match (sort, text) {
-        (Sort::LeftOut, "*") => Sort::Mark,
+        (Sort::LeftOut, "*" | "==") => Sort::Mark,
         (Sort::Mark, "{" | "(") => Sort::Wide,
         _ => sort,
     }

@@ -6,7 +6,7 @@ use Rattle.cs_embeddings.specs.Embedded.{can_be_embedded, all_embedded, embeds_w
 use Rattle.cs_embeddings.proofs.Steps.{stepped, no_step}
 use Rattle.cs_embeddings.proofs.Walks.{well_more, one_ill, all_well, field_well, field_parts, declaration_well, declaration_parts}
 use Rattle.cs_embeddings.proofs.embedded.Embeddable.+embedded.Goals as goal
-use Rattle.cs_embeddings.proofs.embedded.Embeddable.+embedded.Goals.{declarations_embed_well-in-Field, declarations_embed_well-in-Embedded}
+use Rattle.cs_embeddings.proofs.embedded.Embeddable.+embedded.Goals.{declarations_embed_well-in-Field, declarations_embed_well-in-Embedded, declarations_embed_well-in-Conditional}
 
 pub can_embed-returns-in_default : goal.can_embed-returns-in_default
 can_embed-returns-in_default t c ds most told tells low = no_step ds c.args.steps (expr_view c.args.expr.now) (search rules)
@@ -200,6 +200,7 @@ declarations_embed_well-returns-then-not-is_well t c ds most told tells low =
     c.declaration-item.result c.loop-declaration-test.true c.declaration-item.is (elim c.match-declaration.branch [
       | declarations_embed_well-in-Field w ↦ search (rules, Exprs.the_lemmas)
       | declarations_embed_well-in-Embedded w ↦ search (rules, Exprs.the_lemmas)
+      | declarations_embed_well-in-Conditional w ↦ search (rules, Exprs.the_lemmas)
     ])
 
 pub declarations_embed_well-loop-declaration-preserved : goal.declarations_embed_well-loop-declaration-preserved
@@ -208,6 +209,7 @@ declarations_embed_well-loop-declaration-preserved t c ds most told tells low =
     c.declaration-item.result c.loop-declaration-test.true c.declaration-item.is (elim c.match-declaration.branch [
       | declarations_embed_well-in-Field w ↦ search (rules, Exprs.the_lemmas)
       | declarations_embed_well-in-Embedded w ↦ search (rules, Exprs.the_lemmas)
+      | declarations_embed_well-in-Conditional w ↦ search (rules, Exprs.the_lemmas)
     ])
 
 pub declarations_embed_well-returns : goal.declarations_embed_well-returns

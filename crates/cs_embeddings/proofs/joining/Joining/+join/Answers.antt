@@ -1,6 +1,7 @@
 use Rattle.std.proofs.Common.{rules, ◌≡◌, suc, ◌+◌, ◌∷◌, [], ◌++◌, true, false, map, drop, refl, sym, ap, ◌∙◌, subst, arith}
 use Rattle.std.specs.List.{flat_map, list_all}
 use Rattle.std.specs.Vec.Iter.{into_iter_items}
+use Rattle.std.proofs.lemmas.Bool.{both_ways}
 use Rattle.std.proofs.lemmas.Result.{err_from_is_err_and}
 use Rattle.cs_grammar.specs.Tree.{reference, conjunction, disjunction, paren, wide, merged}
 use Rattle.cs_grammar.specs.Bodies.{bodies}
@@ -9,15 +10,17 @@ use Rattle.cs_grammar.specs.declared.ast.Expr as Exprs
 use Rattle.cs_grammar.proofs.Views.{view-Struct, view-Paren, view-And, view-Or, view-Reference}
 use Rattle.cs_embeddings.specs.Alternatives as Spec
 use Rattle.cs_embeddings.specs.Checks.{bodies_view, ReachesAll}
-use Rattle.cs_embeddings.specs.Embedded.{can_be_embedded}
+use Rattle.cs_embeddings.specs.Embedded.{declarations_embed_well, can_be_embedded}
 use Rattle.cs_embeddings.specs.Views.{origin_view, alternative_view, alternatives_view, with_field, Reaches, IsTooMuch}
 use Rattle.cs_embeddings.specs.declared.found.Found.{Found}
 use Rattle.cs_embeddings.proofs.Joins.{is_put_together, no_steps, no_form, at_struct, at_merged, at_paren, at_disjunction, at_conjunction, at_reference, met_alone, unmet_bodies, field_step, embedded_step, body_step, conjunct_step, operand_step, too_much_of_right, declarations_too_much, all_too_much, bodies_too_much, met_too_much}
 use Rattle.cs_embeddings.proofs.Left.{too_much_here}
+use Rattle.cs_embeddings.proofs.NarrowedSteps.{next_can}
+use Rattle.cs_embeddings.proofs.Walks.{declaration_well, declaration_parts}
 use Rattle.cs_embeddings.proofs.Weights.{alternatives_grow}
 use Rattle.cs_embeddings.proofs.joining.Joining.+join.Goals as goal
 use Rattle.cs_embeddings.proofs.joining.Joining.+join.Goals.{join-in-Wide+in-Marked-1, join-in-Top-1, join-in-Bottom-1, join-in-Null-1, join-in-Bool-1, join-in-Int-1, join-in-Text-1, join-in-Name-1, join-in-Bound-1, join-in-NotInt-1, join-in-NotText-1, join-in-NotNull-1, join-in-List-1}
-use Rattle.cs_embeddings.proofs.joining.Joining.+join.Goals.{join_declarations-in-Field+in_ok-found-in-Field, join_declarations-in-Embedded+in_ok-found-in-Embedded}
+use Rattle.cs_embeddings.proofs.joining.Joining.+join.Goals.{join_declarations-in-Field+in_ok-found-in-Field, join_declarations-in-Embedded+in_ok-found-in-Embedded, join_declarations-in-Conditional}
 
 -- ---- an expression
 
@@ -267,6 +270,11 @@ join_declarations-loop-declaration-preserved t c ds tells well =
           let made = ap (λ (f : Found). alternatives_view f.alternatives.items) w.found-is ∙ w.in_ok-found-in-Embedded.ensures ds tells s.0
           ∙ ap (λ q. flat_map (inner q (expr_view x.value)) found) w.embedded_at.ensures in
           (s.1, ap (Spec.join_declarations inner (origin_view c.args.origin) rest) made ∙ s.2)
+      | join_declarations-in-Conditional w ↦
+          let ill : declaration_well can d ≡ false = search (rules, Exprs.the_lemmas) in
+          absurd (both_ways (declaration_well can d) ill
+          (next_can cs i d c.loop-declaration-test.true c.declaration-item.is (λ ys. declarations_embed_well can (declarations_view ys))
+          (declaration_well can) (declaration_parts can) before.0).0)
     ]
 
 -- ---- the bodies of a definition

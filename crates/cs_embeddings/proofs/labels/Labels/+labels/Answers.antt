@@ -16,7 +16,7 @@ use Rattle.cs_embeddings.proofs.Steps.{unstepped}
 use Rattle.cs_embeddings.proofs.Walks as Walks
 use Rattle.cs_embeddings.proofs.Walks.{at_place, drop_all}
 use Rattle.cs_embeddings.proofs.labels.Labels.+labels.Goals as goal
-use Rattle.cs_embeddings.proofs.labels.Labels.+labels.Goals.{add_declarations-in-Field+in_ok-add_field-in-Field, add_declarations-in-Embedded+in_ok-add-in-Embedded}
+use Rattle.cs_embeddings.proofs.labels.Labels.+labels.Goals.{add_declarations-in-Field+in_ok-add_field-in-Field, add_declarations-in-Embedded+in_ok-add-in-Embedded, add_declarations-in-Conditional}
 
 -- ---- an expression
 
@@ -282,6 +282,9 @@ add_declarations-loop-declaration-preserved t c ds told row well =
           adds_over old c.match-declaration.numbers w.add.new.numbers old_row c.match-declaration.row.items w.add.new.row.items
           (λ s. declares ds n s (expr_view w.in-Embedded.value)) (λ s. declaration_declares (declares ds n s) s d)
           w.numbers-is (ap (λ v. v.items) w.row-is) (λ s. ap (seen_declares (declares ds n s) s) (sym is)) (w.in_ok-add-in-Embedded.ensures ds known g.is here)
+      | add_declarations-in-Conditional w ↦
+          let ill : Walks.declaration_well can d ≡ false = search (rules, Exprs.the_lemmas) in
+          absurd (both_ways (Walks.declaration_well can d) ill p.0)
     ] in (
       p.1,
       goes_on c.args.numbers.now old c.match-declaration.numbers c.args.row.now.items old_row c.match-declaration.row.items

@@ -1,7 +1,7 @@
 use Rattle.std.proofs.Common.{rules, ◌≡◌, ℕ, List, Option, Some}
 use Rattle.std.specs.Option.{option_map}
 use Rattle.cs_grammar.specs.View.{expr_view}
-use Rattle.cs_resolve.specs.Refinement.{referred}
+use Rattle.cs_grammar.specs.Referred.{referred}
 use Rattle.cs_embeddings.specs.NarrowedTable.{TellsRow}
 use Rattle.cs_embeddings.proofs.NarrowedSteps.{told_at}
 use Rattle.cs_embeddings.proofs.ReferredRows.{row_of_name}

@@ -1,0 +1,67 @@
+// Forms of the wide profile at an `if` of a struct: of its conditions (4, 5), and of a field that it asks about (5, 10).
+use crate::forms::{Form, Found};
+use cs_grammar::{Profile, Sort};
+use cs_sources::Separator::Comma;
+use cs_sources::{Near, Part, follows_label};
+
+/// The form at a name that names a field, where it may not: in a condition the field may be absent.
+pub fn form_of_field<'s, 'a>(near: Near<'s, 'a>) -> Found<'s, 'a> {
+    let form = if near.is_asked() {
+        Form::AbsentField
+    } else {
+        Form::FieldReference
+    };
+    Found::at(near, form)
+}
+
+/// The form at a token in the conditions of an `if` in the wide profile, which is out of place there, or left out as another form; none elsewhere.
+pub(crate) fn form_in_condition<'s, 'a>(near: Near<'s, 'a>, other: Form) -> Option<Found<'s, 'a>> {
+    let is_one = near.source.profile == Profile::Wide && near.is_in_condition();
+    // A name that the profile has where it stands is one of a field that can't be asked about.
+    let form = match other {
+        Form::Misplaced if near.is_asked() => form_of_asked(near),
+        _ => Form::Condition,
+    };
+    is_one.then_some(Found::at(near, form))
+}
+
+/// Why a condition can't ask about the field of a name.
+fn form_of_asked(near: Near<'_, '_>) -> Form {
+    let (name, bracket) = (near.here().text, near.bracket());
+    let own = bracket.and_then(|bracket| bracket.held());
+    let body = near.part().under_conditions();
+    let is_declared = own.is_some_and(|own| declares(own, name));
+    if !is_declared {
+        Form::UndeclaredField
+    } else if body.is_some_and(|body| declares_inside(body, name)) {
+        Form::DeclaredAgain
+    } else {
+        Form::StructBeside
+    }
+}
+
+/// Whether a struct has a label without quotes that is a name.
+fn declares(held: Part<'_, '_>, name: &str) -> bool {
+    let declarations = (0..=held.count(Comma)).filter_map(|place| held.part(Comma, place));
+    let mut firsts = declarations.filter_map(|declaration| declaration.first());
+    firsts.any(|first| is_label(first, name))
+}
+
+/// Whether a token is a name as a label.
+fn is_label(token: Near<'_, '_>, name: &str) -> bool {
+    let here = token.here();
+    here.sort == Sort::Name && here.text == name && follows_label(token.behind(1))
+}
+
+/// Whether a declaration of a field of that name, with its label in quotes or not, begins in a part, at any depth.
+fn declares_inside(body: Part<'_, '_>, name: &str) -> bool {
+    let Part { source, from, to } = body;
+    let mut tokens = (from..to).map(|place| Near { source, place });
+    tokens.any(|token| {
+        let here = token.here();
+        let is_name = matches!(here.sort, Sort::Name | Sort::Text);
+        is_name
+            && here.text.trim_matches('"') == name
+            && source.ends_label(token.place.saturating_add(1))
+    })
+}
