@@ -46,6 +46,7 @@ UNREADABLE = re.compile(r"is not in scope|has no field|is no name|operand is mis
 TAKEN_AWAY = re.compile(r"has no field|is not in scope|has no `|was not admitted")
 # How the prover says of a function that it is itself not proved, and not only one that it calls.
 ITSELF = r"not proved|no proof: expected answers in [^;]+; `search` did not prove [^;]+"
+CALLED = re.compile(r"(\w+)(?:::<[^>]*>)?\(")
 FUNCTION = re.compile(r"\s*(?:pub(?:\(crate\))? )?fn (\w+)")
 METHODS = re.compile(r"impl(?:<[^>]*>)? (\w+)(?:<[^>]*>)? \{")
 # A line of antt at the edge that begins a definition or one of its cases.
@@ -105,6 +106,11 @@ class Edit:
             found.add((file, function_at(texts[file], text[: text.index(old)].count("\n"))))
         one = found.pop() if len(found) == 1 else None
         return one if one and one[0].startswith("src/") and one[1] else None
+
+    def called(self, reached: dict[str, set[str]]) -> set[str]:
+        """The functions of the crate that what takes the texts' places calls, also by others."""
+        names = {name for _, _, new in self.pairs for name in CALLED.findall(new)} & reached.keys()
+        return names.union(*(reached[it] for it in names))
 
     def path(self, folder: Path) -> str | None:
         """The path below the crate of the one function that this edit changes, or of its module where it is a trait's method."""
@@ -193,7 +199,7 @@ def calls(crate: str) -> dict[str, set[str]]:
         for line in file.read_text().split("\n"):
             at = FUNCTION.match(line)
             name = at[1] if at else name
-            called = re.findall(r"(\w+)(?:::<[^>]*>)?\(", line[at.end() :] if at else line)
+            called = CALLED.findall(line[at.end() :] if at else line)
             if not re.match(r"\s*(//|ensures|requires|ghost|#\[)", line):
                 named.setdefault(name, set()).update(called)
     reached = {name: words & named.keys() for name, words in named.items()}
@@ -409,7 +415,8 @@ class Trial:
         names = [at[1] if (at := it.function(folder)) else None for it in batch]
         if None in names or len(set(names)) < len(names):
             return False
-        return not any(one != other and one in reached.get(other, set()) for one in names for other in names)
+        called = {name: reached.get(name, set()) | it.called(reached) for name, it in zip(names, batch, strict=True)}
+        return not any(one != other and one in called[other] for one in names for other in names)
 
     def take_the_longest_first(self) -> None:
         """Puts the checks first whose functions call the most others of their crate."""
