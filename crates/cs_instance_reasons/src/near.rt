@@ -3,6 +3,7 @@ mod alternatives;
 mod kinds;
 mod literals;
 mod names;
+mod repeated;
 mod same;
 mod tags;
 mod wants;

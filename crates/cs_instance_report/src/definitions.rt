@@ -3,6 +3,7 @@ ghost use Rattle.std.specs.Prelude.{◌≡◌, ◌++◌, true, OnOk, OnErr, is_n
 ghost use Rattle.cs_format.specs.Formats.{asks_standard};
 ghost use Rattle.cs_reason_words.specs.Valid.{flag_text, HasLines, Reports};
 
+use crate::chosen::{Choice, member_of};
 use crate::written::{Spelled, Written};
 use cs_flat::{Flat, Item};
 use cs_instance::RootRules;
@@ -10,7 +11,7 @@ use cs_instance_reasons::{InstanceCause, Want, wanted_by};
 use cs_package::{FieldMark, Inside, Kind, Literal, Part, Relation, Shape, ShapeEnd, Simple};
 use cs_place::{Named, Step, put_quoted};
 use cs_reason_words::{
-    Finding, Form, Found, Kinds, MOST_COMPARISONS, Made, Way, Words, item_at, put_integer,
+    Finding, Form, Found, Kinds, MOST_COMPARISONS, Made, Since, Way, Words, item_at, put_integer,
     put_told, report_verdict, told_apart, told_by,
 };
 use cs_reasons::{Reasons, Telling};
@@ -23,8 +24,12 @@ struct Definitions<'t> {
     rules: &'t RootRules<'t>,
     flat: &'t Flat<'t>,
     written: &'t Written<'t>,
+    /// Whether all alternatives are followed, and none is chosen.
+    are_followed: bool,
     /// How many more labels are compared with keys that aren't allowed.
     comparisons: usize,
+    /// How many more declarations of alternatives are compared.
+    trials: usize,
 }
 
 /// What a rule is.
@@ -37,6 +42,8 @@ struct Node<'t> {
     shape: Option<&'t Shape>,
     /// The same in the sources, if it is known there.
     spelled: Option<Spelled<'t>>,
+    /// The alternative that was followed last on the way to it, if conditions of a literal make it.
+    choice: Option<Choice<'t>>,
 }
 
 /// The key of the member at a place of a map.
@@ -100,25 +107,36 @@ impl<'t> Definitions<'t> {
             bodies,
             shape: None,
             spelled: None,
+            choice: None,
         })
     }
 
     /// What is at a place in a rule: a body of a definition, the definition that a reference names, an operand, what a declaration declares,
     /// or what is asked of an element.
     fn part(&self, mut node: Node<'t>, place: usize, way: &mut Way) -> Made<Node<'t>> {
-        node.spelled = node.spelled.and_then(|whole| whole.inside(place));
+        let whole = node.spelled;
+        node.spelled = whole.and_then(|whole| whole.inside(place));
         node.shape = match node.shape {
             None => {
                 node.spelled = Spelled::body(self.written, node.name, place);
                 node.bodies.get(place)
             }
-            Some(Shape::Definition(number)) => return self.definition(*number, &mut way.path),
+            Some(Shape::Definition(number)) => {
+                let choice = node.choice;
+                let definition = self.definition(*number, &mut way.path)?;
+                return Ok(Node {
+                    choice,
+                    ..definition
+                });
+            }
             Some(Shape::And(operands)) => operands.get(place),
             Some(Shape::Or(operands)) => {
                 way.follow(place, operands.len())?;
+                node.choice = Choice::of(operands, whole, place, way.item, way.pointer.len());
                 operands.get(place)
             }
             Some(Shape::Struct { parts, .. }) => {
+                node.choice = node.choice.map(|choice| choice.inside(place));
                 let part = parts.get(place);
                 if let Some(part) = part {
                     put_label(&mut way.path, part)?;
@@ -139,6 +157,35 @@ impl<'t> Definitions<'t> {
             Some(_) => None,
         };
         Ok(node)
+    }
+
+    /// By which fields conditions chose what a cause is about, if they did: then no alternative is named.
+    fn since(
+        &mut self,
+        choice: Option<Choice<'t>>,
+        cause: &InstanceCause,
+        way: &mut Way,
+    ) -> Made<Option<Since<'t>>> {
+        let Some(choice) = choice.filter(|choice| choice.size() <= self.trials) else {
+            return Ok(None);
+        };
+        let key = match cause {
+            InstanceCause::Extra { member, .. } => key_at(self.flat, way.item, *member),
+            _ => None,
+        };
+        let Some(sought) = choice.sought(cause, key.unwrap_or("")) else {
+            return Ok(None);
+        };
+        self.trials = self.trials.saturating_sub(choice.size());
+        let Some(labels) = choice.labels(self.alloc, self.flat, sought)? else {
+            return Ok(None);
+        };
+        way.alternative.truncate(0);
+        let mut fields = Vec::with_capacity(self.alloc, labels.len())?;
+        for label in labels {
+            fields.push((label, member_of(self.flat, choice.item, label)))?;
+        }
+        Since::of(self.alloc, KINDS, choice.pointer, fields)
     }
 
     /// That a key isn't allowed.
@@ -165,6 +212,55 @@ impl<'t> Definitions<'t> {
         let value = item_at(self.flat, item);
         let finding = Finding::untaken(self.alloc, KINDS, value, &wanted.alternatives, put_want)?;
         Ok(finding.at(step))
+    }
+
+    /// What is wrong by a cause of the rule that the way has led to, and where that is written. Of a key that conditions chose not to allow no
+    /// other one may have been meant.
+    fn refusal(
+        &mut self,
+        node: Node<'t>,
+        cause: &InstanceCause,
+        way: &mut Way,
+        is_chosen: bool,
+    ) -> Found<'t> {
+        let (alloc, item) = (self.alloc, way.item);
+        let value = item_at(self.flat, item);
+        let (parts, fixed): (&[Part], usize) = match node.shape {
+            Some(Shape::Struct { parts, .. }) => (parts, 0),
+            Some(Shape::List { front, .. }) => (&[], front.len()),
+            _ => (&[], 0),
+        };
+        let mut source = node.spelled.and_then(|spelled| spelled.place());
+        let mut by = node.spelled.and_then(|spelled| spelled.by);
+        let mut finding = match cause {
+            InstanceCause::Missing { declaration, .. } => {
+                let Some(part) = parts.get(*declaration) else {
+                    return Ok(None);
+                };
+                put_label(&mut way.path, part)?;
+                let field = node.spelled.and_then(|literal| literal.field(*declaration));
+                source = field.and_then(|field| self.written.place_at(field.site.at));
+                by = field.and_then(|field| field.site.by);
+                Finding::missing(alloc, part.label.as_str())?
+            }
+            InstanceCause::Extra { member, .. } => {
+                let meant: &[Part] = if is_chosen { &[] } else { parts };
+                self.extra(meant, item, *member)?
+            }
+            InstanceCause::Few => Finding::few(alloc, value, fixed)?,
+            InstanceCause::Many => {
+                Finding::many(alloc, value, fixed)?.at(Some(Step::Element(fixed)))
+            }
+            InstanceCause::NoAlternative => self.none_taken(item, way.rule)?,
+            InstanceCause::Unmet
+            | InstanceCause::Part { .. }
+            | InstanceCause::Alternative { .. }
+            | InstanceCause::Member { .. }
+            | InstanceCause::Element { .. } => unmet(alloc, value, node.shape)?,
+        };
+        finding.source = source;
+        finding.embedded = by.and_then(|by| self.written.place_at(by));
+        Ok(Some(finding))
     }
 }
 
@@ -203,41 +299,16 @@ impl<'t> Words<'t> for Definitions<'t> {
     }
 
     fn finding(&mut self, node: Node<'t>, cause: &InstanceCause, way: &mut Way) -> Found<'t> {
-        let (alloc, item) = (self.alloc, way.item);
-        let value = item_at(self.flat, item);
-        let (parts, fixed): (&[Part], usize) = match node.shape {
-            Some(Shape::Struct { parts, .. }) => (parts, 0),
-            Some(Shape::List { front, .. }) => (&[], front.len()),
-            _ => (&[], 0),
-        };
-        let mut source = node.spelled.and_then(|spelled| spelled.place());
-        let mut by = node.spelled.and_then(|spelled| spelled.by);
-        let mut finding = match cause {
-            InstanceCause::Missing { declaration, .. } => {
-                let Some(part) = parts.get(*declaration) else {
-                    return Ok(None);
-                };
-                put_label(&mut way.path, part)?;
-                let field = node.spelled.and_then(|literal| literal.field(*declaration));
-                source = field.and_then(|field| self.written.place_at(field.site.at));
-                by = field.and_then(|field| field.site.by);
-                Finding::missing(alloc, part.label.as_str())?
-            }
-            InstanceCause::Extra { member, .. } => self.extra(parts, item, *member)?,
-            InstanceCause::Few => Finding::few(alloc, value, fixed)?,
-            InstanceCause::Many => {
-                Finding::many(alloc, value, fixed)?.at(Some(Step::Element(fixed)))
-            }
-            InstanceCause::NoAlternative => self.none_taken(item, way.rule)?,
-            InstanceCause::Unmet
-            | InstanceCause::Part { .. }
-            | InstanceCause::Alternative { .. }
-            | InstanceCause::Member { .. }
-            | InstanceCause::Element { .. } => unmet(alloc, value, node.shape)?,
+        let choice = node.choice.filter(|_| !self.are_followed);
+        if choice.is_some_and(|choice| choice.is_told_elsewhere(self.flat)) {
+            return Ok(None);
+        }
+        let since = self.since(choice, cause, way)?;
+        let Some(mut finding) = self.refusal(node, cause, way, since.is_some())? else {
+            return Ok(None);
         };
         finding.definition = node.name;
-        finding.source = source;
-        finding.embedded = by.and_then(|by| self.written.place_at(by));
+        finding.since = since;
         Ok(Some(finding))
     }
 }
@@ -395,7 +466,9 @@ pub fn report_instance<'t>(
             rules,
             flat,
             written,
+            are_followed: telling.all,
             comparisons: MOST_COMPARISONS,
+            trials: MOST_COMPARISONS,
         };
         let told = told_by(alloc, &mut words, telling, document, reasons)?;
         put_told(&mut text, form, document, &told)?;

@@ -1,6 +1,7 @@
 // Why a document is no instance of a definition, in words, with the places in the sources.
 #![tactic(auto)]
 
+mod chosen;
 mod definitions;
 mod written;
 

@@ -154,6 +154,14 @@ fn first_field(expr: &Expr) -> Option<&Field> {
     }
 }
 
+/// The fields of a literal.
+pub(crate) fn fields_of(expr: &Expr) -> Option<&[Field]> {
+    match bare(expr) {
+        Expr::Struct { fields, .. } => Some(fields.as_slice()),
+        _ => None,
+    }
+}
+
 impl<'t> Spelled<'t> {
     /// The body of a definition of a name that so many of the same name are before.
     pub(crate) fn body(written: &'t Written<'t>, name: &str, before: usize) -> Option<Spelled<'t>> {
@@ -211,12 +219,17 @@ impl<'t> Spelled<'t> {
         Some(operand)
     }
 
+    /// The alternatives that it stands for; none where it isn't a disjunction.
+    pub(crate) fn alternatives(self) -> &'t [Expr] {
+        match bare(self.tree) {
+            Expr::Or(operands) => operands.as_slice(),
+            _ => &[],
+        }
+    }
+
     /// Its field at a place.
     pub(crate) fn field(self, place: usize) -> Option<&'t Field> {
-        match bare(self.tree) {
-            Expr::Struct { fields, .. } => fields.get(place),
-            _ => None,
-        }
+        fields_of(self.tree)?.get(place)
     }
 
     /// The value of its field at a place. Of several that are put together the first one stands for all, which has the first field.

@@ -1,4 +1,5 @@
 // Reasons in words: what is wrong with a value, where that is, what of it is told once, and in which order.
+use crate::since::Since;
 use crate::walk::{Branch, Way, Words, above};
 use crate::wording::{Kinds, MOST_WANTED, put_between, put_more};
 use cs_flat::{Flat, Item};
@@ -40,6 +41,8 @@ pub struct Finding<'t> {
     pub source: Option<SourcePlace<'t>>,
     /// Where the definition that it stands in is embedded, if its rule came from there into the one that is told.
     pub embedded: Option<SourcePlace<'t>>,
+    /// By which fields of the document conditions chose it, if they did.
+    pub since: Option<Since<'t>>,
 }
 
 /// What is wrong with a value; none where that is told elsewhere.
@@ -58,6 +61,7 @@ impl<'t> Finding<'t> {
             definition: "",
             source: None,
             embedded: None,
+            since: None,
         }
     }
 

@@ -86,6 +86,9 @@ fn put_object(text: &mut String, entry: &Entry<'_>) -> Written {
     if !way.alternative.is_empty() {
         put_string(text, "alternative", way.alternative.as_str())?;
     }
+    if let Some(since) = &finding.since {
+        since.put_member(text, way.pointer.as_str())?;
+    }
     if let Some(place) = finding.source {
         put_string(text, "file", place.file)?;
         put_count(text, "sourceLine", place.line)?;
@@ -129,6 +132,15 @@ fn put_rule(text: &mut String, entry: &Entry<'_>) -> Written {
     put_all(text, &[", ", entry.way.alternative.as_str()])
 }
 
+/// Puts what is wrong, and by which fields of the document conditions chose that, up to the bracket.
+fn put_reason(text: &mut String, entry: &Entry<'_>) -> Written {
+    put_all(text, &[": ", entry.finding.text.as_str()])?;
+    if let Some(since) = &entry.finding.since {
+        since.put(text)?;
+    }
+    text.push_str(" [")
+}
+
 /// Puts the line of an entry, with what says no in brackets.
 fn put_entry(text: &mut String, name: &str, entry: &Entry<'_>) -> Written
     ensures { OnOk result (EndsInLine (string_bytes text.new)) }
@@ -140,7 +152,7 @@ fn put_entry(text: &mut String, name: &str, entry: &Entry<'_>) -> Written
     text.push_str(": ")?;
     let at = entry.way.pointer.as_str();
     put_shown(text, if at.is_empty() { "(root)" } else { at })?;
-    put_all(text, &[": ", entry.finding.text.as_str(), " ["])?;
+    put_reason(text, entry)?;
     put_rule(text, entry)?;
     text.push_str("]\n")?;
     Ok(())

@@ -4,6 +4,7 @@
 
 mod entry;
 mod form;
+mod since;
 mod walk;
 mod wording;
 
@@ -13,5 +14,6 @@ pub use entry::{
     Entry, Finding, Found, MOST_COMPARISONS, SourcePlace, Told, item_at, position_in, told_apart,
 };
 pub use form::{put_lines, put_told, report_verdict};
+pub use since::Since;
 pub use walk::{Way, Words, chain_to, put_steps, told_by, walk_to};
 pub use wording::{Kinds, MOST_WANTED, put_between, put_more};

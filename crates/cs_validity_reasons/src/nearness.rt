@@ -1,10 +1,11 @@
 // Which alternatives are close to what a value was meant to be: those that take its kind, and of these, for a map, those whose
-// tag it has. What is chosen is no claim.
+// tag it has, and those that ask what it has under names that they declare more than once. What is chosen is no claim.
 ghost use Rattle.std.specs.Prelude.{ℕ, Contains, OnOk};
 ghost use Rattle.cs_validity_reasons.specs.declared.cause.KeyedCause.{KeyedCause};
 
 pub(crate) mod constants;
 pub(crate) mod leaves;
+pub(crate) mod repeated;
 pub(crate) mod tags;
 
 use crate::book::Book;
@@ -12,6 +13,7 @@ use crate::cause::PlacedCause;
 use crate::graph::ValidGraph;
 use crate::nearness::constants::constants_of;
 use crate::nearness::leaves::{Leaf, all_leaves};
+use crate::nearness::repeated::met_rules;
 use crate::nearness::tags::{Tag, find_tag};
 use cs_flat::Flat;
 use cs_reasons::Cause;
@@ -96,10 +98,11 @@ fn near_rules(
         return Ok(Vec::new(alloc));
     }
     let leaves = all_leaves(alloc, graph.book, &taking)?;
-    match find_tag(alloc, graph.book, graph.flat, item, &leaves)? {
-        Some(tag) => of_tag(alloc, graph, &leaves, &tag),
-        None => Ok(taking),
-    }
+    let tagged = match find_tag(alloc, graph.book, graph.flat, item, &leaves)? {
+        Some(tag) => of_tag(alloc, graph, &leaves, &tag)?,
+        None => taking,
+    };
+    met_rules(alloc, graph, item, tagged)
 }
 
 /// The rules that causes lead to.

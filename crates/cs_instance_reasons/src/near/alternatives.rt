@@ -4,13 +4,14 @@ ghost use Rattle.std.specs.Prelude.{Contains, IfOk};
 use crate::InstanceCause;
 use crate::graph::InstanceGraph;
 use crate::near::kinds::takes_kind;
+use crate::near::repeated::{is_wrong_for_all, met_rules};
 use crate::near::tags::{Tag, is_one, literals_of_each, tag_of};
 use cs_flat::Item;
 use cs_package::Shape;
 use std::alloc::{AllocError, Global};
 
-/// The alternatives that are close to an item: those that take its kind, and where a key tells them apart those that ask for
-/// the value under it. None where all that take its kind are literals.
+/// The alternatives that are close to an item: those that take its kind, and where keys tell them apart those that ask for
+/// the values under these. None where all that take its kind are literals.
 pub(crate) fn near(
     graph: &InstanceGraph<'_>,
     item: usize,
@@ -30,10 +31,10 @@ pub(crate) fn near(
         return Ok(left);
     }
     match graph.flat.item(item) {
-        Item::Object(members) => match tag_of(alloc, numbering, &rules, members)? {
-            None => Ok(left),
-            Some(tag) => tagged(graph, &left, &tag),
-        },
+        Item::Object(members) => {
+            let chosen = by_tag(graph, left, &rules, members)?;
+            met(graph, &chosen, members)
+        }
         Item::Null | Item::Bool(_) | Item::Int(_) | Item::Text(_) | Item::List(_) => Ok(left),
     }
 }
@@ -69,6 +70,25 @@ fn rules_of(alloc: Global, alternatives: &[InstanceCause]) -> Result<Vec<usize>,
     Ok(rules)
 }
 
+/// Those whose tag a map has, where a key tells them apart; all where none does, or its value is wrong for all.
+fn by_tag(
+    graph: &InstanceGraph<'_>,
+    alternatives: Vec<InstanceCause>,
+    rules: &[usize],
+    members: &[(&str, usize)],
+) -> Result<Vec<InstanceCause>, AllocError>
+    ensures { IfOk result (λ v. (c : InstanceCause) → Contains v.items c
+        → Contains alternatives.items c) }
+{
+    let Some(tag) = tag_of(graph.alloc, &graph.book.numbering, rules, members)? else {
+        return Ok(alternatives);
+    };
+    if is_wrong_for_all(graph, rules, tag.key, tag.child) {
+        return Ok(alternatives);
+    }
+    tagged(graph, &alternatives, &tag)
+}
+
 /// Those that ask for the value under the tag's key.
 fn tagged(
     graph: &InstanceGraph<'_>,
@@ -97,4 +117,32 @@ fn asks_for(sets: &[Vec<&Shape>], place: usize, value: &Item<'_>) -> bool {
         None => false,
         Some(set) => is_one(set, value),
     }
+}
+
+/// Those that ask under keys that each declares more than once what is there, as far as this leaves some.
+fn met(
+    graph: &InstanceGraph<'_>,
+    alternatives: &[InstanceCause],
+    members: &[(&str, usize)],
+) -> Result<Vec<InstanceCause>, AllocError>
+    ensures { IfOk result (λ v. (c : InstanceCause) → Contains v.items c
+        → Contains alternatives.now c) }
+{
+    let rules = rules_of(graph.alloc, alternatives)?;
+    let mut kept = met_rules(graph, members, rules)?;
+    kept.sort_unstable();
+    let mut left = Vec::new(graph.alloc);
+    for cause in alternatives {
+        if let InstanceCause::Alternative { rule, .. } = cause
+            && is_kept(&kept, *rule)
+        {
+            left.push(*cause)?;
+        }
+    }
+    Ok(left)
+}
+
+/// Whether a rule is one of these, which ascend.
+fn is_kept(kept: &[usize], rule: usize) -> bool {
+    kept.binary_search(&rule).is_ok()
 }

@@ -1,6 +1,7 @@
 // Literals that rules lead to.
-use cs_instance::{Field, Fields, Rule};
-use cs_package::{FieldMark, Shape};
+use cs_flat::Item;
+use cs_instance::{Fields, Rule, holds_simply};
+use cs_package::{FieldMark, Literal, Shape};
 use cs_rules::Numbering;
 use std::alloc::{AllocError, Global};
 
@@ -36,21 +37,66 @@ pub(super) fn literals_of<'a>(
     Ok(if is_led { Some(found) } else { None })
 }
 
-fn is_asked_for(mark: FieldMark) -> bool {
+/// Whether a declaration with this mark asks for its key.
+pub(super) fn is_asked_for(mark: FieldMark) -> bool {
     match mark {
         FieldMark::Regular | FieldMark::Required => true,
         FieldMark::Optional | FieldMark::Every { .. } => false,
     }
 }
 
-/// A declaration that asks for a key, if there is one: that of the key as its label.
-fn asking_for<'a, 'b>(fields: &'b Fields<'a>, key: &str) -> Option<&'b Field<'a>> {
+/// The rules of the values under a key, by the declarations of a map that ask for it: those of the key as their label.
+fn rules_under(
+    alloc: Global,
+    numbering: &Numbering<Rule<'_>>,
+    fields: &Fields<'_>,
+    key: &str,
+) -> Result<Vec<usize>, AllocError> {
+    let mut rules = Vec::new(alloc);
     for field in &fields.all {
-        if field.label == key && is_asked_for(field.mark) {
-            return Some(field);
+        if field.label == key
+            && is_asked_for(field.mark)
+            && let Some(rule) = numbering.children.get(field.value)
+        {
+            rules.push(*rule)?;
         }
     }
-    None
+    Ok(rules)
+}
+
+/// A literal as a value; null stands for any other expression.
+fn item_of<'a>(literal: &'a Shape) -> Item<'a> {
+    match literal.literal() {
+        Some(Literal::Bool(truth)) => Item::Bool(truth),
+        Some(Literal::Int(integer)) => Item::Int(integer),
+        Some(Literal::Text(text)) => Item::Text(text),
+        Some(Literal::Null) | None => Item::Null,
+    }
+}
+
+/// Whether a rule takes a value, as far as it is an expression without parts.
+fn takes_simply(numbering: &Numbering<Rule<'_>>, rule: usize, value: &Item<'_>) -> bool {
+    match numbering.rules.get(rule) {
+        Some(Rule::Simple(shape)) => holds_simply(shape, value),
+        Some(Rule::All(_) | Rule::Any(_) | Rule::Struct { .. } | Rule::List { .. }) | None => true,
+    }
+}
+
+/// The same where it may have such alternatives, or parts.
+fn takes(numbering: &Numbering<Rule<'_>>, rule: usize, value: &Item<'_>) -> bool {
+    match numbering.rules.get(rule) {
+        Some(Rule::Any(parts)) => {
+            let mut parts = parts.iter();
+            parts.any(|part| takes_simply(numbering, *part, value))
+        }
+        Some(Rule::All(parts)) => {
+            let mut parts = parts.iter();
+            parts.all(|part| takes_simply(numbering, *part, value))
+        }
+        Some(Rule::Simple(_) | Rule::Struct { .. } | Rule::List { .. }) | None => {
+            takes_simply(numbering, rule, value)
+        }
+    }
 }
 
 impl<'a> Search<'a> {
@@ -75,18 +121,15 @@ impl<'a> Search<'a> {
             Some(Rule::Any(parts)) => self.each_is_led(parts, key, depth - 1),
             Some(Rule::Struct { fields, .. }) => match key {
                 None => Ok(false),
-                Some(key) => match asking_for(fields, key) {
-                    None => Ok(false),
-                    Some(field) => match numbering.children.get(field.value) {
-                        None => Ok(false),
-                        Some(rule) => self.is_led(*rule, None, depth - 1),
-                    },
-                },
+                Some(key) => {
+                    let rules = rules_under(*self.found.allocator(), numbering, fields, key)?;
+                    self.some_is_led(&rules, None, depth - 1)
+                }
             },
         }
     }
 
-    /// Whether one of the rules that are asked together does.
+    /// Whether one of the rules that are asked together does; of its literals those are left that the others take.
     #[cycle(leading)]
     fn some_is_led(
         &mut self,
@@ -97,6 +140,9 @@ impl<'a> Search<'a> {
         let count = self.found.len();
         for part in parts {
             if self.is_led(*part, key, depth)? {
+                if key.is_none() {
+                    self.keep_taken(parts, count)?;
+                }
                 return Ok(true);
             }
             self.found.truncate(count);
@@ -118,5 +164,19 @@ impl<'a> Search<'a> {
             }
         }
         Ok(!parts.is_empty())
+    }
+
+    /// Leaves of the literals that were found behind so many those that all of these rules take.
+    fn keep_taken(&mut self, parts: &[usize], count: usize) -> Result<(), AllocError> {
+        let numbering = self.numbering;
+        let mut kept = Vec::with_capacity(*self.found.allocator(), self.found.len())?;
+        for (place, literal) in self.found.iter().enumerate() {
+            let value = item_of(literal);
+            if place < count || parts.iter().all(|part| takes(numbering, *part, &value)) {
+                kept.push(*literal)?;
+            }
+        }
+        self.found = kept;
+        Ok(())
     }
 }

@@ -56,7 +56,7 @@ pub(crate) fn conjuncts_of(
 }
 
 /// The place of the schema of the first declared name.
-fn first_name(conjunction: &Conjunction<'_>) -> Option<usize> {
+pub(crate) fn first_name(conjunction: &Conjunction<'_>) -> Option<usize> {
     let keywords = conjunction.keywords;
     let additional = usize::from(keywords.additional.is_some());
     let rest = usize::from(keywords.rest.is_some());
@@ -66,7 +66,11 @@ fn first_name(conjunction: &Conjunction<'_>) -> Option<usize> {
 }
 
 /// The rule of a declared name.
-fn rule_under(book: &Book<'_>, conjunction: &Conjunction<'_>, key: &str) -> Option<usize> {
+pub(crate) fn rule_under(
+    book: &Book<'_>,
+    conjunction: &Conjunction<'_>,
+    key: &str,
+) -> Option<usize> {
     let first = first_name(conjunction)?;
     for (count, name) in conjunction.keywords.properties.keys().enumerate() {
         if name.as_str() == key {
@@ -77,7 +81,7 @@ fn rule_under(book: &Book<'_>, conjunction: &Conjunction<'_>, key: &str) -> Opti
     None
 }
 
-fn has_name(names: &[String], key: &str) -> bool {
+pub(crate) fn has_name(names: &[String], key: &str) -> bool {
     names.iter().any(|name| name.as_str() == key)
 }
 
