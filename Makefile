@@ -67,15 +67,15 @@ edits: | toolchain
 	JOBS=$(jobs) tools/edits.py $(or $(and $(ALL),--all),$(CRATES),--since $(SINCE))
 
 memory: bin/cue2schema | toolchain
-	cd crates/cs_bench && rt run < stdin > /dev/null
-	JOBS=$(jobs) tools/memory.sh bin/cue2schema crates/cs_bench/out/cs_bench
+	cd crates/cs_calls && rt run < stdin > /dev/null
+	JOBS=$(jobs) tools/memory.sh bin/cue2schema crates/cs_calls/out/cs_calls
 
 hostile: bin/cue2schema
 	tools/hostile.sh bin/cue2schema
 
 bench: bin/cue2schema | toolchain
-	cd crates/cs_bench && rt run < stdin > /dev/null
-	sh bench/table.sh crates/cs_bench/out/cs_bench bin/cue2schema
+	cd crates/cs_calls && rt run < stdin > /dev/null
+	sh bench/table.sh crates/cs_calls/out/cs_calls bin/cue2schema
 
 man:
 	tools/manual.py bin/man

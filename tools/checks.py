@@ -2,8 +2,8 @@
 """Runs all checks of one kind side by side, and prints what each prints when it has ended. The last line sums up those of all: `N
 passed, M failed`.
 
-    tools/checks.py test PROGRAM            those that need no proof: what can be seen from the files, the tests of the crates `cs_rows*`
-                                            unproved, and PROGRAM, which is built from its sources without the proofs first
+    tools/checks.py test PROGRAM            those that need no proof: what can be seen from the files, the rows of `cs_calls` and the tests of
+                                            `cs_rows` unproved, and PROGRAM, which is built from its sources without the proofs first
     tools/checks.py prove PROGRAM           every proof from nothing by `rt ci` (tools/kit.py); the edits that edits/GATE names, as soon as it has proved
                                             what they stand on; and PROGRAM, as soon as that is proved and built, by the same checks
     tools/checks.py program PROGRAM         the checks of a program alone
@@ -28,7 +28,6 @@ import kit
 
 TOP = Path(__file__).resolve().parent.parent
 COUNTED = re.compile(r"(\d+) passed[,;] (\d+) failed")
-TEST = re.compile(r"^#\[test\]", re.M)
 # How `rt ci` says that a crate is proved.
 PROVED = re.compile(r"rt: (\w+) (?:proved|is kept: .*)")
 # What can be seen from the files in a second.
@@ -105,18 +104,12 @@ def of_program(checks: Checks, pool: ThreadPoolExecutor, program: str, **environ
     return [pool.submit(checks.run, [*it.split(" "), program], **environment) for it in OF_PROGRAMS]
 
 
-def test_crates() -> list[str]:
-    """The folders of the crates of tests, the longest text first: it takes the longest to build."""
-    folders = [it for it in (TOP / "crates").glob("cs_rows*") if any(TEST.search(file.read_text()) for file in it.rglob("src/**/*.rt"))]
-    sizes = {it: sum(file.stat().st_size for file in it.rglob("src/**/*.rt")) for it in folders}
-    return [f"crates/{it.name}" for it in sorted(folders, key=lambda it: -sizes[it])]
-
-
 def test(checks: Checks, pool: ThreadPoolExecutor, program: str) -> list[Future]:
     built = pool.submit(checks.run, ["tools/unproved.py", program], RT_SECONDS="600")
-    tested = [pool.submit(checks.run, ["rt", "try", "--test"], it, RT_SECONDS="600") for it in test_crates()]
+    called = pool.submit(checks.run, ["tools/calls.py"], RT_SECONDS="600")
+    tested = pool.submit(checks.run, ["rt", "try", "--test"], "crates/cs_rows", RT_SECONDS="600")
     seen = [pool.submit(checks.run, it) for it in OF_FILES]
-    return [*tested, *seen, *(of_program(checks, pool, program, PATIENCE="120") if built.result() else [])]
+    return [called, tested, *seen, *(of_program(checks, pool, program, PATIENCE="120") if built.result() else [])]
 
 
 class Behind:

@@ -90,4 +90,4 @@ END {
     }
     exit failed
 }
-' docs/CONTRACTS.md $(find crates/cs_*/src -name '*.rt' ! -path 'crates/cs_rows*' ! -path 'crates/cs_bench/*' | sort)
+' docs/CONTRACTS.md $(find crates/cs_*/src -name '*.rt' ! -path 'crates/cs_rows/*' ! -path 'crates/cs_calls/*' | sort)

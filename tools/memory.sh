@@ -1,5 +1,5 @@
 #!/bin/sh
-# Whether want of memory is told each time. Makes each command of cases/growths, and each step below of cs_bench, with its first
+# Whether want of memory is told each time. Makes each command of cases/growths, and each step below of cs_calls, with its first
 # growth of memory refused, then with its second one, and so on, until a run meets no refusal. Each run that meets one must
 # print nothing, say `error 15` (or with `--format` print that as an object) and end with status 5, and the last one must give the whole answer. A line for each command says
 # how many growths it has, or what a run did instead; fails where there is such a run. Takes a minute on 4 processors.
@@ -10,7 +10,7 @@
 # A step `again` makes a call twice in one process, on the same inputs: where a growth of one of them is refused, that one has to
 # answer 15, and the other one the whole answer.
 #
-#     tools/memory.sh PROGRAM BENCH        JOBS=N: so many commands side by side
+#     tools/memory.sh PROGRAM CALLS        JOBS=N: so many commands side by side
 #
 # A growth is a call of `malloc` or `realloc`. The kit's compiler builds refused_growth.c, which refuses one of them.
 set -eu
@@ -140,7 +140,7 @@ one() {
 }
 
 program=$(realpath "$1")
-bench=$(realpath "$2")
+calls=$(realpath "$2")
 here=$(cd "$(dirname "$0")" && pwd)
 . "$here/wanted.sh"
 cd "$here/../cases/growths"
@@ -150,7 +150,7 @@ if [ $# -eq 4 ]; then
     library=$3
     count=$(wc -l < runs)
     if [ "$4" -gt "$count" ]; then
-        program=$bench
+        program=$calls
         one "$(echo "$steps" | sed -n "$(($4 - count))p")"
     else
         one "$(sed -n "${4}p" runs)"
@@ -163,7 +163,7 @@ kit=$(dirname "$(dirname "$(realpath "$(command -v rt)")")")
     "$here/refused_growth.c"
 rows=$(($(wc -l < runs) + $(echo "$steps" | wc -l)))
 # A command that hangs is stopped after ten minutes.
-seq "$rows" | xargs -P "${JOBS-1}" -I '{}' timeout 600 "$here/memory.sh" "$program" "$bench" "$room/refused_growth.so" '{}' \
+seq "$rows" | xargs -P "${JOBS-1}" -I '{}' timeout 600 "$here/memory.sh" "$program" "$calls" "$room/refused_growth.so" '{}' \
     > "$room/lines" || true
 sort -k 3 "$room/lines"
 awk -v rows="$rows" '$2 == "growths:" { commands++; growths += $1 }

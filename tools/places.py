@@ -8,7 +8,7 @@ docs/LAYERS.md and crates.txt do.
 
 A place is a line of a crate's `src` (code), `specs` (definitions) or `proofs` that has a word of its section: see `THINGS`. A word
 that begins or ends with a letter, a digit or `_` is found where no other one of these goes on there; `…` stands for such ones. Left out
-are lines of `use` items and lines that are comments; tests: the crates `cs_rows*` and `cs_bench`, and files of `src` named `tests.rt`
+are lines of `use` items and lines that are comments; tests: the crates `cs_rows` and `cs_calls`, and files of `src` named `tests.rt`
 or `*_tests.rt`; samples: files of `proofs` whose name has `Sample` or `Rows`, or that begin with `-- Samples`. A function is a line
 of `src`, in a test too, that begins with `fn`, behind `pub` or `pub(..)` at most.
 
@@ -105,7 +105,7 @@ class File:
     text: str
 
     def is_test(self) -> bool:
-        return self.crate == "cs_bench" or self.crate.startswith("cs_rows") or re.search(r"[/_]tests\.rt\Z", self.name) is not None
+        return self.crate in ("cs_rows", "cs_calls") or re.search(r"[/_]tests\.rt\Z", self.name) is not None
 
     def is_sample(self) -> bool:
         name = self.name.rpartition("/")[2]

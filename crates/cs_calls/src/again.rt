@@ -1,5 +1,5 @@
 // A call of the tool, made twice on the same inputs.
-use crate::stop::Stop;
+use crate::rows::put_answer;
 use cs_tool::{Fault, Request, agree, export, run, validate, vet};
 use std::alloc::{AllocError, Global};
 
@@ -12,24 +12,14 @@ pub struct Inputs<'a> {
     pub doc: &'a [u8],
 }
 
-/// What the call answers the first time and the second time, a line each: its text, or `error 15` where memory runs out.
-pub fn answered_twice(alloc: Global, call: &str, inputs: Inputs<'_>) -> Result<Vec<u8>, Stop> {
+/// What the call answers the first time and the second time, a line each: its text, or the line of a refusal, as where memory runs out.
+pub fn answered_twice(alloc: Global, call: &str, inputs: Inputs<'_>) -> Result<Vec<u8>, Fault> {
     let mut lines = Vec::new(alloc);
     for _ in 0..2 {
         let answer = answer(alloc, call, inputs);
-        push_line(&mut lines, &answer)?;
+        put_answer(&mut lines, &answer)?;
     }
     Ok(lines)
-}
-
-fn push_line(lines: &mut Vec<u8>, answer: &Result<Vec<u8>, Fault>) -> Result<(), Stop> {
-    match answer {
-        Ok(text) => lines.extend_from_slice(text)?,
-        Err(Fault::OutOfMemory) => lines.extend_from_slice(b"error 15")?,
-        Err(_) => return Err(Stop::Refused),
-    }
-    lines.push(b'\n')?;
-    Ok(())
 }
 
 /// The text that the call answers, without a newline.

@@ -1,8 +1,9 @@
 // The words that name steps.
 
-/// What is measured, or made twice.
-#[derive(Clone, Copy, PartialEq, Eq)]
+/// What is measured, or made twice, or the calls of rows.
+#[derive(Clone, Copy)]
 pub enum Step {
+    Rows,
     Again,
     Lex,
     Parse,
@@ -20,6 +21,7 @@ pub enum Step {
 
 /// The word of each step.
 const STEPS: &[(&str, Step)] = &[
+    ("rows", Step::Rows),
     ("again", Step::Again),
     ("lex", Step::Lex),
     ("parse", Step::Parse),
