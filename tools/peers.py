@@ -5,7 +5,7 @@ each wrong verdict, and a closing count of verdicts.
     tools/peers.py PROGRAM [PACKAGE..]        a file is a package, and so are the files of a folder together, and the rows of a file
                                               as tools/widening.rows that the program takes; where none is named, each file of
                                               examples/ and of the folders in cases/, the packages of the rows `widened` there, and
-                                              tools/widening.rows
+                                              tools/widening.rows and tools/conditions.rows
 
 The packages of rows are exported by `--profile wide`, and so are others where `export` refuses them without these words.
 
@@ -265,7 +265,7 @@ def add_rows(report: Report, program: str) -> None:
 def add_model_rows(report: Report, program: str, path: Path) -> None:
     """The rows of a file as tools/widening.rows that the program takes."""
     for row in widened.rows(path):
-        if row.refusal():
+        if row.refusal() or widened.has_names(row):
             continue
         docs = {verdict: [json.dumps(doc) for doc, given in row.documents if given == verdict] for verdict in ("valid", "invalid")}
         with tempfile.TemporaryDirectory(prefix="row-") as room:
@@ -301,5 +301,5 @@ if __name__ == "__main__":
         sys.exit(__doc__)
     named = [Path(it) for it in sys.argv[2:]]
     folders = sorted({file.parent for file in (TOP / "examples").glob("*/*.cue")})
-    stored = [*sorted((TOP / "examples").glob("*.cue")), *folders, *sorted((TOP / "cases").glob("*/*.cue")), widened.ROWS]
+    stored = [*sorted((TOP / "examples").glob("*.cue")), *folders, *sorted((TOP / "cases").glob("*/*.cue")), widened.ROWS, widened.CONDITION_ROWS]
     sys.exit(main(str(Path(sys.argv[1]).resolve()), named or stored, with_rows=not named))
