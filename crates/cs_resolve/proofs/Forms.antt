@@ -48,7 +48,7 @@ abbrev empty : Tree
 empty = struct 7 no_field false
 
 abbrev file_of : List DefinitionTree → FileTree
-file_of ds = file None ds
+file_of ds = file None ds []
 
 -- ---- predeclared names
 
@@ -238,7 +238,7 @@ bodies_of_each = refl
 
 -- files with these names in their package clauses
 abbrev named_so : List (Option (List ℕ)) → List FileTree
-named_so ns = map (λ n. file n []) ns
+named_so ns = map (λ n. file n [] []) ns
 
 -- the first that names another one than the first named: none among no files, one, or those without a clause
 differing : map (λ ns. differing_file (named_so ns))

@@ -14,7 +14,8 @@ use Rattle.cs_grammar.specs.Spells.{SpellsFile}
 use Rattle.cs_grammar.specs.Taken.{taken}
 use Rattle.cs_grammar.specs.TokenWords.{words}
 use Rattle.cs_grammar.specs.declared.profile.Profile.{Profile}
-use Rattle.cs_syntax.specs.Reading.{◌>>=◌, Gives, file_at}
+use Rattle.cs_syntax.specs.Reading.{◌>>=◌, Gives}
+use Rattle.cs_syntax.specs.FileReading.{file_at}
 use Rattle.cs_syntax.specs.Within.{if_low, if_deep, file_within}
 use Rattle.cs_lexer.specs.Lexed.{Answers, IsRefusalIn}
 use Rattle.cs_syntax.specs.AnswerIn.{IsSpelledIn}

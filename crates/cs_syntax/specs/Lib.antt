@@ -25,6 +25,7 @@ pub mod Earlier
 -- for contracts of private functions and proofs alone
 pub mod Left
 pub mod Reading
+pub mod FileReading
 pub mod Within
 pub mod Counting
 pub mod SeenHeight

@@ -7,7 +7,8 @@ use Rattle.cs_grammar.specs.Tree.{FileTree}
 use Rattle.cs_grammar.specs.Limits.{most_height}
 use Rattle.cs_grammar.specs.Height.{file_height}
 use Rattle.cs_syntax.specs.Nesting.{nesting, most_nested}
-use Rattle.cs_syntax.specs.Reading.{◌>>=◌, file_at}
+use Rattle.cs_syntax.specs.Reading.{◌>>=◌}
+use Rattle.cs_syntax.specs.FileReading.{file_at}
 
 abbrev pub if_low : Bool → FileTree → Result FileTree SyntaxFault
 if_low true f = Ok f

@@ -19,7 +19,8 @@ use Rattle.cs_package.specs.Expression as cue
 use Rattle.cs_resolve.specs.Earlier.{IsPackageEarlier}
 use Rattle.cs_resolve.proofs.OnePackage.{one_package}
 use Rattle.cs_syntax.specs.Answer.{IsSpelled}
-use Rattle.cs_syntax.specs.Reading.{unbracketed_at, many, operand_with, uncalled_with, paren_with, conj_with, branch_with, expr_with, inner, definition_at, line_at, package_at, file_with, file_at, struct_with, field_with, head_at, every_key_at}
+use Rattle.cs_syntax.specs.Reading.{unbracketed_at, many, operand_with, uncalled_with, leaf_at, paren_with, conj_with, branch_with, expr_with, inner, struct_with, field_with, head_at, every_key_at}
+use Rattle.cs_syntax.specs.FileReading.{definition_at, line_at, any_line_at, lines_at, package_at, file_with, file_at}
 use Rattle.cs_syntax.proofs.EarlierNesting.{still_spelled}
 use Rattle.cs_syntax.proofs.EarlierSamples.{plain_source, plain_file, plain_was_spelled}
 use Rattle.cs_syntax.proofs.Soundness.{file_found}
@@ -86,7 +87,7 @@ abbrev every_source : List ℕ
 every_source = codes "#T: {[string]: int}"
 
 abbrev every_file : FileTree
-every_file = file None (definition (codes "T") 0 (T.struct 4 (T.field every_label (Every 6) (T.named (codes "int") 15) T.no_field) false) ∷ [])
+every_file = file None (definition (codes "T") 0 (T.struct 4 (T.field every_label (Every 6) (T.named (codes "int") 15) T.no_field) false) ∷ []) []
 
 abbrev every_tokens : List Lexeme
 every_tokens =
@@ -109,7 +110,7 @@ every_cut =
     finish {l = WantsComma})))))))))))
 
 every_read : file_at (words every_tokens) ≡ Ok every_file
-unfolding unbracketed_at many operand_with uncalled_with paren_with conj_with branch_with expr_with inner definition_at line_at package_at file_with struct_with field_with head_at every_key_at
+unfolding unbracketed_at many operand_with uncalled_with leaf_at paren_with conj_with branch_with expr_with inner definition_at line_at any_line_at lines_at package_at file_with struct_with field_with head_at every_key_at
 every_read = refl
 
 every_spelled : IsSpelled every_source every_file

@@ -1,11 +1,13 @@
 use Rattle.std.proofs.Common.{◌≡◌, ℕ, [], ◌∷◌, Some, string_bytes, Vec, sym, ap, subst, ◌∙◌}
-use Rattle.std.proofs.lemmas.Result.{IfOk-weaker}
+use Rattle.std.proofs.lemmas.Result.{IfOk-weaker, IfErr-weaker}
 use Rattle.std.specs.Option.{option_map}
 use Rattle.std.specs.declared.alloc.Global.{Global}
+use Rattle.cs_tool.specs.First.{SourcesRefusal}
 use Rattle.cs_tool.specs.Given.{bytes_in}
-use Rattle.cs_widen.specs.Calls.{Means}
+use Rattle.cs_tool.specs.declared.fault.Fault.{Fault}
+use Rattle.cs_widen.specs.Calls.{Means, RefusesIn}
 use Rattle.cs_widen.specs.Meant.{StandForIn}
-use Rattle.cs_widen.proofs.Judgements.{by_meant}
+use Rattle.cs_widen.proofs.Judgements.{by_meant, refused_meant, refused_themselves}
 use Rattle.cs_export.specs.Shaped.{ArePackageSchemas}
 use Rattle.cs_export.proofs.Profiles.{by_law}
 use Rattle.cs_export.proofs.exports.export_all_in.Goals as goal
@@ -21,6 +23,16 @@ returns-in-Some-clause-found c =
     (λ (v : Vec ℕ Global). Means p ss (λ judged. ArePackageSchemas judged c.args.layout v.items))
     (λ v x. (m ∷ [], by_meant p ss m stand, x)) c.exported_all.ensures.found
 
+pub returns-in-Some-clause-refused : goal.returns-in-Some-clause-refused
+returns-in-Some-clause-refused c =
+    let p = c.args.profile in
+    let ss = bytes_in c.args.sources.now in
+    let m = c.as_bytes.result.now in
+    let same : option_map string_bytes c.in_ok-meant.field-0 ≡ Some m = ap (option_map string_bytes) c.in-Some.is ∙ ap Some (sym c.as_bytes.ensures.value) in
+    let stand = subst (λ s. StandForIn p ss s) same c.in_ok-meant.ensures.found in
+    IfErr-weaker c.exported_all.result (λ (e : Fault). SourcesRefusal (m ∷ []) e) (λ (e : Fault). RefusesIn p ss (λ judged. SourcesRefusal judged e) e)
+    (λ e h. refused_meant ss (λ judged. SourcesRefusal judged e) p e m stand h) c.exported_all.ensures.refused
+
 pub returns-clause-found : goal.returns-clause-found
 returns-clause-found c =
     let p = c.args.profile in
@@ -29,3 +41,11 @@ returns-clause-found c =
     IfOk-weaker c.exported_all-in-None.result (λ (v : Vec ℕ Global). ArePackageSchemas ss c.args.layout v.items)
     (λ (v : Vec ℕ Global). Means p ss (λ judged. ArePackageSchemas judged c.args.layout v.items))
     (λ v x. (ss, by_law c.wide_law.ensures.default p ss stand x.environment x.accepted, x)) c.exported_all-in-None.ensures.found
+
+pub returns-clause-refused : goal.returns-clause-refused
+returns-clause-refused c =
+    let p = c.args.profile in
+    let ss = bytes_in c.args.sources.now in
+    let stand = subst (λ s. StandForIn p ss s) (ap (option_map string_bytes) c.in-None.is) c.in_ok-meant.ensures.found in
+    IfErr-weaker c.exported_all-in-None.result (λ (e : Fault). SourcesRefusal ss e) (λ (e : Fault). RefusesIn p ss (λ judged. SourcesRefusal judged e) e)
+    (λ e h. refused_themselves ss (λ judged. SourcesRefusal judged e) p e stand h) c.exported_all-in-None.ensures.refused

@@ -1,0 +1,9 @@
+use Rattle.std.proofs.Common.{◌≡◌, ℕ, Bool, List, [], ◌∷◌, ◌++◌, map, take, drop}
+use Rattle.cs_grammar.specs.View.{exprs_view, definition_view, file_view}
+use Rattle.cs_names.specs.Checks.{TellsTexts, lifted_view}
+use Rattle.cs_names.specs.Joined as Spec
+use Rattle.cs_names.proofs.held.find_held.Given as goal
+
+abbrev pub invariant-loop-lifted : goal.invariant-loop-lifted
+invariant-loop-lifted l = (hs ss : List (List ℕ)) → TellsTexts l.holding hs → TellsTexts l.referred ss
+    → Spec.held hs ss (map lifted_view l.order) ≡ Spec.held hs ss (map lifted_view (drop l.lifted-index l.order))

@@ -1,0 +1,8 @@
+use Rattle.std.proofs.Common.{◌≡◌, ℕ, Bool, List, [], ◌∷◌, ◌++◌, map, take, drop}
+use Rattle.cs_grammar.specs.View.{exprs_view, definition_view, file_view}
+use Rattle.cs_names.specs.Checks.{TellsTexts, lifted_view}
+use Rattle.cs_names.specs.Joined as Spec
+use Rattle.cs_names.proofs.held.holding_in.Given as goal
+
+abbrev pub invariant-loop-file : goal.invariant-loop-file
+invariant-loop-file l = TellsTexts l.found (Spec.holding_in (map file_view (take l.file-index l.files)))

@@ -1,0 +1,9 @@
+use Rattle.std.proofs.Common.{◌≡◌, map, drop}
+use Rattle.cs_grammar.specs.View.{file_view}
+use Rattle.std.specs.List.{list_any, flat_map}
+use Rattle.cs_grammar.specs.Tree.{body, definitions}
+use Rattle.cs_names.specs.Joined as Spec
+use Rattle.cs_names.proofs.joins.files_join.Given as goal
+
+abbrev pub invariant-loop-file : goal.invariant-loop-file
+invariant-loop-file l = list_any (λ d. Spec.joins (body d)) (flat_map definitions (map file_view l.files)) ≡ list_any (λ d. Spec.joins (body d)) (flat_map definitions (map file_view (drop l.file-index l.files)))

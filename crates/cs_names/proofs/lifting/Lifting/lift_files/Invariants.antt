@@ -1,0 +1,11 @@
+use Rattle.std.proofs.Common.{List, map, take}
+use Rattle.cs_grammar.specs.View.{file_view}
+use Rattle.cs_grammar.specs.Tree.{DefinitionTree}
+use Rattle.cs_names.specs.Checks.{TellsLifts, TellsScope}
+use Rattle.cs_names.specs.Lifted as Spec
+use Rattle.cs_names.specs.Lifted.{Lifts, is_taken, first_free, all_numbers}
+use Rattle.cs_names.specs.Scopes as M
+use Rattle.cs_names.proofs.lifting.Lifting.lift_files.Given as goal
+
+abbrev pub invariant-loop-file : goal.invariant-loop-file
+invariant-loop-file l = (all : List DefinitionTree) (ts : Lifts) (every : M.Scope) → TellsLifts l.initial.self all ts → TellsScope l.shared every → TellsLifts l.self all (Spec.lift_files all every 0 (map file_view (take l.file l.files)) ts)

@@ -1,0 +1,8 @@
+use Rattle.std.proofs.Common.{◌≡◌, List, drop}
+use Rattle.cs_names.specs.Checks.{TellScopes}
+use Rattle.cs_names.specs.Scopes as M
+use Rattle.cs_names.specs.Scopes.{scope_of_fields, scope_of_declarations, bound_scope, open_scope, shared_from, denoted}
+use Rattle.cs_names.proofs.scopes.denoted.Given as goal
+
+abbrev pub invariant-loop-around : goal.invariant-loop-around
+invariant-loop-around l = (ss : List M.Scope) → TellScopes l.scopes ss → denoted ss l.name ≡ denoted (drop l.around-index ss) l.name
