@@ -2,11 +2,12 @@
 """Tries the model of tools/widening.py, and a program by it. A line for each difference, and a closing count.
 
     tools/widened.py [--random N] [--random-names N] [--seed N]
-    tools/widened.py [--random N] [--seed N] --program PROGRAM
+    tools/widened.py [--random N] [--random-names N] [--seed N] --program PROGRAM
 
 - Each row of tools/widening.rows, tools/naming.rows and tools/conditions.rows: a source, what it stands for (`=>`) or the number by which it
   is refused, and documents that are instances of `#P` and that aren't, also by the reading of tools/named_reading.py. A program is tried on
-  those of tools/widening.rows and tools/conditions.rows that have no names, `let` and selectors.
+  those without selectors. Where they have names it makes definitions of more of them, so only its verdicts are compared, and it may refuse by
+  11 what the model takes.
 - Random packages, 200 where no number is given: each document has to be an instance by a direct reading of the source exactly where it is
   one of the package that is meant. By that reading a document is an instance of a literal with embedded expressions when, for some choice
   of an alternative for each, one for a name, every declared field is as all of them ask, and every other key is allowed by one of them.
@@ -19,7 +20,8 @@
   the program has to. Where it doesn't, `widen --profile wide` has to say of the package what `widen` says of the one that the model means:
   the number of the same refusal, or a text that is read as the same package; `export` writes the same schemas, to the byte, and `vet`
   judges documents as the model does. More than 64 values of a label, or bodies of a definition, aren't joined. `check` has to tell the same
-  number first.
+  number first. Then random packages with names and without selectors: of those that the program takes `vet` judges documents as the direct
+  reading does, and the model refuses none by 5 or 9.
 
 Numbers are compared in the order of the program's conditions: what an `if` asks (5, 10), then what can't be embedded (9, 11), then what an
 embedding brings together (11) or too many nodes with it (14), then marks (5), then the package that is meant, where 9 and 10 come before 11.
@@ -52,10 +54,11 @@ from widening import Widening, spelled, together, widened  # noqa: E402
 
 ROWS = Path(__file__).resolve().parent / "widening.rows"
 CONDITION_ROWS = ROWS.with_name("conditions.rows")
-# Those that the model alone is tried on.
 NAME_ROWS = ROWS.with_name("naming.rows")
 LABELS = ["a", "b", "c"]
 DOCUMENTS = 60
+# What is closed is told to be opened, and a name to be declared again.
+NOT_OPENED = "error 11"
 
 
 # Rows.
@@ -99,23 +102,36 @@ def rows(path: Path = ROWS) -> list[Row]:
     return [row_of(lines) for lines in parted if lines]
 
 
-def has_names(row: Row) -> bool:
-    """Whether the source has a name that the program doesn't take: of a field at the top, nested or hidden, of a `let`, or with a selector."""
+def has_names(source: str) -> bool:
+    """Whether the source has a name beside definitions: of a field at the top, nested or hidden, of a `let`, or with a selector."""
     try:
-        package = WideReader(row.source).package()
+        package = WideReader(source).package()
     except Refused:
         return False
     return any(not name.startswith("#") or any(is_naming(body) for body in bodies) for name, bodies in package.items())
 
 
+def has_selectors(source: str) -> bool:
+    """Whether the source has a name with a selector, which the program doesn't take."""
+    try:
+        package = WideReader(source).package()
+    except Refused:
+        return False
+    return any(is_selecting(body) for bodies in package.values() for body in bodies)
+
+
 def taken_rows() -> list[Row]:
     """The rows that a program is tried on."""
-    return [row for path in (ROWS, CONDITION_ROWS) for row in rows(path) if not has_names(row)]
+    return [row for path in (ROWS, NAME_ROWS, CONDITION_ROWS) for row in rows(path) if not has_selectors(row.source)]
 
 
 def is_naming(it: tuple) -> bool:
     is_one = it[0] == "selector" or it[0] == "struct" and any(mark in ("named", "let") for _label, mark, _value in it[1])
     return is_one or any(is_naming(part) for part in parts(it))
+
+
+def is_selecting(it: tuple) -> bool:
+    return it[0] == "selector" or any(is_selecting(part) for part in parts(it))
 
 
 def faults_of_row(row: Row) -> Iterator[str]:
@@ -770,12 +786,36 @@ class Tried:
     def faults_of_row(self, row: Row) -> Iterator[str]:
         """How the program differs from a row."""
         printed, refusal = self.widen([row.source])
-        if refusal != row.refusal():
+        is_named = has_names(row.source)
+        if refusal != row.refusal() and not (is_named and refusal == NOT_OPENED):
             yield f"wanted {row.refusal()!r}, and the program says {refusal!r} {printed}"
         elif not refusal:
-            if row.differs(parsed(printed)):
+            if not is_named and row.differs(parsed(printed)):
                 yield f"is written as {printed}"
             yield from self.misjudged([row.source], row.documents)
+
+    def faults_of_names(self, chance: random.Random, source: str) -> Iterator[str]:
+        """How a package with names is answered, and then what differs."""
+        printed, refusal = self.widen([source])
+        yield refusal or "accepted"
+        if refusal:
+            yield from self.other_first([source], refusal)
+            return
+        try:
+            widened(source)
+        except Refused as why:
+            # What the model can't put in the place of a name may well have a definition.
+            if why.number in (5, 9):
+                yield f"is refused by the model, {why}, and the program means {printed}"
+        meant = parsed(printed)
+        reading = NamedReading(WideReader(source).package())
+        docs: list[object] = [{}]
+        for number in range(DOCUMENTS):
+            docs.append(mutated(chance, docs[-1]) if number % 3 else near(chance, meant, ("ref", "#P"), 9))
+        try:
+            yield from self.misjudged([source], [(it, "valid" if reading.is_named("#P", it) else "invalid") for it in docs])
+        except RecursionError:
+            yield f"can't be judged, and the program means {printed}"
 
 
 def is_refused(sources: list[str]) -> bool:
@@ -797,6 +837,18 @@ def try_program(given: tuple[str, int]) -> tuple[str, list[str]]:
     return answer, [f"seed {seed}: {'% '.join(sources)}{it}" for it in faults]
 
 
+def try_names_of_program(given: tuple[str, int]) -> tuple[str, list[str]]:
+    """How the random package of a seed with names is answered, and what differs; one with selectors isn't tried."""
+    program, seed = given
+    chance = random.Random(seed)
+    source = NamedSources(chance).package()
+    if has_selectors(source):
+        return "with selectors", []
+    with tempfile.TemporaryDirectory() as room:
+        answer, *faults = Tried(program, Path(room)).faults_of_names(chance, source)
+    return answer, [f"seed {seed}: {source}\n{it}" for it in faults]
+
+
 def try_rows(program: str) -> list[list[str]]:
     """What differs of each row."""
     with tempfile.TemporaryDirectory() as room:
@@ -807,15 +859,17 @@ def try_rows(program: str) -> list[list[str]]:
 def on_program(words: argparse.Namespace) -> int:
     program = str(words.program.resolve())
     seeds = range(words.seed, words.seed + words.random)
+    named_seeds = range(words.seed, words.seed + words.random_names)
     of_rows = try_rows(program)
     with ThreadPoolExecutor(int(os.environ.get("JOBS") or len(os.sched_getaffinity(0)))) as pool:
         answers = list(pool.map(try_program, [(program, it) for it in seeds]))
-    faults = [*of_rows, *(it for _answer, it in answers)]
+        of_names = list(pool.map(try_names_of_program, [(program, it) for it in named_seeds]))
+    faults = [*of_rows, *(it for _answer, it in [*answers, *of_names])]
     for it in (it for some in faults for it in some):
         print(it)
-    told = Counter(answer for answer, _faults in answers)
     print(f"{len(of_rows)} rows")
-    print(", ".join(f"{many} {said}" for said, many in told.most_common()))
+    for told in (Counter(answer for answer, _faults in answers), Counter(answer for answer, _faults in of_names)):
+        print(", ".join(f"{many} {said}" for said, many in told.most_common()))
     failed = sum(bool(it) for it in faults)
     print(f"{len(faults) - failed} passed, {failed} failed")
     return 1 if failed or not answers else 0

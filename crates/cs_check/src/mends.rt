@@ -257,6 +257,21 @@ pub(crate) fn mend_at(source: &Source<'_>, offset: usize, made: usize) -> Option
     }
 }
 
+/// The mend of a declaration that gives a name at a place, where that is at fault: the declaration goes. It is a `let` that nothing names, or where
+/// `is_name` is false the label of a name that another struct declares too. None where neither is there.
+pub(crate) fn mended_name(source: &Source<'_>, place: usize, is_name: bool) -> Option<Mend> {
+    let near = Near { source, place };
+    let is_scoped = matches!(near.here().sort, Sort::Definition | Sort::Hidden)
+        && near.inside() == Inside::Struct
+        && source.ends_label(place.saturating_add(1));
+    let is_one = if is_name {
+        near.begins_let()
+    } else {
+        is_scoped
+    };
+    is_one.then_some(Spot::new(source, place).mended_declaration())
+}
+
 /// The mend of conditions at a place: what stands before their struct becomes a label. None where none are.
 pub(crate) fn mended_condition(source: &Source<'_>, place: usize) -> Option<Mend> {
     let is_one = Near { source, place }.is_in_condition();

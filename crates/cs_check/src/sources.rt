@@ -4,9 +4,9 @@ ghost use Rattle.cs_tool.specs.Given.{bytes_in};
 ghost use Rattle.cs_check.specs.Told.{AreAccepted, AreWideAccepted, BeginsWithFirst, BeginsWithWideFirst, BeginsWith};
 
 use crate::MOST_FAULTS;
-use crate::mends::{Draft, mend_at, mended_condition, mended_embedding, mended_value};
+use crate::mends::{Draft, mend_at, mended_condition, mended_embedding, mended_name, mended_value};
 use cs_place::Named;
-use cs_sources::{Made, Source};
+use cs_sources::{Made, Near, Source};
 use cs_tool::{Fault, accepted_package, slices_of};
 use cs_widen::{Profile, stands_for};
 use std::alloc::{AllocError, Global};
@@ -82,7 +82,7 @@ struct Told<'f, 'a> {
     profile: Profile,
     first: &'f Fault,
     rest: Vec<Fault>,
-    /// The words that mends took out until the sources were files.
+    /// The words that mends took out until the sources were files, and names whose declarations they took out.
     taken: BTreeSet<&'a str>,
     /// Whether an embedding or a condition was taken out, so that it isn't known which structs are joined.
     is_loose: bool,
@@ -241,7 +241,7 @@ impl<'f, 'a> Told<'f, 'a> {
     }
 
     /// Mends a fault of a package by its place in its source, and says whether that was done. A cycle is cut between its first name and the next one.
-    fn mend(&mut self, drafts: &mut [Draft<'_>], fault: &Fault) -> Made<bool> {
+    fn mend(&mut self, drafts: &mut [Draft<'a>], fault: &Fault) -> Made<bool> {
         if let Fault::Cycle { names } = fault
             && let Some(first) = names.first()
         {
@@ -258,10 +258,17 @@ impl<'f, 'a> Told<'f, 'a> {
         };
         let place = draft.source.place_at(offset);
         let is_name = !matches!(fault, Fault::NotOpened { .. });
+        let source = &draft.source;
+        let name = mended_name(source, place, is_name);
+        if name.is_some() {
+            let declared = Near { source, place }.name_declared();
+            self.taken.insert(declared.here().text)?;
+        }
         let condition = mended_condition(&draft.source, place).filter(|_| is_name);
         let embedding = condition.or(mended_embedding(&draft.source, place, is_name));
         self.is_loose |= embedding.is_some();
-        match embedding.or(mended_value(&draft.source, place, is_name)) {
+        let mend = name.or(embedding);
+        match mend.or(mended_value(&draft.source, place, is_name)) {
             Some(mend) => draft.add(mend)?,
             None => draft.open_literal(place)?,
         }
@@ -269,7 +276,7 @@ impl<'f, 'a> Told<'f, 'a> {
     }
 
     /// Tells and mends the next fault of a package, and says whether to look for others.
-    fn tell_next(&mut self, drafts: &mut [Draft<'_>]) -> Made<bool> {
+    fn tell_next(&mut self, drafts: &mut [Draft<'a>]) -> Made<bool> {
         let Some(fault) = self.next_fault(drafts)? else {
             return Ok(false);
         };

@@ -4,7 +4,7 @@ ghost use Rattle.std.specs.Prelude.{◌≡◌, ℕ, true, Some, IfOk, slice_get}
 ghost use Rattle.std.specs.List.{AllByRecursion};
 ghost use Rattle.cs_question.specs.NoInstance.{HasNoDocument};
 
-use cs_fault_words::{Profile, put_offset, put_quoted};
+use cs_fault_words::{Names, Profile, put_offset, put_quoted};
 use cs_guard::Guarded;
 use cs_package::{
     FieldMark, Inside, Kind, Literal, Package, Part, Relation, Shape, ShapeEnd, Simple,
@@ -74,15 +74,17 @@ pub(crate) fn warning_lines(alloc: Global, package: &Guarded, named: &[Named<'_>
     }
     let sources = sources_of(alloc, Profile::Wide, named)?;
     let declared = declared_in(alloc, &sources)?;
+    let names = Names::of(alloc, &declared)?;
     for warning in &warnings {
         let (name, _) = definition_at(package.package(), warning.definition);
-        if let Some(first) = declared.of(name) {
+        if let Some(first) = names.first(name) {
             put_offset(&mut lines, first.source.named, first.here().start)?;
         }
-        write!(lines, "warning: no document is an instance of {name}")?;
+        lines.push_str("warning: no document is an instance of ")?;
+        names.put(&mut lines, name)?;
         if let Some(reason) = warning.reason {
             lines.push_str(": ")?;
-            reason.put(&mut lines)?;
+            reason.put(&mut lines, &names)?;
         }
         lines.push('\n')?;
     }
@@ -126,8 +128,8 @@ impl<'a> Reason<'a> {
         }
     }
 
-    /// Puts it in words.
-    fn put(self, text: &mut String) -> Made<()> {
+    /// Puts it in words, with the names that authors wrote.
+    fn put(self, text: &mut String, names: &Names<'_, '_>) -> Made<()> {
         match self {
             Reason::Bottom => text.push_str("it asks for `_|_`"),
             Reason::Kinds => text.push_str("its operands are of different kinds"),
@@ -136,7 +138,9 @@ impl<'a> Reason<'a> {
             Reason::Lengths => text.push_str("its lists have different lengths"),
             Reason::MissingKey { key, closed } => {
                 put_quoted(text, "it requires ", key)?;
-                write!(text, ", and {closed}, which is closed, doesn't allow it")
+                text.push_str(", and ")?;
+                names.put(text, closed)?;
+                text.push_str(", which is closed, doesn't allow it")
             }
             Reason::Field { key } => put_quoted(text, "nothing may stand under its key ", key),
             Reason::Element { place } => {
@@ -145,7 +149,11 @@ impl<'a> Reason<'a> {
             Reason::Alternatives => text.push_str("none of its alternatives has an instance"),
             Reason::Together => text.push_str("none of its alternatives meets what else it asks"),
             Reason::Itself => text.push_str("each instance would need another one inside it"),
-            Reason::Through { name } => write!(text, "it refers to {name}, which has none"),
+            Reason::Through { name } => {
+                text.push_str("it refers to ")?;
+                names.put(text, name)?;
+                text.push_str(", which has none")
+            }
         }
     }
 }

@@ -41,8 +41,11 @@ struct Subcommand {
 impl Subcommand {
     /// The command as clap has it.
     fn command<'a>(self, alloc: Global) -> Result<Command<'a>, AllocError> {
-        let args = self.words.iter().map(|word| word.arg(alloc));
-        let args: Vec<Arg<'a>> = args.try_collect(alloc)?;
+        // `try_collect` would ask for the room of all of them first, and go on where that is refused.
+        let mut args: Vec<Arg<'a>> = Vec::new(alloc);
+        for word in self.words {
+            args.push(word.arg(alloc))?;
+        }
         let groups = groups_of(alloc, self.groups)?;
         let command = Command::new(alloc, self.name)
             .about(self.about)

@@ -107,7 +107,10 @@ impl<'a> Comments<'a> {
                     notes.rest = Some(Box::new(self.alloc, each)?);
                 }
             }
-            atom!() | Expr::Name { .. } | Expr::Reference { .. } => {}
+            atom!()
+            | Expr::Name { .. }
+            | Expr::Reference { .. }
+            | Expr::Wide(Wide::Selected { .. }) => {}
         }
         settle(&mut notes.properties);
         self.nodes = self.nodes.saturating_add(1);
@@ -137,6 +140,10 @@ impl<'a> Comments<'a> {
     /// declarations. Each `[string]: T` is one of `allOf`.
     #[cycle(values)]
     fn add_field(&mut self, field: &Field, to: &mut Notes) -> Made<()> {
+        // A name of a scope is none of the data.
+        if field.scoped.is_some() {
+            return Ok(());
+        }
         let label = field.label.as_str();
         let all = field.site.all.split_first();
         let (first, others) = all.unwrap_or((&field.site.at, &[]));
@@ -237,7 +244,12 @@ fn notes_in(alloc: Global, placed: &Placed, texts: &Texts) -> Made<(ByName, usiz
         let value = comments.notes_of(&definition.body)?;
         let declared = under(alloc, &mut notes, name)?;
         declared.all_of.push(value)?;
-        if let Some(text) = texts.definitions.get(name) {
+        // One that stands for a name of a scope has the comment on the declaration of that.
+        let text = match texts.definitions.get(name) {
+            Some(text) => Some(text),
+            None => texts.fields.get(&placed.place(definition.at)),
+        };
+        if let Some(text) = text {
             declared.text = Some(text.clone()?);
         }
     }

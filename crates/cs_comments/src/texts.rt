@@ -7,7 +7,7 @@ ghost use Rattle.cs_comments.specs.Views.{each_text, texts_of};
 
 use cs_grammar::{Profile, Token};
 use cs_place::{Named, Positions};
-use cs_sources::{Made, Source, end_of, is_mark};
+use cs_sources::{Made, Near, Source, end_of, is_mark};
 use std::alloc::Global;
 use std::collections::BTreeMap;
 use std::str;
@@ -133,9 +133,21 @@ pub(crate) type FieldTexts = BTreeMap<(usize, usize), String>;
 /// The texts of what sources declare.
 #[derive(Drop)]
 pub(crate) struct Texts {
-    /// Those of all declarations of a definition, by its name without `#`.
+    /// Those of all declarations of a definition that a file declares, by its name without `#`.
     pub(crate) definitions: BTreeMap<String, String>,
+    /// Also those of other names.
     pub(crate) fields: FieldTexts,
+}
+
+/// The place of the first token of a declaration of which the token at a place ends the label: before a colon, or the `let` before a `=`.
+fn declared_before(source: &Source<'_>, place: usize) -> Option<usize> {
+    let token = source.token(place);
+    if is_mark(token, ":") {
+        return Some(source.label_before(place).unwrap_or(0));
+    }
+    let place = place.checked_sub(2)?;
+    let is_bound = token.text == "=" && Near { source, place }.begins_let();
+    is_bound.then_some(place)
 }
 
 /// Adds a text behind others.
@@ -147,18 +159,18 @@ pub(crate) fn add_lines(texts: &mut String, text: &str) -> Made<()> {
 }
 
 impl Texts {
-    /// Adds the texts of a source. In one that spells a file a colon ends the label of a definition or a field and is nothing else. Of those
-    /// whose labels begin on one line only the first has a text. It reads the source once.
+    /// Adds the texts of a source. In one that spells a file a colon ends the label of a definition, a field or another name and is nothing else. Of
+    /// those whose labels begin on one line only the first has a text. It reads the source once.
     fn add(&mut self, alloc: Global, source: &Source<'_>) -> Made<()> {
         let text = str::from_utf8(source.named.text).unwrap_or("");
         let lines = lines_of(alloc, text, &source.tokens)?;
         let mut positions = Positions::new(text.as_bytes());
         let mut before = None;
-        for (place, token) in source.tokens.iter().enumerate() {
-            if !is_mark(*token, ":") {
+        for place in 0..source.tokens.len() {
+            let Some(first) = declared_before(source, place) else {
                 continue;
-            }
-            let label = source.token(source.label_before(place).unwrap_or(0));
+            };
+            let label = source.token(first);
             let line = positions.at(label.start).line - 1;
             if before.replace(line) == Some(line) {
                 continue;
@@ -167,12 +179,12 @@ impl Texts {
                 continue;
             };
             match label.text.strip_prefix('#') {
-                Some(name) => {
+                Some(name) if source.around(first) == 0 => {
                     let name = String::from_str(alloc, name)?;
                     let all = self.definitions.entry(name)?;
                     add_lines(all.or_insert(String::new(alloc)), &text)?;
                 }
-                None => drop(self.fields.insert((source.file, label.start), text)?),
+                _ => drop(self.fields.insert((source.file, label.start), text)?),
             }
         }
         Ok(())

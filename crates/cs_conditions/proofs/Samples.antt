@@ -10,7 +10,7 @@ use Rattle.cs_conditions.specs.declared.flaws.Flaw.TheVariants.{LeftOut, MayBeAb
 
 -- one file with one definition
 abbrev only : Tree → List FileTree
-only e = file None (definition (codes "P") 1 e ∷ []) ∷ []
+only e = file None (definition (codes "P") 1 e ∷ []) [] ∷ []
 
 -- a literal with declarations
 abbrev of : Declarations → Tree
@@ -21,7 +21,7 @@ abbrev own : List ℕ → FieldMark → Tree → Declarations → Declarations
 own t m e ds = declared (written_label t false) m e ds
 
 abbrev asks : List ℕ → Label
-asks t = record { text = t; quotes = false; asked = true }
+asks t = record { text = t; quotes = false; asked = true; scoped = None }
 
 abbrev holds : List ℕ → FieldMark → Tree → Declarations → Declarations
 holds t m e ds = declared (asks t) m e ds
@@ -115,8 +115,8 @@ with_default : AreChosen (only (of (own m Regular (or (wide (marked 8 (number 1)
 with_default = record { faultless = refl; chosen = refl }
 
 -- `#L: *"a" | "b"`, and `{m: #L, if m == "a" {x: int}}`
-handed_on : AreChosen (file None (definition (codes "L") 1 (or (wide (marked 4 (word (codes "a")))) (word (codes "b"))) ∷ []) ∷ only (of (own m Regular (reference (codes "L") 9) (under (asked m (equals (text (codes "a"))) true ∷ [])))))
-    (file None (definition (codes "L") 1 (or (wide (marked 4 (word (codes "a")))) (word (codes "b"))) ∷ []) ∷ only (of (own m Regular (reference (codes "L") 9) (either (holds m Optional (word (codes "a"))) (fails m Required (atom (not_text (codes "a"))))))))
+handed_on : AreChosen (file None (definition (codes "L") 1 (or (wide (marked 4 (word (codes "a")))) (word (codes "b"))) ∷ []) [] ∷ only (of (own m Regular (reference (codes "L") 9) (under (asked m (equals (text (codes "a"))) true ∷ [])))))
+    (file None (definition (codes "L") 1 (or (wide (marked 4 (word (codes "a")))) (word (codes "b"))) ∷ []) [] ∷ only (of (own m Regular (reference (codes "L") 9) (either (holds m Optional (word (codes "a"))) (fails m Required (atom (not_text (codes "a"))))))))
 handed_on = record { faultless = refl; chosen = refl }
 
 -- `{m: string, if m == 1 {x: int}}`: any text
@@ -148,7 +148,7 @@ two_conditions = record { faultless = refl; chosen = refl }
 within : AreChosen (only (of (own (codes "a") Regular bool (conditional 20 (record { label = codes "a"; at = 23; test = truth; is_met = true } ∷ []) (of (own m Regular bool (under (asked m truth true ∷ [])))) no_declaration))))
     (only (of (own (codes "a") Regular bool (embedded 20 (or
     (wide (merged 20 (holds (codes "a") Regular (atom (boolean true)) (embedded 20 (of (own m Regular bool (either (holds m Regular (atom (boolean true))) (fails m Regular (atom (boolean false)))))) no_declaration)) false))
-    (struct 20 (field (record { text = codes "a"; quotes = false; asked = true }) Regular (atom (boolean false)) no_field) false)) no_declaration))))
+    (struct 20 (field (record { text = codes "a"; quotes = false; asked = true; scoped = None }) Regular (atom (boolean false)) no_field) false)) no_declaration))))
 within = record { faultless = refl; chosen = refl }
 
 -- ---- where they are at fault
@@ -185,11 +185,11 @@ literal_beside : condition_faults (only (of (own m Regular x (under (asked m (eq
 literal_beside = refl
 
 -- `{m: #B, if m == 1 {x: int}}` with `#B: {x: int}` in the file before, which is closed already: nothing
-reference_beside : condition_faults (file None (definition (codes "B") 1 x ∷ []) ∷ only (of (own m Regular (reference (codes "B") 9) (under (asked m (equals (integer (pos 1))) true ∷ []))))) ≡ []
+reference_beside : condition_faults (file None (definition (codes "B") 1 x ∷ []) [] ∷ only (of (own m Regular (reference (codes "B") 9) (under (asked m (equals (integer (pos 1))) true ∷ []))))) ≡ []
 reference_beside = refl
 
 -- two conditionals at fault, in the second file: in order of the text
-both : condition_faults (file None (definition (codes "B") 1 x ∷ []) ∷ only (of (conditional 20 (record { label = m; at = 23; test = truth; is_met = true } ∷ []) x (own m Optional bool (under (asked m truth true ∷ [])))))) ≡ (1, MayBeAbsent 23) ∷ (1, MayBeAbsent 43) ∷ []
+both : condition_faults (file None (definition (codes "B") 1 x ∷ []) [] ∷ only (of (conditional 20 (record { label = m; at = 23; test = truth; is_met = true } ∷ []) x (own m Optional bool (under (asked m truth true ∷ [])))))) ≡ (1, MayBeAbsent 23) ∷ (1, MayBeAbsent 43) ∷ []
 both = refl
 
 -- `{a: bool, m: bool, if a {if m {x: int}}}`: the literal under the first condition has no such field

@@ -3,7 +3,7 @@ use Rattle.std.proofs.Common.{◌≡◌, ℕ, suc, Bool, true, false, ◌||◌, 
 use Rattle.std.specs.List.{AllByRecursion, list_any, flat_map}
 use Rattle.cs_grammar.specs.DefaultForms.{IsDefault, AreDefault, AreDefaultFields, IsDefaultEnd, IsDefaultFile}
 use Rattle.cs_grammar.specs.Atom.{Atom, null, boolean, integer, text, top, bottom, bound, not_integer, not_text, not_null}
-use Rattle.cs_grammar.specs.Tree.{Test, present, truth, equals, compares, Condition, Tree, atom, named, reference, conjunction, disjunction, paren, struct, list, wide, marked, merged, shut, Declarations, no_declaration, declared, embedded, conditional, Trees, none, more, Fields, no_field, field, End, closed, any, each, body, definitions, DefinitionTree, definition, FileTree, file}
+use Rattle.cs_grammar.specs.Tree.{Test, present, truth, equals, compares, Condition, Tree, atom, named, reference, conjunction, disjunction, paren, struct, list, wide, marked, merged, shut, selected, Declarations, no_declaration, declared, embedded, conditional, Trees, none, more, Fields, no_field, field, End, closed, any, each, body, definitions, DefinitionTree, definition, FileTree, file}
 use Rattle.cs_grammar.specs.View.{Seen, field_seen, embedding_seen, trees_of, fields_of, declarations_of}
 use Rattle.cs_conditions.specs.Asked.{asked}
 use Rattle.cs_conditions.specs.Choice.{when, any_list, any_map, with_named_kinds, with_kinds, one_of, of_its_kind, other_kinds, has_value, other_than_null, another, other_than, is_null, value_where, made_in, choices, choice}
@@ -141,6 +141,7 @@ module _ (known : Knowledge) where
     none_left (wide (marked o e)) = none_left e
     none_left (wide (merged o ds opened)) = declarations_left ds ds
     none_left (wide (shut o e)) = none_left e
+    none_left (wide (selected o s ls)) = refl
 
     each_left : (es : Trees) → some_has (chosen_each known es) ≡ false
     each_left none = refl
@@ -169,7 +170,7 @@ module _ (known : Knowledge) where
 
   files_left : (fs : List FileTree) → have_conditions (map (chosen_file known) fs) ≡ false
   files_left [] = refl
-  files_left (file p ds ∷ fs) = neither (file_has (chosen_file known (file p ds))) (have_conditions (map (chosen_file known) fs)) (definitions_left ds) (files_left fs)
+  files_left (file p ds ns ∷ fs) = neither (file_has (chosen_file known (file p ds ns))) (have_conditions (map (chosen_file known) fs)) (definitions_left ds) (files_left fs)
 
 pub chosen_have_none : (fs gs : List FileTree) → AreChosen fs gs → have_conditions gs ≡ false
 chosen_have_none fs gs h = ap have_conditions h.chosen ∙ files_left (known_in fs) fs
@@ -190,6 +191,7 @@ module _ (known : Knowledge) where
     stays (wide (marked o e)) h = ap (λ d. wide (marked o d)) (stays e h)
     stays (wide (merged o ds opened)) h = ap (λ es. wide (merged o es opened)) (declarations_stay ds ds h)
     stays (wide (shut o e)) h = ap (λ d. wide (shut o d)) (stays e h)
+    stays (wide (selected o s ls)) h = refl
 
     each_stays : (es : Trees) → some_has es ≡ false → chosen_each known es ≡ es
     each_stays none h = refl
@@ -217,8 +219,9 @@ module _ (known : Knowledge) where
 
   files_stay : (fs : List FileTree) → have_conditions fs ≡ false → map (chosen_file known) fs ≡ fs
   files_stay [] h = refl
-  files_stay (file p ds ∷ fs) h =
-      ap₂ (λ es gs. file p es ∷ gs) (definitions_stay ds (left_of (file_has (file p ds)) (have_conditions fs) h)) (files_stay fs (right_of (file_has (file p ds)) (have_conditions fs) h))
+  files_stay (file p ds ns ∷ fs) h =
+      ap₂ (λ es gs. file p es ns ∷ gs) (definitions_stay ds (left_of (file_has (file p ds ns)) (have_conditions fs) h))
+      (files_stay fs (right_of (file_has (file p ds ns)) (have_conditions fs) h))
 
   nothing : {X : Type 0} (xs ys : List X) → xs ≡ [] → ys ≡ [] → xs ++ ys ≡ []
   nothing xs ys p q = ap₂ (λ zs ws. zs ++ ws) p q
@@ -237,6 +240,7 @@ module _ (known : Knowledge) where
     faultless (wide (marked o e)) h = faultless e h
     faultless (wide (merged o ds opened)) h = declarations_faultless ds ds h
     faultless (wide (shut o e)) h = faultless e h
+    faultless (wide (selected o s ls)) h = refl
 
     each_faultless : (es : Trees) → some_has es ≡ false → flaws_each known es ≡ []
     each_faultless none h = refl

@@ -2,7 +2,7 @@
 use Rattle.std.proofs.Common.{ℕ, Bool, true, false, cond, List, [], ◌∷◌, ◌++◌, Option, Some, None, map, not, refl, sym, subst}
 use Rattle.std.specs.List.{AllByRecursion}
 use Rattle.cs_grammar.specs.Atom.{Atom, null, boolean, integer, text, top, bottom, bound, not_integer, not_text, not_null}
-use Rattle.cs_grammar.specs.Tree.{Label, Test, present, truth, equals, compares, Condition, Tree, atom, named, reference, conjunction, disjunction, paren, struct, list, wide, marked, merged, shut, Declarations, no_declaration, declared, embedded, conditional, Trees, none, more, Fields, no_field, field, End, closed, any, each, DefinitionTree, definition, FileTree, file}
+use Rattle.cs_grammar.specs.Tree.{Label, Test, present, truth, equals, compares, Condition, Tree, atom, named, reference, conjunction, disjunction, paren, struct, list, wide, marked, merged, shut, selected, Declarations, no_declaration, declared, embedded, conditional, Trees, none, more, Fields, no_field, field, End, closed, any, each, DefinitionTree, definition, FileTree, file}
 use Rattle.cs_grammar.specs.View.{Seen, field_seen, embedding_seen, trees_of, fields_of, declarations_of}
 use Rattle.cs_grammar.specs.Written.{Place, by_itself, of_bar, of_amp, IsWrittenAtom, IsTextOrName, IsWrittenLabel, IsWrittenTest, IsWrittenCondition, AreTwo, IsWritten, AreWrittenDeclarations, AreWritten, AreWrittenFields, IsWrittenEnd, IsWrittenDefinition, IsWrittenFile}
 use Rattle.cs_conditions.specs.Asked.{Asked, asked}
@@ -28,6 +28,7 @@ relaxed (list es end) h = h
 relaxed (wide (marked o e)) h = relaxed e h
 relaxed (wide (merged o ds opened)) h = h
 relaxed (wide (shut o e)) h = h
+relaxed (wide (selected o s ls)) h = h
 
 bars_written : (es : List Tree) → AllByRecursion (IsWritten of_bar) es → AreWritten of_bar (trees_of es)
 bars_written [] h = tt
@@ -92,7 +93,7 @@ abbrev IsWrittenSeen : Seen → Type 0
 IsWrittenSeen f = IsWrittenLabel f.label f.mark × IsWritten by_itself f.value
 
 made_written : (a : Asked) (c : Condition) (b : Bool) → IsWrittenCondition c → IsWrittenSeen (made a c b)
-made_written a c b h = (mark_written (record { text = c.label; quotes = false; asked = true }) (λ q. h.0) c.test _ a.default, value_written c.test _ a.said.kinds c.at h.1)
+made_written a c b h = (mark_written (record { text = c.label; quotes = false; asked = true; scoped = None }) (refl, λ q. h.0) c.test _ a.default, value_written c.test _ a.said.kinds c.at h.1)
 
 fields_written : (fs : List Seen) → AllByRecursion IsWrittenSeen fs → AreWrittenFields (fields_of fs)
 fields_written [] h = tt
@@ -136,6 +137,7 @@ module _ (known : Knowledge) where
     written p (wide (marked o e)) h = written p e h
     written p (wide (merged o ds opened)) h = written_declarations ds ds h
     written p (wide (shut o e)) h = written by_itself e h
+    written p (wide (selected o s ls)) h = h
 
     written_each : (p : Place) (es : Trees) → AreWritten p es → AreWritten p (chosen_each known es)
     written_each p none h = tt
@@ -162,7 +164,7 @@ module _ (known : Knowledge) where
 
   written_files : (fs : List FileTree) → AllByRecursion IsWrittenFile fs → AllByRecursion IsWrittenFile (map (chosen_file known) fs)
   written_files [] h = tt
-  written_files (file p ds ∷ fs) h = ((h.0.0, written_definitions ds h.0.1), written_files fs h.1)
+  written_files (file p ds ns ∷ fs) h = ((h.0.0, written_definitions ds h.0.1, h.0.2), written_files fs h.1)
 
 pub chosen_written : (fs gs : List FileTree) → AreChosen fs gs → AllByRecursion IsWrittenFile fs → AllByRecursion IsWrittenFile gs
 chosen_written fs gs c h = subst (AllByRecursion IsWrittenFile) (sym c.chosen) (written_files (known_in fs) fs h)

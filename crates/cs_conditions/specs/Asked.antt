@@ -3,7 +3,7 @@ use Rattle.std.specs.Prelude.{ℕ, Bool, true, false, ◌&&◌, ◌||◌, not, L
 use Rattle.std.specs.Str.{bytes_eq}
 use Rattle.cs_grammar.specs.declared.ast.FieldMark.{FieldMark}
 use Rattle.cs_grammar.specs.declared.ast.FieldMark.TheVariants.{Regular, Optional, Required, Every}
-use Rattle.cs_grammar.specs.Tree.{Label, Tree, atom, named, reference, conjunction, disjunction, paren, struct, list, wide, marked, merged, shut, Declarations, no_declaration, declared, embedded, conditional, Trees, none, more, End, closed, any, each}
+use Rattle.cs_grammar.specs.Tree.{Label, Tree, atom, named, reference, conjunction, disjunction, paren, struct, list, wide, marked, merged, shut, selected, Declarations, no_declaration, declared, embedded, conditional, Trees, none, more, End, closed, any, each}
 use Rattle.cs_conditions.specs.Defaults.{lead, default_by}
 use Rattle.cs_conditions.specs.Kinds.{all_kinds, meet, kinds}
 use Rattle.cs_conditions.specs.Known.{Knowledge}
@@ -23,6 +23,7 @@ abbrev mutual
   has_literal (wide (marked o e)) = has_literal e
   has_literal (wide (merged o ds opened)) = true
   has_literal (wide (shut o e)) = has_literal e
+  has_literal (wide (selected o s ls)) = false
 
   pub some_has_literal : Trees → Bool
   some_has_literal none = false
@@ -42,6 +43,7 @@ abbrev mutual
   is_plain (wide (marked o e)) = is_plain e
   is_plain (wide (merged o ds opened)) = false
   is_plain (wide (shut o e)) = is_plain e
+  is_plain (wide (selected o s ls)) = true
 
   pub are_plain : Trees → Bool
   are_plain none = true

@@ -229,7 +229,7 @@ mark_where t met None = mark_without t met
 -- the declaration of its field by which a condition holds, or doesn't
 abbrev pub made : Asked → Condition → Bool → Seen
 made a c holds = record {
-  label = record { text = c.label; quotes = false; asked = true };
+  label = record { text = c.label; quotes = false; asked = true; scoped = None };
   mark = mark_where c.test (beq holds c.is_met) a.default;
   value = value_where c.test (beq holds c.is_met) a.said.kinds c.at;
 }

@@ -1,10 +1,10 @@
 -- Expressions in which each literal under conditions is embedded as what it stands for.
 use Rattle.std.specs.Prelude.{map}
-use Rattle.cs_grammar.specs.Tree.{Tree, atom, named, reference, conjunction, disjunction, paren, struct, list, wide, marked, merged, shut, Declarations, no_declaration, declared, embedded, conditional, Trees, none, more, Fields, no_field, field, End, closed, any, each, DefinitionTree, definition, FileTree, file, package_name, definitions}
+use Rattle.cs_grammar.specs.Tree.{Tree, atom, named, reference, conjunction, disjunction, paren, struct, list, wide, marked, merged, shut, selected, Declarations, no_declaration, declared, embedded, conditional, Trees, none, more, Fields, no_field, field, End, closed, any, each, DefinitionTree, definition, FileTree, file, package_name, definitions, names}
 use Rattle.cs_conditions.specs.Choice.{choice}
 use Rattle.cs_conditions.specs.Known.{Knowledge}
 
--- where this is known of the definitions
+-- where this is known of the definitions; a name with selectors stays, as the other names of a file do: files come here without
 abbrev mutual
   pub chosen : Knowledge → Tree → Tree
   chosen known (atom a) = atom a
@@ -18,6 +18,7 @@ abbrev mutual
   chosen known (wide (marked o e)) = wide (marked o (chosen known e))
   chosen known (wide (merged o ds opened)) = wide (merged o (chosen_declarations known ds ds) opened)
   chosen known (wide (shut o e)) = wide (shut o (chosen known e))
+  chosen known (wide (selected o s ls)) = wide (selected o s ls)
 
   pub chosen_each : Knowledge → Trees → Trees
   chosen_each known none = none
@@ -43,4 +44,4 @@ abbrev pub chosen_definition : Knowledge → DefinitionTree → DefinitionTree
 chosen_definition known (definition s o e) = definition s o (chosen known e)
 
 abbrev pub chosen_file : Knowledge → FileTree → FileTree
-chosen_file known f = file (package_name f) (map (chosen_definition known) (definitions f))
+chosen_file known f = file (package_name f) (map (chosen_definition known) (definitions f)) (names f)

@@ -2,7 +2,7 @@
 -- (own rule, as of `cs_defaults`).
 use Rattle.std.specs.Prelude.{ℕ, zero, suc, List, [], ◌∷◌, Option, Some, None}
 use Rattle.cs_grammar.specs.Bodies.{bodies}
-use Rattle.cs_grammar.specs.Tree.{Tree, atom, named, reference, conjunction, disjunction, paren, struct, list, wide, marked, merged, shut, Trees, none, more, DefinitionTree}
+use Rattle.cs_grammar.specs.Tree.{Tree, atom, named, reference, conjunction, disjunction, paren, struct, list, wide, marked, merged, shut, selected, Trees, none, more, DefinitionTree}
 
 -- how a value comes to a default: not at all, by its own mark, or by a definition
 pub data Lead : Type 0 where
@@ -15,6 +15,7 @@ abbrev pub or_behind : Tree → Lead → Lead
 or_behind (wide (marked o e)) behind = by_mark e
 or_behind (wide (merged o ds opened)) behind = behind
 or_behind (wide (shut o e)) behind = behind
+or_behind (wide (selected o s ls)) behind = behind
 or_behind (atom a) behind = behind
 or_behind (named s o) behind = behind
 or_behind (reference s o) behind = behind
@@ -40,6 +41,7 @@ lead (list es end) = nowhere
 lead (wide (marked o e)) = nowhere
 lead (wide (merged o ds opened)) = nowhere
 lead (wide (shut o e)) = lead e
+lead (wide (selected o s ls)) = nowhere
 
 -- a definition with one body leads where that one does, and every other one nowhere
 abbrev pub lead_of : List Tree → Lead

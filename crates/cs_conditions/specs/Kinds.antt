@@ -4,7 +4,7 @@ use Rattle.std.specs.Prelude.{ℕ, zero, suc, true, false, ◌&&◌, ◌||◌, L
 use Rattle.std.specs.Str.{bytes_eq}
 use Rattle.cs_grammar.specs.Atom.{Atom, top, bottom, null, boolean, integer, text, bound, not_integer, not_text, not_null}
 use Rattle.cs_grammar.specs.Bodies.{bodies}
-use Rattle.cs_grammar.specs.Tree.{Tree, atom, named, reference, conjunction, disjunction, paren, struct, list, wide, marked, merged, shut, Trees, none, more, DefinitionTree}
+use Rattle.cs_grammar.specs.Tree.{Tree, atom, named, reference, conjunction, disjunction, paren, struct, list, wide, marked, merged, shut, selected, Trees, none, more, DefinitionTree}
 use Rattle.cs_conditions.specs.declared.kinds.Kinds.{Kinds}
 
 abbrev pub all_kinds : Kinds
@@ -108,6 +108,7 @@ abbrev mutual
   kinds known (wide (marked o e)) = kinds known e
   kinds known (wide (merged o ds opened)) = maps
   kinds known (wide (shut o e)) = kinds known e
+  kinds known (wide (selected o s ls)) = all_kinds
 
   -- those of k that each operand has
   pub kinds_of_each : (List ℕ → Kinds) → Kinds → Trees → Kinds

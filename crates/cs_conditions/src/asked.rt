@@ -15,14 +15,14 @@ use std::collections::BTreeMap;
 
 /// What a literal says of a field, but for its default.
 #[derive(Clone, Copy)]
-pub(crate) struct Said {
+pub struct Said {
     /// One label of it is a name.
-    pub(crate) is_named: bool,
-    pub(crate) is_always: bool,
+    pub is_named: bool,
+    pub is_always: bool,
     /// Those that all its values have.
-    pub(crate) kinds: Kinds,
+    pub kinds: Kinds,
     /// A struct literal is one of what a value of it admits by itself.
-    pub(crate) has_literal: bool,
+    pub has_literal: bool,
 }
 
 /// What a literal says of a field, and its default.

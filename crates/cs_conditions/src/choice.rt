@@ -40,6 +40,7 @@ impl Choosing<'_, '_> {
             label,
             quoted: false,
             asked: true,
+            scoped: None,
             mark: mark_where(&condition.test, is_met, asked.default),
             value,
             site: Site {

@@ -9,7 +9,9 @@ ghost use Rattle.cs_conditions.specs.Checks.{TellsKnown, TellsAsked, chosen_fiel
 
 use crate::asked::AskedTable;
 use crate::choice::Choosing;
-use cs_grammar::{Declaration, Definition, Expr, Field, File, ListEnd, Wide, atom};
+use cs_grammar::{
+    Declaration, Definition, Expr, Field, File, ListEnd, Wide, atom, copied_names, copied_selectors,
+};
 use std::alloc::AllocError;
 
 impl<'a> Choosing<'_, 'a> {
@@ -82,6 +84,12 @@ impl<'a> Choosing<'_, 'a> {
                 let value = Box::new(self.alloc, value)?;
                 Ok(Wide::Shut { at, value })
             }
+            Wide::Selected { at, name, labels } => {
+                let at = *at;
+                let name = name.clone()?;
+                let labels = copied_selectors(self.alloc, labels)?;
+                Ok(Wide::Selected { at, name, labels })
+            }
         }
     }
 
@@ -120,6 +128,7 @@ impl<'a> Choosing<'_, 'a> {
             label,
             quoted: field.quoted,
             asked: field.asked,
+            scoped: field.scoped,
             mark: field.mark,
             value,
             site: field.site.copy()?,
@@ -212,7 +221,7 @@ impl<'a> Choosing<'_, 'a> {
         Ok(chosen)
     }
 
-    /// The file without conditions.
+    /// The file without conditions. Its other names stay: files come here without any.
     fn chosen_file(&self, file: &'a File) -> Result<File, AllocError>
         ensures { (known : Knowledge) → TellsKnown self.now.known.now known
             → IfOk result (λ f. file_view f ≡ chosen_file known (file_view file.now)) }
@@ -222,9 +231,11 @@ impl<'a> Choosing<'_, 'a> {
             Some(name) => Some(name.clone()?),
             None => None,
         };
+        let names = copied_names(self.alloc, &file.names)?;
         Ok(File {
             package,
             definitions,
+            names,
         })
     }
 

@@ -32,7 +32,11 @@ pub(crate) fn declares(with_default: bool, label: &str, expr: &Expr) -> bool
         Expr::Wide(Wide::Merged { declarations, .. }) => {
             declarations_declare(with_default, label, declarations)
         }
-        atom!() | Expr::Name { .. } | Expr::Reference { .. } | Expr::List { .. } => false,
+        atom!()
+        | Expr::Name { .. }
+        | Expr::Reference { .. }
+        | Expr::List { .. }
+        | Expr::Wide(Wide::Selected { .. }) => false,
     }
 }
 

@@ -38,7 +38,9 @@ fn leading(expr: &Expr) -> Lead<'_>
         | Expr::And(_)
         | Expr::Struct { .. }
         | Expr::List { .. }
-        | Expr::Wide(Wide::Marked { .. } | Wide::Merged { .. }) => Lead::Nowhere,
+        | Expr::Wide(Wide::Marked { .. } | Wide::Merged { .. } | Wide::Selected { .. }) => {
+            Lead::Nowhere
+        }
     }
 }
 

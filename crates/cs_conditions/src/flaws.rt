@@ -162,7 +162,10 @@ impl<'a> Known<'a> {
                 self.check_declarations(&table, declarations)
             }
             Expr::Wide(Wide::Shut { value, .. }) => self.check(value),
-            atom!() | Expr::Name { .. } | Expr::Reference { .. } => Ok(()),
+            atom!()
+            | Expr::Name { .. }
+            | Expr::Reference { .. }
+            | Expr::Wide(Wide::Selected { .. }) => Ok(()),
         }
     }
 

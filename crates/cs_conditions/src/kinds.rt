@@ -252,7 +252,7 @@ impl<'a> KindTable<'a> {
         ensures { (known : List ℕ → Kinds) → TellsKinds self.now known → result ≡ kinds known (expr_view expr.now) }
     {
         match expr {
-            Expr::Top => all_kinds(),
+            Expr::Top | Expr::Wide(Wide::Selected { .. }) => all_kinds(),
             Expr::Bottom => no_kind(),
             Expr::Null => nulls(),
             Expr::Bool(_) => truths(),

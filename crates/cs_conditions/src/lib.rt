@@ -16,6 +16,7 @@ mod laws;
 mod plain;
 mod values;
 
+pub use asked::Said;
 pub use cs_grammar::File;
 pub use fault::ConditionFault;
 pub use files::without_conditions;

@@ -15,7 +15,11 @@ pub(crate) fn has_literal(expr: &Expr) -> bool
         Expr::And(operands) | Expr::Or(operands) => some_has_literal(operands),
         Expr::Paren(inside) => has_literal(inside),
         Expr::Wide(Wide::Marked { value, .. } | Wide::Shut { value, .. }) => has_literal(value),
-        atom!() | Expr::Name { .. } | Expr::Reference { .. } | Expr::List { .. } => false,
+        atom!()
+        | Expr::Name { .. }
+        | Expr::Reference { .. }
+        | Expr::List { .. }
+        | Expr::Wide(Wide::Selected { .. }) => false,
     }
 }
 
@@ -42,7 +46,7 @@ pub(crate) fn is_plain(expr: &Expr) -> bool
         Expr::Paren(inside) => is_plain(inside),
         Expr::List { front, end } => are_plain(front) && is_plain_end(end),
         Expr::Wide(Wide::Marked { value, .. } | Wide::Shut { value, .. }) => is_plain(value),
-        atom!() | Expr::Name { .. } => true,
+        atom!() | Expr::Name { .. } | Expr::Wide(Wide::Selected { .. }) => true,
     }
 }
 

@@ -4,10 +4,10 @@ use Rattle.std.specs.List.{AllByRecursion}
 use Rattle.cs_grammar.specs.declared.ast.FieldMark.{FieldMark}
 use Rattle.cs_grammar.specs.declared.ast.FieldMark.TheVariants.{Regular, Optional, Required, Every}
 use Rattle.cs_grammar.specs.DefaultForms.{IsDefault, AreDefault, AreDefaultFields, IsDefaultEnd, IsDefaultFile}
-use Rattle.cs_grammar.specs.Tree.{Label, written_label, Tree, atom, named, reference, conjunction, disjunction, paren, struct, list, wide, marked, merged, shut, Trees, none, more, Fields, no_field, field, End, closed, any, each, body, DefinitionTree, definition, FileTree, file}
+use Rattle.cs_grammar.specs.Tree.{Label, Tree, atom, named, reference, conjunction, disjunction, paren, struct, list, wide, marked, merged, shut, selected, Trees, none, more, Fields, no_field, field, End, closed, any, each, body, DefinitionTree, definition, FileTree, file}
 use Rattle.cs_grammar.specs.Written.{Place, by_itself, of_bar, of_amp, IsWrittenLabel, AreTwo, IsWritten, AreWritten, AreWrittenFields, IsWrittenEnd, IsWrittenDefinition, IsWrittenFile}
 use Rattle.cs_defaults.specs.Leading.{leading, has_default}
-use Rattle.cs_defaults.specs.Unmarked.{optional_if, unmarked, unmarked_each, unmarked_fields, unmarked_end, unmarked_definition, unmarked_file}
+use Rattle.cs_defaults.specs.Unmarked.{unasked, optional_if, unmarked, unmarked_each, unmarked_fields, unmarked_end, unmarked_definition, unmarked_file}
 
 module _ (has : List ℕ → Bool) where
   mutual
@@ -23,6 +23,7 @@ module _ (has : List ℕ → Bool) where
     default (wide (marked o e)) = default e
     default (wide (merged o ds opened)) = tt
     default (wide (shut o e)) = default e
+    default (wide (selected o s ls)) = tt
 
     default_each : (es : Trees) → AreDefault (unmarked_each has es)
     default_each none = tt
@@ -42,7 +43,7 @@ module _ (has : List ℕ → Bool) where
   default_definitions (definition s o e ∷ ds) = (default e, default_definitions ds)
 
   pub default_file : (f : FileTree) → IsDefaultFile (unmarked_file has f)
-  default_file (file p ds) = default_definitions ds
+  default_file (file p ds ns) = default_definitions ds
 
   -- ---- written down
 
@@ -51,15 +52,15 @@ module _ (has : List ℕ → Bool) where
   two (more e none) h = h
   two (more e (more f es)) h = h
 
-  label : (l : Label) (m : FieldMark) (b : Bool) → IsWrittenLabel l m → IsWrittenLabel (written_label l.text l.quotes) (optional_if b m)
+  label : (l : Label) (m : FieldMark) (b : Bool) → IsWrittenLabel l m → IsWrittenLabel (unasked l) (optional_if b m)
   label l Regular true h = h
   label l Optional true h = h
   label l Required true h = h
-  label l (Every o) true h = ap (λ (k : Label). written_label k.text k.quotes) h
+  label l (Every o) true h = ap unasked h
   label l Regular false h = h
   label l Optional false h = h
   label l Required false h = h
-  label l (Every o) false h = ap (λ (k : Label). written_label k.text k.quotes) h
+  label l (Every o) false h = ap unasked h
 
   mutual
     written : (p : Place) (e : Tree) → IsWritten p e → IsWritten p (unmarked has e)
@@ -74,6 +75,7 @@ module _ (has : List ℕ → Bool) where
     written p (wide (marked o e)) h = written p e h
     written p (wide (merged o ds opened)) h = tt
     written p (wide (shut o e)) h = written by_itself e h
+    written p (wide (selected o s ls)) h = tt
 
     written_each : (p : Place) (es : Trees) → AreWritten p es → AreWritten p (unmarked_each has es)
     written_each p none h = tt
@@ -93,4 +95,4 @@ module _ (has : List ℕ → Bool) where
   written_definitions (definition s o e ∷ ds) h = ((h.0.0, written by_itself e h.0.1), written_definitions ds h.1)
 
   pub written_file : (f : FileTree) → IsWrittenFile f → IsWrittenFile (unmarked_file has f)
-  written_file (file p ds) h = (h.0, written_definitions ds h.1)
+  written_file (file p ds ns) h = (h.0, written_definitions ds h.1, h.2)

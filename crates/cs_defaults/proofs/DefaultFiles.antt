@@ -5,12 +5,12 @@ use Rattle.std.specs.Str.{bytes_eq}
 use Rattle.cs_grammar.specs.declared.ast.FieldMark.{FieldMark}
 use Rattle.cs_grammar.specs.declared.ast.FieldMark.TheVariants.{Regular, Optional, Required, Every}
 use Rattle.cs_grammar.specs.DefaultForms.{IsDefault, AreDefault, AreDefaultFields, IsDefaultEnd, IsDefaultFile}
-use Rattle.cs_grammar.specs.Tree.{Label, written_label, Tree, atom, named, reference, conjunction, disjunction, paren, struct, list, wide, Trees, none, more, Fields, no_field, field, End, closed, any, each, body, defined_name, definitions, DefinitionTree, definition, FileTree, file}
+use Rattle.cs_grammar.specs.Tree.{Label, Tree, atom, named, reference, conjunction, disjunction, paren, struct, list, wide, Trees, none, more, Fields, no_field, field, End, closed, any, each, body, defined_name, definitions, DefinitionTree, definition, FileTree, file}
 use Rattle.cs_grammar.specs.Bodies.{bodies}
 use Rattle.cs_defaults.specs.Absent.{has_every, absent_labels, is_repeated, excluded, clashes, clashes_each, clashes_fields, clashes_end}
 use Rattle.cs_defaults.specs.Leading.{Leading, nowhere, by_mark, to, or_behind, first_mark, leading, leading_of, leads, most_passed, place_of, has_default}
 use Rattle.cs_defaults.specs.Marks.{is_default, misplaced, misplaced_each, misplaced_operands, misplaced_fields, misplaced_end}
-use Rattle.cs_defaults.specs.Unmarked.{optional_if, unmarked, unmarked_each, unmarked_fields, unmarked_end, unmarked_definition, unmarked_file}
+use Rattle.cs_defaults.specs.Unmarked.{unasked, optional_if, unmarked, unmarked_each, unmarked_fields, unmarked_end, unmarked_definition, unmarked_file}
 use Rattle.cs_defaults.specs.Widened.{places_from, handing_on, IsUnmarked}
 
 nothing : {X : Type 0} (xs ys : List X) → xs ≡ [] → ys ≡ [] → xs ++ ys ≡ []
@@ -131,8 +131,8 @@ none_hands_on fs h s = leads_nowhere (flat_map definitions fs) (all_bodies fs h)
 -- ---- where no definition hands a default on
 
 -- a label that authors wrote
-written : (l : Label) → l.asked ≡ false → written_label l.text l.quotes ≡ l
-written l h = ap (λ a. let k : Label = record { text = l.text; quotes = l.quotes; asked = a } in k) (sym h)
+written : (l : Label) → l.asked ≡ false → unasked l ≡ l
+written l h = ap (λ a. let k : Label = record { text = l.text; quotes = l.quotes; asked = a; scoped = l.scoped } in k) (sym h)
 
 module _ (has : List ℕ → Bool) (hands : (s : List ℕ) → has s ≡ false) where
   no_place : (l : Leading) → IsNoMark l → place_of has l ≡ []
@@ -199,7 +199,7 @@ module _ (has : List ℕ → Bool) (hands : (s : List ℕ) → has s ≡ false) 
     fields_stay : (fs : Fields) → AreDefaultFields fs → unmarked_fields has fs ≡ fs
     fields_stay no_field h = refl
     fields_stay (field l m e fs) h =
-        ap (λ b. field (written_label l.text l.quotes) (optional_if b m) (unmarked has e) (unmarked_fields has fs))
+        ap (λ b. field (unasked l) (optional_if b m) (unmarked has e) (unmarked_fields has fs))
         (no_default (leading e) (unmarked_value e h.1))
         ∙ ap (λ k. field k m (unmarked has e) (unmarked_fields has fs)) (written l h.0)
         ∙ ap₂ (λ d gs. field l m d gs) (stays e h.1) (fields_stay fs h.2)
@@ -215,7 +215,7 @@ module _ (has : List ℕ → Bool) (hands : (s : List ℕ) → has s ≡ false) 
 
   files_stay : (fs : List FileTree) → AllByRecursion IsDefaultFile fs → map (unmarked_file has) fs ≡ fs
   files_stay [] h = refl
-  files_stay (file p ds ∷ fs) h = ap₂ (λ es gs. file p es ∷ gs) (definitions_stay ds h.0) (files_stay fs h.1)
+  files_stay (file p ds ns ∷ fs) h = ap₂ (λ es gs. file p es ns ∷ gs) (definitions_stay ds h.0) (files_stay fs h.1)
 
 -- ---- files
 

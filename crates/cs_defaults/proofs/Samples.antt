@@ -10,14 +10,14 @@ use Rattle.cs_defaults.specs.Widened.{mark_faults, IsUnmarked}
 
 -- one file with one definition
 abbrev only : Tree → List FileTree
-only e = file None (definition (codes "A") 1 e ∷ []) ∷ []
+only e = file None (definition (codes "A") 1 e ∷ []) [] ∷ []
 
 abbrev label : List ℕ → Label
 label t = written_label t false
 
 -- the same where a condition asks for it
 abbrev asked : List ℕ → Label
-asked t = record { text = t; quotes = false; asked = true }
+asked t = record { text = t; quotes = false; asked = true; scoped = None }
 
 -- one field of that name, and those behind it
 abbrev with : List ℕ → FieldMark → Tree → Fields → Fields
@@ -71,11 +71,11 @@ another_is_there : IsUnmarked (only (braces (with (codes "x") Regular (or (star 
 another_is_there = record { faultless = refl; unmarked = refl }
 
 -- `#L: *"info" | "debug"`, and in the next file `#A: {level: #L}` for `#A: {level?: #L}`
-handed_on : IsUnmarked (file None (definition (codes "L") 1 (or (star 4 (word (codes "info"))) (word (codes "debug"))) ∷ []) ∷ only (braces (with (codes "level") Regular (reference (codes "L") 13) no_field))) (file None (definition (codes "L") 1 (or (word (codes "info")) (word (codes "debug"))) ∷ []) ∷ only (braces (with (codes "level") Optional (reference (codes "L") 13) no_field)))
+handed_on : IsUnmarked (file None (definition (codes "L") 1 (or (star 4 (word (codes "info"))) (word (codes "debug"))) ∷ []) [] ∷ only (braces (with (codes "level") Regular (reference (codes "L") 13) no_field))) (file None (definition (codes "L") 1 (or (word (codes "info")) (word (codes "debug"))) ∷ []) [] ∷ only (braces (with (codes "level") Optional (reference (codes "L") 13) no_field)))
 handed_on = record { faultless = refl; unmarked = refl }
 
 -- `#L: *1 | int`, `#L: int` and `#A: {level: #L}`: a definition with two bodies hands nothing on
-two_bodies : IsUnmarked (file None (definition (codes "L") 1 (or (star 4 (number 1)) int) ∷ definition (codes "L") 20 int ∷ []) ∷ only (braces (with (codes "level") Regular (reference (codes "L") 13) no_field))) (file None (definition (codes "L") 1 (or (number 1) int) ∷ definition (codes "L") 20 int ∷ []) ∷ only (braces (with (codes "level") Regular (reference (codes "L") 13) no_field)))
+two_bodies : IsUnmarked (file None (definition (codes "L") 1 (or (star 4 (number 1)) int) ∷ definition (codes "L") 20 int ∷ []) [] ∷ only (braces (with (codes "level") Regular (reference (codes "L") 13) no_field))) (file None (definition (codes "L") 1 (or (number 1) int) ∷ definition (codes "L") 20 int ∷ []) [] ∷ only (braces (with (codes "level") Regular (reference (codes "L") 13) no_field)))
 two_bodies = record { faultless = refl; unmarked = refl }
 
 -- `{x: *1 | int, x?: >3}`, where a condition asks for the second x, for `{x?: 1 | int, x?: >3}`: it excludes no default, and no label tells of conditions any more
@@ -109,7 +109,7 @@ default_beside : mark_faults (only (braces (with (codes "x") Regular (or (star 8
 default_beside = refl
 
 -- `#L: *1 | int`, and in the next file `#A: {x: #L, x?: >3}`: the reference
-reference_beside : mark_faults (file None (definition (codes "L") 1 (or (star 4 (number 1)) int) ∷ []) ∷ only (braces (with (codes "x") Regular (reference (codes "L") 9) (with (codes "x") Optional (atom (bound atoms.more (pos 3))) no_field)))) ≡ (1, 9) ∷ []
+reference_beside : mark_faults (file None (definition (codes "L") 1 (or (star 4 (number 1)) int) ∷ []) [] ∷ only (braces (with (codes "x") Regular (reference (codes "L") 9) (with (codes "x") Optional (atom (bound atoms.more (pos 3))) no_field)))) ≡ (1, 9) ∷ []
 reference_beside = refl
 
 -- `{#B, x: int}`: the literal, which has an embedding

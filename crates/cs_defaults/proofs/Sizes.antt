@@ -2,9 +2,9 @@
 use Rattle.std.proofs.Common.{◌≡◌, ℕ, ◌≤◌, ◌+◌, max, Bool, List, [], ◌∷◌, ◌++◌, map, arith}
 use Rattle.std.proofs.lemmas.List.Sums.{sum_by-cons}
 use Rattle.std.specs.List.{flat_map}
-use Rattle.cs_grammar.specs.Height.{height, height_all, height_fields, height_end, height_definitions, file_height}
+use Rattle.cs_grammar.specs.Height.{height, height_all, height_fields, height_end, height_definitions, height_names, file_height}
 use Rattle.cs_grammar.specs.Size.{nodes, nodes_all, nodes_fields, nodes_end, nodes_of_definitions, nodes_of_files}
-use Rattle.cs_grammar.specs.Tree.{Tree, atom, named, reference, conjunction, disjunction, paren, struct, list, wide, marked, merged, shut, Trees, none, more, Fields, no_field, field, End, closed, any, each, body, definitions, DefinitionTree, definition, FileTree, file}
+use Rattle.cs_grammar.specs.Tree.{Tree, atom, named, reference, conjunction, disjunction, paren, struct, list, wide, marked, merged, shut, selected, Trees, none, more, Fields, no_field, field, End, closed, any, each, body, definitions, DefinitionTree, definition, FileTree, file}
 use Rattle.cs_defaults.specs.Unmarked.{unmarked, unmarked_each, unmarked_fields, unmarked_end, unmarked_definition, unmarked_file}
 
 higher : (a b c d : ℕ) → a ≤ b → c ≤ d → max a c ≤ max b d
@@ -44,6 +44,7 @@ module _ (has : List ℕ → Bool) where
     no_higher (wide (marked o e)) = no_higher e
     no_higher (wide (merged o ds opened)) = omega arith
     no_higher (wide (shut o e)) = omega (arith, no_higher e)
+    no_higher (wide (selected o s ls)) = omega arith
 
     each_no_higher : (es : Trees) → height_all (unmarked_each has es) ≤ height_all es
     each_no_higher none = omega arith
@@ -58,12 +59,12 @@ module _ (has : List ℕ → Bool) where
     end_no_higher any = omega arith
     end_no_higher (each e) = no_higher e
 
-  definitions_no_higher : (ds : List DefinitionTree) → height_definitions (map (unmarked_definition has) ds) ≤ height_definitions ds
+  pub definitions_no_higher : (ds : List DefinitionTree) → height_definitions (map (unmarked_definition has) ds) ≤ height_definitions ds
   definitions_no_higher [] = omega arith
   definitions_no_higher (definition s o e ∷ ds) = higher _ _ _ _ (no_higher e) (definitions_no_higher ds)
 
   pub file_no_higher : (f : FileTree) → file_height (unmarked_file has f) ≤ file_height f
-  file_no_higher (file p ds) = definitions_no_higher ds
+  file_no_higher (file p ds ns) = higher _ _ (height_names ns) (height_names ns) (definitions_no_higher ds) (omega arith)
 
   -- ---- nodes: a form of the wide profile is one
 
@@ -80,6 +81,7 @@ module _ (has : List ℕ → Bool) where
     no_smaller (wide (marked o e)) = one_node (unmarked has e)
     no_smaller (wide (merged o ds opened)) = omega arith
     no_smaller (wide (shut o e)) = one_node (unmarked has e)
+    no_smaller (wide (selected o s ls)) = omega arith
 
     each_no_smaller : (es : Trees) → nodes_all es ≤ nodes_all (unmarked_each has es)
     each_no_smaller none = omega arith
@@ -104,4 +106,4 @@ module _ (has : List ℕ → Bool) where
 
   pub files_no_smaller : (fs : List FileTree) → nodes_of_files fs ≤ nodes_of_files (map (unmarked_file has) fs)
   files_no_smaller [] = omega arith
-  files_no_smaller (file p ds ∷ fs) = definitions_no_smaller ds (flat_map definitions fs) (flat_map definitions (map (unmarked_file has) fs)) (files_no_smaller fs)
+  files_no_smaller (file p ds ns ∷ fs) = definitions_no_smaller ds (flat_map definitions fs) (flat_map definitions (map (unmarked_file has) fs)) (files_no_smaller fs)

@@ -8,12 +8,12 @@ use Rattle.std.specs.List.{list_any}
 use Rattle.std.specs.Ordering.{nat_cmp}
 use Rattle.std.specs.Str.{bytes_eq}
 use Rattle.cs_grammar.specs.declared.ast.Expr.{Expr}
-use Rattle.cs_grammar.specs.Tree.{written_label, Tree, DefinitionTree, defined_name}
+use Rattle.cs_grammar.specs.Tree.{Tree, DefinitionTree, defined_name}
 use Rattle.cs_grammar.specs.Bodies.{bodies}
 use Rattle.cs_grammar.specs.View.{expr_view, Seen}
 use Rattle.cs_defaults.specs.Absent.{is_repeated}
 use Rattle.cs_defaults.specs.Leading.{Leading, nowhere, by_mark, to, leading, has_default}
-use Rattle.cs_defaults.specs.Unmarked.{optional_if, unmarked}
+use Rattle.cs_defaults.specs.Unmarked.{unasked, optional_if, unmarked}
 use Rattle.cs_defaults.specs.declared.leading.Lead as rust
 use Rattle.cs_defaults.specs.declared.leading.Lead.TheVariants as variants
 use Rattle.cs_defaults.specs.declared.leading.Handing.{Handing}
@@ -88,4 +88,4 @@ TellsRepeated m absent = (s : List ℕ) → contains_by (λ k. slice_cmp nat_cmp
 -- a field without its marks, and as authors write it
 abbrev pub unmarked_seen : (List ℕ → Bool) → Seen → Seen
 unmarked_seen has f =
-    record { label = written_label f.label.text f.label.quotes; mark = optional_if (has_default has (leading f.value)) f.mark; value = unmarked has f.value }
+    record { label = unasked f.label; mark = optional_if (has_default has (leading f.value)) f.mark; value = unmarked has f.value }

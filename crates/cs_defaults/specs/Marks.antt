@@ -2,7 +2,7 @@
 -- a definition, an element of a list or all keys, parentheses aside, one operand may be marked, and it is a literal.
 use Rattle.std.specs.Prelude.{ℕ, Bool, true, false, ◌&&◌, not, List, [], ◌∷◌, ◌++◌, if◌then◌else◌}
 use Rattle.cs_grammar.specs.Atom.{Atom, top, bottom, null, boolean, integer, text, bound, not_integer, not_text, not_null}
-use Rattle.cs_grammar.specs.Tree.{Tree, atom, named, reference, conjunction, disjunction, paren, struct, list, wide, marked, merged, shut, Trees, none, more, Fields, no_field, field, End, closed, any, each}
+use Rattle.cs_grammar.specs.Tree.{Tree, atom, named, reference, conjunction, disjunction, paren, struct, list, wide, marked, merged, shut, selected, Trees, none, more, Fields, no_field, field, End, closed, any, each}
 
 abbrev pub is_literal_atom : Atom → Bool
 is_literal_atom null = true
@@ -54,6 +54,7 @@ is_marked (list es end) = false
 is_marked (wide (marked o e)) = true
 is_marked (wide (merged o ds opened)) = false
 is_marked (wide (shut o e)) = false
+is_marked (wide (selected o s ls)) = false
 
 -- a literal that is marked
 abbrev pub is_default : Tree → Bool
@@ -68,9 +69,10 @@ is_default (list es end) = false
 is_default (wide (marked o e)) = is_literal e
 is_default (wide (merged o ds opened)) = false
 is_default (wide (shut o e)) = false
+is_default (wide (selected o s ls)) = false
 
--- where the marks at fault are, in order of the text, in an expression that is a whole value or isn't; a literal with embeddings is one of them,
--- as files come here without these
+-- where the marks at fault are, in order of the text, in an expression that is a whole value or isn't; a literal with embeddings is one of them, and
+-- so is a name with selectors, as files come here without these
 abbrev mutual
   pub misplaced : Bool → Tree → List ℕ
   misplaced whole (atom a) = []
@@ -84,6 +86,7 @@ abbrev mutual
   misplaced whole (wide (marked o e)) = o ∷ misplaced false e
   misplaced whole (wide (merged o ds opened)) = o ∷ []
   misplaced whole (wide (shut o e)) = misplaced false e
+  misplaced whole (wide (selected o s ls)) = o ∷ []
 
   pub misplaced_each : Bool → Trees → List ℕ
   misplaced_each whole none = []

@@ -3,8 +3,12 @@
 use Rattle.std.specs.Prelude.{ℕ, Bool, true, false, List, map}
 use Rattle.cs_grammar.specs.declared.ast.FieldMark.{FieldMark}
 use Rattle.cs_grammar.specs.declared.ast.FieldMark.TheVariants.{Regular, Optional, Required, Every}
-use Rattle.cs_grammar.specs.Tree.{written_label, Tree, atom, named, reference, conjunction, disjunction, paren, struct, list, wide, marked, merged, shut, bottom, Trees, none, more, Fields, no_field, field, End, closed, any, each, DefinitionTree, definition, FileTree, file, package_name, definitions}
+use Rattle.cs_grammar.specs.Tree.{Label, Tree, atom, named, reference, conjunction, disjunction, paren, struct, list, wide, marked, merged, shut, selected, bottom, Trees, none, more, Fields, no_field, field, End, closed, any, each, DefinitionTree, definition, FileTree, file, package_name, definitions, names}
 use Rattle.cs_defaults.specs.Leading.{leading, has_default}
+
+-- a label of which no condition is told
+abbrev pub unasked : Label → Label
+unasked l = record { text = l.text; quotes = l.quotes; asked = false; scoped = l.scoped }
 
 abbrev pub optional_if : Bool → FieldMark → FieldMark
 optional_if true Regular = Optional
@@ -28,6 +32,8 @@ abbrev mutual
   -- never asked for: a literal with embeddings is at fault
   unmarked has (wide (merged o ds opened)) = atom bottom
   unmarked has (wide (shut o e)) = paren (unmarked has e)
+  -- nor is a name with selectors asked for: it is at fault
+  unmarked has (wide (selected o s ls)) = atom bottom
 
   pub unmarked_each : (List ℕ → Bool) → Trees → Trees
   unmarked_each has none = none
@@ -36,7 +42,7 @@ abbrev mutual
   pub unmarked_fields : (List ℕ → Bool) → Fields → Fields
   unmarked_fields has no_field = no_field
   unmarked_fields has (field l m e fs) =
-      field (written_label l.text l.quotes) (optional_if (has_default has (leading e)) m) (unmarked has e) (unmarked_fields has fs)
+      field (unasked l) (optional_if (has_default has (leading e)) m) (unmarked has e) (unmarked_fields has fs)
 
   pub unmarked_end : (List ℕ → Bool) → End → End
   unmarked_end has closed = closed
@@ -46,5 +52,6 @@ abbrev mutual
 abbrev pub unmarked_definition : (List ℕ → Bool) → DefinitionTree → DefinitionTree
 unmarked_definition has (definition s o e) = definition s o (unmarked has e)
 
+-- its other names stay: files come here without any
 abbrev pub unmarked_file : (List ℕ → Bool) → FileTree → FileTree
-unmarked_file has f = file (package_name f) (map (unmarked_definition has) (definitions f))
+unmarked_file has f = file (package_name f) (map (unmarked_definition has) (definitions f)) (names f)

@@ -125,7 +125,7 @@ impl Clashes<'_, '_> {
             atom!()
             | Expr::Name { .. }
             | Expr::Reference { .. }
-            | Expr::Wide(Wide::Merged { .. }) => Ok(()),
+            | Expr::Wide(Wide::Merged { .. } | Wide::Selected { .. }) => Ok(()),
         }
     }
 

@@ -9,7 +9,8 @@ use std::fmt;
 pub enum DefaultFault {
     /// Memory ran out.
     OutOfMemory,
-    /// The mark at the offset is out of place, or the default there could be excluded by another declaration of its label.
+    /// The mark at the offset is out of place, or the default there could be excluded by another declaration of its label; or a literal with embeddings or
+    /// a name with selectors stands there, which files here come without.
     Mark { file: usize, offset: usize },
 }
 

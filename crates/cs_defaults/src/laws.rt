@@ -2,9 +2,9 @@
 ghost use Rattle.std.specs.Prelude.{ℕ, ◌≤◌, Bool, List, map};
 ghost use Rattle.std.specs.List.{AllByRecursion};
 ghost use Rattle.cs_grammar.specs.DefaultForms.{IsDefaultFile};
-ghost use Rattle.cs_grammar.specs.Height.{file_height};
+ghost use Rattle.cs_grammar.specs.Height.{file_height, height_definitions};
 ghost use Rattle.cs_grammar.specs.Size.{nodes_of_files};
-ghost use Rattle.cs_grammar.specs.Tree.{FileTree};
+ghost use Rattle.cs_grammar.specs.Tree.{FileTree, definitions};
 ghost use Rattle.cs_grammar.specs.Written.{IsWrittenFile};
 ghost use Rattle.cs_defaults.specs.Unmarked.{unmarked_file};
 ghost use Rattle.cs_defaults.specs.Widened.{IsUnmarked};
@@ -19,9 +19,11 @@ pub fn unmarked_files_can_be_written()
     ensures { (has : List ℕ → Bool) (f : FileTree) → IsWrittenFile f → IsWrittenFile (unmarked_file has f) }
 {}
 
-/// A law: a file without its marks is no higher than with them.
+/// A law: a file without its marks is no higher than with them, and so are its definitions alone.
 pub fn unmarked_files_are_no_higher()
-    ensures { (has : List ℕ → Bool) (f : FileTree) → file_height (unmarked_file has f) ≤ file_height f }
+    ensures files { (has : List ℕ → Bool) (f : FileTree) → file_height (unmarked_file has f) ≤ file_height f }
+    ensures definitions { (has : List ℕ → Bool) (f : FileTree)
+        → height_definitions (definitions (unmarked_file has f)) ≤ height_definitions (definitions f) }
 {}
 
 /// A law: files without their marks have no fewer nodes than with them, where a form of the wide profile counts as one.

@@ -67,7 +67,7 @@ fn is_default(expr: &Expr) -> bool
         | Expr::Paren(_)
         | Expr::Struct { .. }
         | Expr::List { .. }
-        | Expr::Wide(Wide::Merged { .. } | Wide::Shut { .. }) => false,
+        | Expr::Wide(Wide::Merged { .. } | Wide::Shut { .. } | Wide::Selected { .. }) => false,
     }
 }
 
@@ -85,7 +85,8 @@ pub(crate) fn check_marks(expr: &Expr, is_whole: bool) -> Result<(), usize>
             check_each(front, true)?;
             check_end(end)
         }
-        Expr::Wide(Wide::Marked { at, .. } | Wide::Merged { at, .. }) => Err(*at),
+        Expr::Wide(Wide::Marked { at, .. } | Wide::Merged { at, .. } | Wide::Selected { at, .. }) =>
+            Err(*at),
         Expr::Wide(Wide::Shut { value, .. }) => check_marks(value, false),
         atom!() | Expr::Name { .. } | Expr::Reference { .. } => Ok(()),
     }

@@ -7,7 +7,7 @@ ghost use Rattle.cs_defaults.specs.Unmarked.{optional_if, unmarked_each, unmarke
 ghost use Rattle.cs_defaults.specs.Checks.{TellsHanding, unmarked_seen};
 
 use crate::leading::Handing;
-use cs_grammar::{Definition, Expr, Field, FieldMark, File, ListEnd, Wide, atom};
+use cs_grammar::{Definition, Expr, Field, FieldMark, File, ListEnd, Wide, atom, copied_names};
 use std::alloc::{AllocError, Global};
 
 /// A regular declaration whose value has a default is an optional one.
@@ -72,8 +72,8 @@ impl Unmarking<'_, '_> {
     {
         match form {
             Wide::Marked { value, .. } => self.unmarked(value),
-            // Never asked for: a literal with embeddings is at fault.
-            Wide::Merged { .. } => Ok(Expr::Bottom),
+            // Never asked for: a literal with embeddings is at fault, and so is a name with selectors.
+            Wide::Merged { .. } | Wide::Selected { .. } => Ok(Expr::Bottom),
             Wide::Shut { value, .. } => {
                 let value = self.unmarked(value)?;
                 Ok(Expr::Paren(Box::new(self.alloc, value)?))
@@ -117,6 +117,7 @@ impl Unmarking<'_, '_> {
             label,
             quoted: field.quoted,
             asked: false,
+            scoped: field.scoped,
             mark,
             value,
             site: field.site.copy()?,
@@ -163,7 +164,7 @@ impl Unmarking<'_, '_> {
         Ok(unmarked)
     }
 
-    /// The file without its marks.
+    /// The file without its marks. Its other names stay: files come here without any.
     fn unmarked_file(&self, file: &File) -> Result<File, AllocError>
         ensures { (has : List ℕ → Bool) → TellsHanding self.now.handing.now has
             → IfOk result (λ f. file_view f ≡ unmarked_file has (file_view file.now)) }
@@ -173,9 +174,11 @@ impl Unmarking<'_, '_> {
             Some(name) => Some(name.clone()?),
             None => None,
         };
+        let names = copied_names(self.alloc, &file.names)?;
         Ok(File {
             package,
             definitions,
+            names,
         })
     }
     /// The files without their marks.

@@ -1,5 +1,5 @@
 -- Values that embeddings brought are joined as the others are, with one literal less inside of them.
-use Rattle.std.proofs.Common.{◌≡◌, ℕ, Bool, zero, suc, ◌<◌, ◌≤◌, true, List, length, get_or, map, ap, ◌∙◌, sym, subst, arith}
+use Rattle.std.proofs.Common.{◌≡◌, ℕ, Option, Bool, zero, suc, ◌<◌, ◌≤◌, true, List, length, get_or, map, ap, ◌∙◌, sym, subst, arith}
 use Rattle.std.specs.List.{AllByRecursion}
 use Rattle.cs_grammar.specs.Height.{height}
 use Rattle.cs_grammar.specs.Tree.{Tree, DefinitionTree}
@@ -52,15 +52,16 @@ module _ (ds : List DefinitionTree) (levels room : ℕ) (lower : suc levels ≡ 
   brought_made_one (suc m) deep nodes rest x h = h m (omega arith)
 
 -- a field that has each part as it is meant
-abbrev with_parts : List ℕ → Bool → Bool → FieldMark → Tree → Seen
-with_parts s q a m v = record { label = label_with s q a; mark = m; value = v }
+abbrev with_parts : List ℕ → Bool → Bool → Option ℕ → FieldMark → Tree → Seen
+with_parts s q a c m v = record { label = label_with s q a c; mark = m; value = v }
 
-pub same_field : (f : Seen) (d : Brought) (value : Tree → Tree) (s : List ℕ) (q a : Bool) (m : FieldMark) (v : Tree) → f ≡ with_parts s q a m v
-    → s ≡ d.label.text → q ≡ d.label.quotes → a ≡ d.label.asked → m ≡ placed d.place d.mark → v ≡ value d.value → f ≡ with_value d.place value (seen d)
-same_field f d value s q a m v is text quotes asked mark made =
+pub same_field : (f : Seen) (d : Brought) (value : Tree → Tree) (s : List ℕ) (q a : Bool) (c : Option ℕ) (m : FieldMark) (v : Tree) → f ≡ with_parts s q a c m v
+    → s ≡ d.label.text → q ≡ d.label.quotes → a ≡ d.label.asked → c ≡ d.label.scoped → m ≡ placed d.place d.mark → v ≡ value d.value → f ≡ with_value d.place value (seen d)
+same_field f d value s q a c m v is text quotes asked scoped mark made =
     let l = d.label in
-    is ∙ ap (λ x. with_parts x q a m v) text ∙ ap (λ x. with_parts l.text x a m v) quotes ∙ ap (λ x. with_parts l.text l.quotes x m v) asked
-    ∙ ap (λ x. with_parts l.text l.quotes l.asked x v) mark ∙ ap (with_parts l.text l.quotes l.asked (placed d.place d.mark)) made
+    is ∙ ap (λ x. with_parts x q a c m v) text ∙ ap (λ x. with_parts l.text x a c m v) quotes ∙ ap (λ x. with_parts l.text l.quotes x c m v) asked
+    ∙ ap (λ x. with_parts l.text l.quotes l.asked x m v) scoped ∙ ap (λ x. with_parts l.text l.quotes l.asked l.scoped x v) mark
+    ∙ ap (with_parts l.text l.quotes l.asked l.scoped (placed d.place d.mark)) made
 
 -- the value of one of the declarations embeds well
 pub value_well : (ds : List DefinitionTree) (bs : List Brought) (xs : List Gathered) (i : ℕ) (b : Gathered) → map gathered_view xs ≡ gathered ds bs → i < length xs

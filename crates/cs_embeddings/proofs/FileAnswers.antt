@@ -5,27 +5,31 @@ use Rattle.std.specs.List.{flat_map}
 use Rattle.std.specs.declared.alloc.Global.{Global}
 use Rattle.std.specs.declared.vec.Vec.{Vec}
 use Rattle.cs_grammar.specs.Height.{height_definitions, file_height}
-use Rattle.cs_grammar.specs.Tree.{FileTree, definitions}
+use Rattle.cs_grammar.specs.Tree.{DefinitionTree, FileTree, definitions}
 use Rattle.cs_grammar.specs.View.{file_view}
 use Rattle.cs_grammar.specs.declared.ast.File.{File}
 use Rattle.cs_embeddings.proofs.FileParts.{height-append}
-use Rattle.cs_embeddings.specs.Bodies.{left_in}
+use Rattle.cs_embeddings.specs.Bodies.{Left, left_in, joined_left}
 use Rattle.cs_embeddings.specs.Flaws.{Flaw, unknown, no_struct}
 use Rattle.cs_embeddings.specs.Made.{IsFlaw, IsNoRoomForFiles, MakesFiles}
 use Rattle.cs_embeddings.specs.Without.{IsJoined, IsWithin, IsRefusal, all_definitions, flaws_of_files, clashes_of_files, joined_files}
 use Rattle.cs_embeddings.specs.declared.fault.EmbeddingFault.{EmbeddingFault}
 use Rattle.cs_embeddings.specs.declared.fault.EmbeddingFault.TheVariants.{OutOfMemory, UnknownName, NoStruct, Reopened, TooHigh, TooLarge}
 
--- no file is higher than all are
-no_higher : (fs : List FileTree) (i : ℕ) (f : FileTree) → slice_get fs i ≡ Some f → file_height f ≤ height_definitions (flat_map definitions fs)
-no_higher [] i f is = cc
-no_higher (g ∷ fs) zero f is =
-    let same : g ≡ f = cc in
-    let all = height-append (definitions g) (flat_map definitions fs) in
-    subst (λ h. file_height h ≤ height_definitions (definitions g ++ flat_map definitions fs)) same (omega arith)
-no_higher (g ∷ fs) (suc i) f is =
-    let later = no_higher fs i f is in
-    let all = height-append (definitions g) (flat_map definitions fs) in omega arith
+-- no file that is made is higher than the definitions of all are
+module _ (ds : List DefinitionTree) where
+  abbrev files_of : List Left → List FileTree
+  files_of ls = map (joined_left ds) ls
+
+  no_higher : (ls : List Left) (i : ℕ) (f : FileTree) → slice_get (files_of ls) i ≡ Some f → file_height f ≤ height_definitions (flat_map definitions (files_of ls))
+  no_higher [] i f is = cc
+  no_higher (l ∷ ls) zero f is =
+      let same : joined_left ds l ≡ f = cc in
+      let here = definitions (joined_left ds l) in let all = height-append here (flat_map definitions (files_of ls)) in
+      subst (λ h. file_height h ≤ height_definitions (here ++ flat_map definitions (files_of ls))) same (omega arith)
+  no_higher (l ∷ ls) (suc i) f is =
+      let later = no_higher ls i f is in
+      let all = height-append (definitions (joined_left ds l)) (flat_map definitions (files_of ls)) in omega arith
 
 at_none : (f : Flaw) (i : ℕ) {xs : List (ℕ × Flaw)} → xs ≡ [] → slice_get xs 0 ≡ Some (i, f) → ⊥
 at_none f i none h = let k : ◌≡◌ {A = _} (slice_get {X = ℕ × Flaw} [] 0) (Some (i, f)) = subst (λ (ys : List (ℕ × Flaw)). slice_get ys 0 ≡ Some (i, f)) none h in cc
@@ -75,7 +79,7 @@ module _ (fs : List FileTree) (flawless : flaws_of_files fs ≡ []) where
     no_other OutOfMemory h = cc
     no_other (Reopened i o) h = let k : ◌≡◌ {A = _} (slice_get {X = ℕ × ℕ} [] 0) (Some (i, o)) = subst
         (λ (xs : List (ℕ × ℕ)). slice_get xs 0 ≡ Some (i, o)) apart h in cc
-    no_other (TooHigh i) h = let k = no_higher (joined_files fs) i h.0 h.1 in let low = within.low in let high = h.2 in absurd (omega arith)
+    no_other (TooHigh i) h = let k = no_higher (all_definitions fs) (left_in fs) i h.0 h.1 in let low = within.low in let high = h.2 in absurd (omega arith)
     no_other TooLarge h = let small = within.small in absurd (omega arith)
     no_other (UnknownName i o) h = absurd h
     no_other (NoStruct i o) h = absurd h

@@ -2,7 +2,7 @@
 use Rattle.std.proofs.Common.{◌≡◌, ℕ, zero, suc, ◌+◌, ◌<◌, max, true, List, [], ◌∷◌, ◌++◌, Option, Some, map, take, length, get_or, slice_get, refl, sym, ap, ap₂, ◌∙◌, subst, arith}
 use Rattle.std.proofs.lemmas.List.Sums.{sum_by-cons, sum_by-append}
 use Rattle.std.specs.List.{flat_map}
-use Rattle.cs_grammar.specs.Height.{height, height_definitions, file_height}
+use Rattle.cs_grammar.specs.Height.{height, height_definitions}
 use Rattle.cs_grammar.specs.Limits.{most_height, most_nodes}
 use Rattle.cs_grammar.specs.Tree.{Tree, DefinitionTree, body, FileTree, definitions}
 use Rattle.cs_grammar.specs.View.{definition_view, file_view}
@@ -98,6 +98,9 @@ module _ (ds : List DefinitionTree) where
   abbrev pub own_file : KeptFile → FileTree
   own_file f = joined_left ds (left_view f)
 
+  abbrev pub file_high : KeptFile → ℕ
+  file_high f = height_definitions (definitions (own_file f))
+
   abbrev pub file_large : KeptFile → ℕ
   file_large f = size_of_definitions (definitions (own_file f))
 
@@ -105,7 +108,7 @@ module _ (ds : List DefinitionTree) where
   file_clashes f = flat_map (body_clashes ds) (left_view f).bodies
 
   abbrev pub AreFiles : ℕ → ℕ → List KeptFile → List File → Type 0
-  AreFiles nodes rest xs ys = AreMade file_view own_file (λ f. file_height (own_file f)) file_large file_clashes most_height nodes rest xs ys
+  AreFiles nodes rest xs ys = AreMade file_view own_file file_high file_large file_clashes most_height nodes rest xs ys
 
   abbrev files_meant : List KeptFile → List FileTree
   files_meant xs = map (joined_left ds) (map left_view xs)
@@ -114,10 +117,10 @@ module _ (ds : List DefinitionTree) where
   files_are [] = refl
   files_are (x ∷ xs) = ap (λ fs. own_file x ∷ fs) (files_are xs)
 
-  files_high : (xs : List KeptFile) → height_definitions (flat_map definitions (files_meant xs)) ≡ highest (λ f. file_height (own_file f)) xs
+  files_high : (xs : List KeptFile) → height_definitions (flat_map definitions (files_meant xs)) ≡ highest file_high xs
   files_high [] = refl
   files_high (x ∷ xs) = height-append (definitions (own_file x)) (flat_map definitions (files_meant xs))
-      ∙ ap (λ h. max (file_height (own_file x)) h) (files_high xs)
+      ∙ ap (λ h. max (file_high x) h) (files_high xs)
 
   files_large : (xs : List KeptFile) → size_of_files (files_meant xs) ≡ total file_large xs
   files_large [] = refl
@@ -179,7 +182,7 @@ module _ (ds : List DefinitionTree) where
   -- one of the files isn't made
   module _ (xs : List KeptFile) (i : ℕ) (x : KeptFile) (l : i < length xs) (is : x ≡ get_or xs i x) (rest : ℕ) (ys : List File)
       (before : AreFiles most_nodes rest (take i xs) ys) where
-    pub files_unmade : (e : EmbeddingFault) → IsNoRoom e i most_height rest (file_height (own_file x)) (file_large x) (file_clashes x)
+    pub files_unmade : (e : EmbeddingFault) → IsNoRoom e i most_height rest (file_high x) (file_large x) (file_clashes x)
         → IsNoRoomForFiles e ds (map left_view xs)
     files_unmade OutOfMemory h = tt
     files_unmade (Reopened f o) h = subst (λ j. slice_get (clashes_from ds 0 (map left_view xs)) 0 ≡ Some (j, o)) (from_zero i ∙ sym h.0)
@@ -187,9 +190,11 @@ module _ (ds : List DefinitionTree) where
       where
         from_zero : (i : ℕ) → 0 + i ≡ i
         from_zero i = omega arith
-    files_unmade (TooHigh f) h = (own_file x, subst (λ j. slice_get (files_meant xs) j ≡ Some (own_file x)) (sym h.0) (meant_at xs i x l is), h.1)
+    files_unmade (TooHigh f) h =
+        let high = h.1 in
+        (own_file x, subst (λ j. slice_get (files_meant xs) j ≡ Some (own_file x)) (sym h.0) (meant_at xs i x l is), omega arith)
     files_unmade TooLarge h =
-        let k = none_more file_view own_file (λ f. file_height (own_file f)) file_large file_clashes most_height most_nodes xs i x l is rest ys before TooLarge
+        let k = none_more file_view own_file file_high file_large file_clashes most_height most_nodes xs i x l is rest ys before TooLarge
         i h in
         let s = files_large xs in omega arith
     files_unmade (UnknownName f o) h = absurd h

@@ -8,7 +8,7 @@ use Rattle.std.proofs.lemmas.Slice.Eq.{bytes_eq-Decides}
 use Rattle.cs_grammar.specs.declared.ast.FieldMark.{FieldMark}
 use Rattle.cs_grammar.specs.declared.ast.FieldMark.TheVariants.{Regular, Optional, Required, Every}
 use Rattle.cs_grammar.specs.Tree.{Label, Tree, atom, named, reference, conjunction, disjunction, paren, struct, list, wide, DefinitionTree}
-use Rattle.cs_grammar.specs.Written.{by_itself, IsName, IsDefinitionName, IsWritten, AreWritten, IsWrittenLabel}
+use Rattle.cs_grammar.specs.Written.{by_itself, IsName, IsDefinitionName, IsWritten, AreWritten, IsTextOrName, IsWrittenLabel}
 use Rattle.cs_embeddings.proofs.WellAlternatives.{all-append}
 use Rattle.cs_embeddings.specs.Alternatives.{Brought}
 use Rattle.cs_embeddings.specs.Embedded.{embeds_well, embed_well}
@@ -102,9 +102,9 @@ module _ (ds : List DefinitionTree) where
       subst IsName ((bytes_eq-Decides d.label.text s).0 parts.1) (by d.mark (not_first (is_every d.mark) (is_asked_or_plain d) parts.0) h.0.0)
     where
       by : (m : FieldMark) → not (is_every m) ≡ true → IsWrittenLabel d.label m → IsName d.label.text
-      by Regular k w = w bare
-      by Optional k w = w bare
-      by Required k w = w bare
+      by Regular k w = w.1 bare
+      by Optional k w = w.1 bare
+      by Required k w = w.1 bare
       by (Every o) k w = cc
 
   some_name : (s : List ℕ) (bs : List Brought) → AllByRecursion (IsOne s) bs → list_all (λ d. d.label.quotes) bs ≡ false → IsName s
@@ -116,7 +116,7 @@ module _ (ds : List DefinitionTree) where
       by true is k rest = rest k
       by false is k rest = named_label s d h.0 is
 
-  label_kept : (l : Label) (m : FieldMark) → not (is_every m) ≡ true → (l.quotes ≡ false → IsName l.text) → IsWrittenLabel l m
+  label_kept : (l : Label) (m : FieldMark) → not (is_every m) ≡ true → IsTextOrName l → IsWrittenLabel l m
   label_kept l Regular k h = h
   label_kept l Optional k h = h
   label_kept l Required k h = h
@@ -134,7 +134,7 @@ module _ (ds : List DefinitionTree) where
 
   one_written : Kept IsWrittenBrought IsStanding ds
   one_written s bs g h = (
-    label_kept (together s bs).label (mark_of bs) (no_every s bs h) (λ bare. some_name s bs h bare),
+    label_kept (together s bs).label (mark_of bs) (no_every s bs h) (refl, λ bare. some_name s bs h bare),
     inr ((and_parts (nat_le (length bs) most_gathered) (unites ds (values_of bs)) g).1, written_values s bs h),
   )
 

@@ -10,7 +10,7 @@ use Rattle.std.specs.Map.{update}
 use Rattle.std.specs.Ordering.{nat_cmp}
 use Rattle.std.specs.Result.{IfOk, OnOk}
 use Rattle.std.specs.Str.{bytes_eq}
-use Rattle.cs_grammar.specs.Tree.{Tree, atom, named, reference, conjunction, disjunction, paren, struct, list, wide, marked, merged, shut, DefinitionTree}
+use Rattle.cs_grammar.specs.Tree.{Tree, atom, named, reference, conjunction, disjunction, paren, struct, list, wide, marked, merged, shut, selected, DefinitionTree}
 use Rattle.cs_grammar.specs.Bodies.{bodies}
 use Rattle.cs_grammar.specs.View.{SeenDeclaration, field_seen, embedding_seen, conditional_seen, declaration_view, declarations_view, declarations_of}
 use Rattle.cs_grammar.specs.declared.ast.Declaration.{Declaration}
@@ -86,6 +86,7 @@ declares_step ds s inner (struct o fs b) = has_field s fs
 declares_step ds s inner (wide (merged o cs b)) = has_declaration inner s cs
 declares_step ds s inner (wide (marked o e)) = false
 declares_step ds s inner (wide (shut o e)) = false
+declares_step ds s inner (wide (selected o t ls)) = false
 declares_step ds s inner (paren e) = inner e
 declares_step ds s inner (disjunction es) = all_embedded inner es
 declares_step ds s inner (conjunction es) = some_declares inner es
@@ -113,6 +114,7 @@ module _ (ds : List DefinitionTree) where
   declares_one n s (wide (merged o cs b)) = refl
   declares_one n s (wide (marked o e)) = refl
   declares_one n s (wide (shut o e)) = refl
+  declares_one n s (wide (selected o t ls)) = refl
   declares_one n s (paren e) = refl
   declares_one n s (disjunction es) = refl
   declares_one n s (conjunction es) = refl

@@ -14,14 +14,14 @@ use Rattle.cs_embeddings.specs.Without.{IsJoined, flaws_of_files, clashes_of_fil
 
 -- one file with these definitions
 abbrev only : List DefinitionTree → List FileTree
-only ds = file None ds ∷ []
+only ds = file None ds [] ∷ []
 
 abbrev label : List ℕ → Label
 label t = written_label t false
 
 -- the same where a condition asks for it
 abbrev asked : List ℕ → Label
-asked t = record { text = t; quotes = false; asked = true }
+asked t = record { text = t; quotes = false; asked = true; scoped = None }
 
 -- one field of that name, and those behind it; and the same of declarations
 abbrev with : List ℕ → Tree → Fields → Fields

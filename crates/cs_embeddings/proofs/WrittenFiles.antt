@@ -6,7 +6,7 @@ use Rattle.std.specs.Str.{bytes_eq}
 use Rattle.cs_grammar.specs.declared.ast.FieldMark.{FieldMark}
 use Rattle.cs_grammar.specs.declared.ast.FieldMark.TheVariants.{Regular, Optional, Required, Every}
 use Rattle.cs_grammar.specs.Limits.{most_height}
-use Rattle.cs_grammar.specs.Tree.{Label, Tree, atom, named, reference, conjunction, disjunction, paren, struct, list, wide, marked, merged, shut, Declarations, no_declaration, declared, embedded, conditional, Trees, none, more, Fields, no_field, field, End, closed, any, each, DefinitionTree, definition, defined_name, body, FileTree, file}
+use Rattle.cs_grammar.specs.Tree.{Label, Tree, atom, named, reference, conjunction, disjunction, paren, struct, list, wide, marked, merged, shut, selected, Declarations, no_declaration, declared, embedded, conditional, Trees, none, more, Fields, no_field, field, End, closed, any, each, DefinitionTree, definition, defined_name, body, FileTree, file}
 use Rattle.cs_grammar.specs.Bodies.{bodies}
 use Rattle.cs_grammar.specs.Written.{Place, by_itself, of_bar, of_amp, IsWritten, AreWritten, AreWrittenFields, AreWrittenDeclarations, IsWrittenEnd, IsWrittenLabel, AreTwo, IsWrittenDefinition, IsWrittenFile}
 use Rattle.cs_embeddings.proofs.GatheredParts.{IsWrittenBrought, IsStanding, CanStand, gathered_standing, IsDefined, CanBeDefined, one_defined}
@@ -119,6 +119,7 @@ module _ (ds : List DefinitionTree) (all : AllByRecursion IsWrittenDefinition ds
       (k, tt)
   alternatives_written (suc n) p q (wide (marked o e)) h a k = tt
   alternatives_written (suc n) p q (wide (shut o e)) h a k = tt
+  alternatives_written (suc n) p q (wide (selected o s ls)) h a k = tt
   alternatives_written (suc n) p q (paren e) h a k = alternatives_written n p by_itself e h a k
   alternatives_written (suc n) p q (disjunction es) h a k = operands_written (alternatives ds n) (alternatives_written n) p of_bar es h.2 a k
   alternatives_written (suc n) p q (reference s o) h a k = definition_written (alternatives ds n) (alternatives_written n) s (referred_at p o) (bodies s ds)
@@ -193,6 +194,7 @@ module _ (ds : List DefinitionTree) (all : AllByRecursion IsWrittenDefinition ds
       written q whole fit p (list es end) h = (written_each by_itself true (λ t. refl) p es h.0, written_end p end h.1)
       written q whole fit p (wide (marked o e)) h = written q false (no_whole q) p e h
       written q whole fit p (wide (shut o e)) h = written by_itself true (λ t. refl) p e h
+      written q whole fit p (wide (selected o s ls)) h = absurd h
       written q whole fit p (wide (merged o cs b)) h = one_written q whole fit (at p o) (alternatives_of ds p cs b) (literal_written p cs b h)
 
       written_each : (q : Place) (whole : Bool) → (whole ≡ true → q ≡ by_itself) → (p : Option ℕ) (es : Trees) → AreWritten q es
@@ -236,12 +238,12 @@ module _ (ds : List DefinitionTree) (all : AllByRecursion IsWrittenDefinition ds
       → AllByRecursion (λ (l : Left). AllByRecursion (λ (b : Body). CanBeDefined ds b.declared) l.bodies) (left_behind ds before fs)
       → AllByRecursion IsWrittenFile (map (joined_left ds) (left_behind ds before fs))
   files_left_written before [] h k = tt
-  files_left_written before (file c es ∷ fs) h k =
-      ((h.0.0, bodies_left_written (bodies_behind ds (map as_declared es) before (map as_declared es)) k.0), files_left_written (before ++ map as_declared es) fs h.1 k.1)
+  files_left_written before (file c es ns ∷ fs) h k =
+      ((h.0.0, bodies_left_written (bodies_behind ds (map as_declared es) before (map as_declared es)) k.0, refl), files_left_written (before ++ map as_declared es) fs h.1 k.1)
 
 written_definitions : (fs : List FileTree) → AllByRecursion IsWrittenFile fs → AllByRecursion IsWrittenDefinition (all_definitions fs)
 written_definitions [] h = tt
-written_definitions (file c es ∷ fs) h = all-append IsWrittenDefinition es (all_definitions fs) h.0.1 (written_definitions fs h.1)
+written_definitions (file c es ns ∷ fs) h = all-append IsWrittenDefinition es (all_definitions fs) h.0.1 (written_definitions fs h.1)
 
 pub joined_written : (fs gs : List FileTree) → AllByRecursion IsWrittenFile fs → IsJoined fs gs → AllByRecursion IsWrittenFile gs
 joined_written fs gs h j =

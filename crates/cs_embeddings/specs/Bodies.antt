@@ -53,8 +53,9 @@ abbrev pub joined_body : List DefinitionTree → Body → DefinitionTree
 joined_body ds b =
     let d = b.declared in definition d.label.text (unwrap_or d.place 0) (joined_value ds (suc most_height) b.place d.value)
 
+-- a file with these definitions alone: files come here without other names
 abbrev pub joined_left : List DefinitionTree → Left → FileTree
-joined_left ds l = file l.clause (map (joined_body ds) l.bodies)
+joined_left ds l = file l.clause (map (joined_body ds) l.bodies) []
 
 -- what an embedding would open in a body
 abbrev pub body_clashes : List DefinitionTree → Body → List ℕ

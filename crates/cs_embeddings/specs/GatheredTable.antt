@@ -27,7 +27,7 @@ use Rattle.cs_embeddings.specs.declared.kept.KeptFile.{KeptFile}
 
 abbrev pub declared_view : Declared → Brought
 declared_view d =
-    record { label = record { text = d.label.now; quotes = d.quoted; asked = d.asked }; mark = d.mark; value = expr_view d.value.now; place = d.place; embedding = d.embedding }
+    record { label = record { text = d.label.now; quotes = d.quoted; asked = d.asked; scoped = d.scoped }; mark = d.mark; value = expr_view d.value.now; place = d.place; embedding = d.embedding }
 
 -- these are all declarations of the label
 pub record IsTogether (t : Together) (s : List ℕ) (bs : List Brought) : Type 0 where

@@ -4,7 +4,7 @@
 use Rattle.std.specs.Prelude.{ℕ, zero, suc, Bool, true, false, List, [], ◌∷◌, if◌then◌else◌, Option, Some, None}
 use Rattle.cs_grammar.specs.declared.ast.FieldMark.{FieldMark}
 use Rattle.cs_grammar.specs.declared.ast.FieldMark.TheVariants.{Regular, Optional, Required, Every}
-use Rattle.cs_grammar.specs.Tree.{Tree, atom, bottom, named, reference, conjunction, disjunction, paren, struct, list, wide, marked, merged, shut, Trees, none, more, Fields, no_field, field, End, closed, any, each, DefinitionTree}
+use Rattle.cs_grammar.specs.Tree.{Tree, atom, bottom, named, reference, conjunction, disjunction, paren, struct, list, wide, marked, merged, shut, selected, Trees, none, more, Fields, no_field, field, End, closed, any, each, DefinitionTree}
 use Rattle.cs_embeddings.specs.Alternatives.{Brought, Alternative, nothing, with_fields, opened_if, at, itself, alternatives_of}
 use Rattle.cs_embeddings.specs.Gathered.{gathered}
 use Rattle.cs_embeddings.specs.Held.{is_plain, holding, first_place}
@@ -73,6 +73,7 @@ module _ (ds : List DefinitionTree) (value : Option ℕ → Tree → Tree) where
     joined_with whole p (wide (merged o cs b)) = one_of whole (at p o) (alternatives_of ds p cs b)
     -- what is in a definition is closed without it
     joined_with whole p (wide (shut o e)) = paren (joined_with true p e)
+    joined_with whole p (wide (selected o s ls)) = wide (selected (at p o) s ls)
 
     pub joined_each : Bool → Option ℕ → Trees → Trees
     joined_each whole p none = none

@@ -70,9 +70,9 @@ GoesInside (Err e) file room nodes rest = (high large : ℕ) (clashes : List ℕ
 
 -- ---- fields and alternatives
 
--- a label, whether it is in quotes, and whether a condition asks for its field
-abbrev pub label_with : List ℕ → Bool → Bool → Label
-label_with s q a = record { text = s; quotes = q; asked = a }
+-- a label, whether it is in quotes, whether a condition asks for its field, and where it is declared if it is a name of a scope
+abbrev pub label_with : List ℕ → Bool → Bool → Option ℕ → Label
+label_with s q a c = record { text = s; quotes = q; asked = a; scoped = c }
 
 -- a field, with its mark as it is placed, and with another value
 abbrev pub with_value : Option ℕ → (Tree → Tree) → Seen → Seen

@@ -1,6 +1,6 @@
 -- What is closed before anything is joined to it (own rule, from CUE, definitions and closed structs), and which literals need no joining.
 use Rattle.std.specs.Prelude.{Bool, true, false, ◌&&◌, ◌||◌}
-use Rattle.cs_grammar.specs.Tree.{Tree, atom, named, reference, conjunction, disjunction, paren, struct, list, wide, marked, merged, shut, Declarations, no_declaration, declared, embedded, conditional, Trees, none, more, Fields, no_field, field, End, closed, any, each}
+use Rattle.cs_grammar.specs.Tree.{Tree, atom, named, reference, conjunction, disjunction, paren, struct, list, wide, marked, merged, shut, selected, Declarations, no_declaration, declared, embedded, conditional, Trees, none, more, Fields, no_field, field, End, closed, any, each}
 
 -- a reference and `close(..)` are shut, and what holds one; `deep` says whether the values that a literal declares are looked at too. Those of a literal that is
 -- embedded are, since what is joined beside it would open them
@@ -17,6 +17,7 @@ abbrev mutual
   is_shut deep (wide (marked o e)) = is_shut deep e
   is_shut deep (wide (merged o cs b)) = declarations_shut deep cs
   is_shut deep (wide (shut o e)) = true
+  is_shut deep (wide (selected o s ls)) = false
 
   pub some_shut : Bool → Trees → Bool
   some_shut deep none = false
@@ -52,6 +53,7 @@ abbrev mutual
   is_open (wide (marked o e)) = is_open e
   is_open (wide (merged o cs b)) = false
   is_open (wide (shut o e)) = is_open e
+  is_open (wide (selected o s ls)) = true
 
   pub are_open : Trees → Bool
   are_open none = true

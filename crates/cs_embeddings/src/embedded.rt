@@ -111,7 +111,7 @@ impl<'b, 'a> Embeddable<'b, 'a> {
             atom!()
             | Expr::Name { .. }
             | Expr::List { .. }
-            | Expr::Wide(Wide::Marked { .. } | Wide::Shut { .. }) => false,
+            | Expr::Wide(Wide::Marked { .. } | Wide::Shut { .. } | Wide::Selected { .. }) => false,
         }
     }
 
@@ -187,7 +187,10 @@ impl<'b, 'a> Embeddable<'b, 'a> {
                 self.declarations_embed_well(declarations, steps)
             }
             Expr::Wide(Wide::Shut { value, .. }) => self.embeds_well(value, steps),
-            atom!() | Expr::Name { .. } | Expr::Reference { .. } => true,
+            atom!()
+            | Expr::Name { .. }
+            | Expr::Reference { .. }
+            | Expr::Wide(Wide::Selected { .. }) => true,
         }
     }
 

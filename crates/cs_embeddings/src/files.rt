@@ -1,7 +1,7 @@
 // What files stand for without their embeddings.
 ghost use Rattle.std.specs.Prelude.{◌≡◌, true, List, [], map, IfOk, IfErr, IsOkUnless};
 ghost use Rattle.std.specs.List.{AllByRecursion, flat_map};
-ghost use Rattle.cs_grammar.specs.Height.{height, file_height};
+ghost use Rattle.cs_grammar.specs.Height.{height, height_definitions};
 ghost use Rattle.cs_grammar.specs.Limits.{most_height};
 ghost use Rattle.cs_grammar.specs.Tree.{DefinitionTree, body, definitions};
 ghost use Rattle.cs_grammar.specs.View.{definition_view, file_view};
@@ -114,7 +114,7 @@ fn joined_files<'a>(
     Ok(joined)
 }
 
-/// The file that is meant. `nodes` counts those that are left of what there may be.
+/// The file that is meant: its definitions alone, since files come here without other names. `nodes` counts those that are left of what there may be.
 fn joined_file<'a>(
     joiner: Joiner<'_, 'a>,
     file: &KeptFile<'a>,
@@ -122,7 +122,7 @@ fn joined_file<'a>(
 ) -> Result<File, EmbeddingFault>
     ensures { (ds : List DefinitionTree) → TellsTables joiner.entry.embeddable.now ds → AreWell ds → AreSound ds file.now → AreLeftWell ds (left_view file.now)
         → let meant = joined_left ds (left_view file.now) in
-        MakesPart file_view result joiner.entry.file most_height nodes.old nodes.new (file_height meant) (size_of_definitions (definitions meant)) meant
+        MakesPart file_view result joiner.entry.file most_height nodes.old nodes.new (height_definitions (definitions meant)) (size_of_definitions (definitions meant)) meant
         (flat_map (body_clashes ds) (left_view file.now).bodies) }
 {
     let definitions = joined_definitions(joiner, &file.bodies, nodes)?;
@@ -133,6 +133,7 @@ fn joined_file<'a>(
     Ok(File {
         package,
         definitions,
+        names: Vec::new(joiner.alloc),
     })
 }
 

@@ -60,7 +60,10 @@ impl<'a> Flaws<'_, '_, 'a> {
             Expr::Wide(Wide::Marked { value, .. }) => self.check(value),
             Expr::Wide(Wide::Merged { declarations, .. }) => self.check_declarations(declarations),
             Expr::Wide(Wide::Shut { value, .. }) => self.check(value),
-            atom!() | Expr::Name { .. } | Expr::Reference { .. } => Ok(()),
+            atom!()
+            | Expr::Name { .. }
+            | Expr::Reference { .. }
+            | Expr::Wide(Wide::Selected { .. }) => Ok(()),
         }
     }
 

@@ -46,6 +46,8 @@ pub(crate) struct Declared<'a> {
     pub(crate) quoted: bool,
     /// Whether a condition asks for it.
     pub(crate) asked: bool,
+    /// The offset at which it is declared, if it is a name of its literal's scope.
+    pub(crate) scoped: Option<usize>,
     pub(crate) mark: FieldMark,
     pub(crate) value: &'a Expr,
     /// The offset of the reference that brought it, or of the definition that it is.
@@ -67,6 +69,7 @@ impl<'a> Declared<'a> {
             label: brought.field.label.as_str(),
             quoted: brought.field.quoted,
             asked: brought.field.asked,
+            scoped: brought.field.scoped,
             mark: brought.field.mark,
             value: &brought.field.value,
             place: brought.place,
@@ -101,6 +104,7 @@ impl<'a> Declared<'a> {
             label: definition.name.as_str(),
             quoted: false,
             asked: false,
+            scoped: None,
             mark: FieldMark::Regular,
             value: &definition.body,
             place: Some(definition.at),
@@ -247,6 +251,16 @@ impl<'a> Gathered<'a> {
         match self {
             Gathered::One(declared) => declared.asked,
             Gathered::Several(_) => false,
+        }
+    }
+
+    /// Where it is declared, if it is a name of its literal's scope. Those that are put together are fields.
+    pub(crate) fn scoped(&self) -> Option<usize>
+        ensures { result ≡ (gathered_view self.now).label.scoped }
+    {
+        match self {
+            Gathered::One(declared) => declared.scoped,
+            Gathered::Several(_) => None,
         }
     }
 

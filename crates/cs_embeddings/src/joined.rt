@@ -27,7 +27,9 @@ use crate::found::Found;
 use crate::gathered::{Declared, Gathered, declared_of, gather};
 use crate::held::{Operand, first_place, holding, standing};
 use crate::joining::Joining;
-use cs_grammar::{Declaration, Expr, Field, FieldMark, ListEnd, Site, Wide, atom};
+use cs_grammar::{
+    Declaration, Expr, Field, FieldMark, ListEnd, Site, Wide, atom, copied_selectors,
+};
 use std::alloc::{AllocError, Global};
 
 /// Where an expression stands, and how high it may be with what it embeds.
@@ -252,6 +254,11 @@ impl<'b, 'a> Joiner<'b, 'a> {
             Wide::Shut { value, .. } => {
                 let kept = self.joined(value, self.below(room)?.is_whole(true), nodes)?;
                 Ok(Expr::Paren(Box::new(self.alloc, kept)?))
+            }
+            Wide::Selected { at, name, labels } => {
+                let (name, at) = (name.clone()?, room.place.unwrap_or(*at));
+                let labels = copied_selectors(self.alloc, labels)?;
+                self.leaf(Expr::Wide(Wide::Selected { at, name, labels }), room, nodes)
             }
         }
     }
@@ -534,6 +541,7 @@ impl<'b, 'a> Joiner<'b, 'a> {
             declaration.label(),
             declaration.is_quoted(),
             declaration.is_asked(),
+            declaration.scoped(),
             mark,
             value,
             site,
@@ -568,11 +576,12 @@ impl<'b, 'a> Joiner<'b, 'a> {
         label: &str,
         quoted: bool,
         asked: bool,
+        scoped: Option<usize>,
         mark: FieldMark,
         value: Expr,
         site: Site,
     ) -> Result<Field, AllocError>
-        ensures seen { IfOk result (λ f. field_view f ≡ record { label = Made.label_with label.now quoted asked; mark = mark; value = expr_view value }) }
+        ensures seen { IfOk result (λ f. field_view f ≡ record { label = Made.label_with label.now quoted asked scoped; mark = mark; value = expr_view value }) }
         ensures sited { IfOk result (λ f. f.site ≡ site) }
     {
         let label = String::from_str(self.alloc, label)?;
@@ -580,6 +589,7 @@ impl<'b, 'a> Joiner<'b, 'a> {
             label,
             quoted,
             asked,
+            scoped,
             mark,
             value,
             site,

@@ -115,7 +115,7 @@ impl<'a> Joining<'_, 'a> {
             atom!()
             | Expr::Name { .. }
             | Expr::List { .. }
-            | Expr::Wide(Wide::Marked { .. } | Wide::Shut { .. }) => Ok(()),
+            | Expr::Wide(Wide::Marked { .. } | Wide::Shut { .. } | Wide::Selected { .. }) => Ok(()),
         }
     }
 

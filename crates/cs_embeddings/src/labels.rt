@@ -105,7 +105,7 @@ impl<'a> Labels<'_, 'a> {
             atom!()
             | Expr::Name { .. }
             | Expr::List { .. }
-            | Expr::Wide(Wide::Marked { .. } | Wide::Shut { .. }) => Ok(()),
+            | Expr::Wide(Wide::Marked { .. } | Wide::Shut { .. } | Wide::Selected { .. }) => Ok(()),
         }
     }
 

@@ -83,7 +83,7 @@ impl Base<'_, '_> {
             | Expr::Name { .. }
             | Expr::Reference { .. }
             | Expr::List { .. }
-            | Expr::Wide(Wide::Marked { .. } | Wide::Shut { .. }) => false,
+            | Expr::Wide(Wide::Marked { .. } | Wide::Shut { .. } | Wide::Selected { .. }) => false,
         }
     }
 

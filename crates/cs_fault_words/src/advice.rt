@@ -40,7 +40,9 @@ pub fn put_advice(text: &mut String, declared: &Declared<'_, '_>, found: Found<'
         Form::EmbeddedDefinition | Form::EmbeddedStruct => put_embedded(text, said, found),
         Form::FieldReference => put_field_reference(text, said, near),
         Form::NotOpened | Form::Joined => put_not_opened(text, declared, found),
-        Form::UnknownName | Form::UnknownDefinition => put_unknown(text, declared, found),
+        Form::UnknownName | Form::UnknownDefinition | Form::UnknownHidden => {
+            put_unknown(text, declared, found)
+        }
         Form::ExcludedDefault | Form::AbsentField => put_filled(text, said, &[shown; 3]),
         Form::StrayCharacter => text.push_str(said_of_shown(found.form, shown)),
         form => put_around(text, said, shown, said_of_shown(form, shown)),

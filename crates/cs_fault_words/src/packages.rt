@@ -2,6 +2,7 @@
 // chains of references that are too long (16).
 use crate::advice::{field_with, nearest};
 use crate::lines::{put_filled, put_left, put_offset, put_tokens};
+use crate::names::Names;
 use crate::told::Told;
 use cs_grammar::Sort;
 use cs_place::{Named, position_of};
@@ -138,29 +139,31 @@ impl<'a> Told<'a> {
     }
 
     /// Tells a chain of definitions by their names, each of which refers to the next (16), at the first one, if the sources declare that.
-    pub fn tell_chain(&mut self, declared: &Declared<'_, 'a>, names: &[String]) -> Written {
-        let (Some(first), [front @ .., last]) = (first_of(declared, names), names) else {
+    pub fn tell_chain(&mut self, declared: &Declared<'_, 'a>, chain: &[String]) -> Written {
+        let names = Names::of(self.alloc(), declared)?;
+        let (Some(first), [front @ .., last]) = (first_of(&names, chain), chain) else {
             return Ok(());
         };
         self.place_at(first);
         let said = "{} references in a chain, and 64 may be: ";
         put_filled(&mut self.hint, said, &[Buffer::new().format(front.len())])?;
-        self.put_way(declared, front, MOST_IN_CHAIN)?;
-        self.put_named(declared, last.as_str())?;
+        self.put_way(&names, front, MOST_IN_CHAIN)?;
+        self.put_named(&names, last.as_str())?;
         let said = ": nest less deeply, or write one of the references as an alternative to `_|_`";
         self.hint.push_str(said)
     }
 
     /// Tells a cycle of definitions by their names, each with its place (12), at the first one, and what ends it: a field of the last one, if any.
-    pub fn tell_cycle(&mut self, declared: &Declared<'_, 'a>, names: &[String]) -> Written {
-        let (Some(first), [.., last]) = (first_of(declared, names), names) else {
+    pub fn tell_cycle(&mut self, declared: &Declared<'_, 'a>, cycle: &[String]) -> Written {
+        let names = Names::of(self.alloc(), declared)?;
+        let (Some(first), [.., last]) = (first_of(&names, cycle), cycle) else {
             return Ok(());
         };
         self.place_at(first);
-        self.put_way(declared, names, MOST_IN_CYCLE)?;
-        let first = first.here().text;
-        let field = match declared.of(last.as_str()) {
-            Some(last) => field_with(self.alloc(), last, first)?,
+        self.put_way(&names, cycle, MOST_IN_CYCLE)?;
+        let first = first.name_declared().here().text;
+        let field = match names.first(last.as_str()) {
+            Some(last) => field_with(self.alloc(), last.name_declared(), first)?,
             None => None,
         };
         let said = match field {
@@ -176,7 +179,7 @@ impl<'a> Told<'a> {
     pub fn tell_loop(&mut self, schema: Option<Named<'a>>, names: &[String]) -> Written {
         // A schema's definitions have no places in sources.
         let declared = declared_in(self.alloc(), &[])?;
-        self.put_way(&declared, names, MOST_IN_CYCLE)?;
+        self.put_way(&Names::written(&declared), names, MOST_IN_CYCLE)?;
         let first = names.first().map_or("", |first| first.as_str());
         let said =
             "`{}`: put a reference under `properties`, `additionalProperties`, `prefixItems` or `items`, or take it out";
@@ -185,22 +188,26 @@ impl<'a> Told<'a> {
     }
 
     /// Puts names of definitions, the first ones of many, with an arrow behind each.
-    fn put_way(&mut self, declared: &Declared<'_, '_>, names: &[String], most: usize) -> Written {
-        for name in names.iter().take(most) {
-            self.put_named(declared, name.as_str())?;
+    fn put_way(&mut self, names: &Names<'_, '_>, way: &[String], most: usize) -> Written {
+        for name in way.iter().take(most) {
+            self.put_named(names, name.as_str())?;
             self.hint.push_str(" -> ")?;
         }
-        put_left(&mut self.hint, "{} more -> ", names.len(), most)
+        put_left(&mut self.hint, "{} more -> ", way.len(), most)
     }
 
-    /// Puts the name of a definition, with its place where the sources declare it: the line that declares it, and of several files which.
-    fn put_named(&mut self, declared: &Declared<'_, '_>, name: &str) -> Written {
-        put_filled(&mut self.hint, "`{}`", &[name])?;
-        let Some(declaration) = declared.of(name) else {
-            return Ok(());
+    /// Puts the name of a definition as it is declared, with its place where the sources declare it: the line that declares it, and of several files which.
+    fn put_named(&mut self, names: &Names<'_, '_>, name: &str) -> Written {
+        let Some(declaration) = names.first(name) else {
+            return put_filled(&mut self.hint, "`{}`", &[name]);
         };
+        put_filled(
+            &mut self.hint,
+            "`{}`",
+            &[declaration.name_declared().here().text],
+        )?;
         let named = declaration.source.named;
-        let is_one = declared.sources.len() == 1;
+        let is_one = names.is_of_one_source();
         let (file, colon) = if is_one { ("", "") } else { (named.name, ":") };
         let line = position_of(named.text, declaration.here().start).line;
         put_line(&mut self.hint, &[" (", file, colon])?;
@@ -209,8 +216,8 @@ impl<'a> Told<'a> {
 }
 
 /// Where the first of some definitions is declared.
-fn first_of<'s, 'a>(declared: &Declared<'s, 'a>, names: &[String]) -> Option<Near<'s, 'a>> {
-    declared.of(names.first()?.as_str())
+fn first_of<'s, 'a>(names: &Names<'s, 'a>, way: &[String]) -> Option<Near<'s, 'a>> {
+    names.first(way.first()?.as_str())
 }
 
 /// The name in the package clause of a source.

@@ -2,7 +2,7 @@
 // (11).
 use crate::conditions::form_in_condition;
 use crate::forms::{Form, Found};
-use crate::syntax::form_left_out;
+use crate::syntax::{form_left_out, form_of_selected};
 use cs_grammar::{Profile, Sort, Token};
 use cs_sources::Separator::{Amp, Bar, Colon, Comma};
 use cs_sources::{Declared, Inside, MOST_AROUND, Made, Near, Part, Separator, is_mark};
@@ -23,7 +23,7 @@ const MOST_PASSED: usize = 50_000;
 const EVERY: &str = "[string]";
 
 /// The form at a token that a profile leaves out: in the wide one that of a mark at fault, of a reference to a definition whose default
-/// another declaration could exclude, or of a condition. Only memory can run out.
+/// another declaration could exclude, of a condition, or of a selector behind a name. Only memory can run out.
 pub fn form_left_out_in<'s, 'a>(
     near: Near<'s, 'a>,
     declared: &Declared<'_, 'a>,
@@ -32,8 +32,15 @@ pub fn form_left_out_in<'s, 'a>(
     if let Some(condition) = form_in_condition(near, found.form) {
         return Ok(condition);
     }
+    if let Some(selected) = form_of_selected(near) {
+        return Ok(selected);
+    }
     let form = match (near.source.profile, found.form) {
         (Profile::Wide, Form::If) => Form::IfOutside,
+        (Profile::Wide, Form::Let) => Form::LetOutside,
+        (Profile::Wide, Form::HiddenName) if near.before(1).text == "let" => Form::LetOutside,
+        // Elsewhere it is a name that a struct or a file declares.
+        (Profile::Wide, Form::HiddenName) => Form::Misplaced,
         (Profile::Wide, _) if near.here().sort == Sort::Definition => Form::ExcludedDefault,
         (Profile::Wide, Form::DefaultMark) => form_of_default(near),
         (Profile::Wide | Profile::Default, _) => return Ok(found),
@@ -116,16 +123,24 @@ fn is_of_literal(token: Token<'_>) -> bool {
 }
 
 /// The form where a struct literal has to be opened: in the wide profile also where something is embedded that can't be, at a value that an embedding
-/// would open, and beside what a definition closed. Only memory can run out.
+/// would open, beside what a definition closed, and at a name that another struct declares too. Only memory can run out.
 pub fn form_closed<'s, 'a>(near: Near<'s, 'a>, declared: &Declared<'_, 'a>) -> Made<Found<'s, 'a>> {
     let (form, shown) = match near.source.profile {
         Profile::Default => (Form::NotOpened, ""),
+        Profile::Wide if is_scope_label(near) => (Form::RedeclaredName, near.here().text),
         Profile::Wide => match flaw_at(declared, near)? {
             Some((form, about)) => (form, short(about).unwrap_or("..")),
             None => closed_around(near).unwrap_or((Form::NotOpened, "")),
         },
     };
     Ok(Found::at(near, form).showing(shown))
+}
+
+/// Whether a token is the label of a name that a struct declares and that is none of the data.
+fn is_scope_label(near: Near<'_, '_>) -> bool {
+    let is_name = matches!(near.here().sort, Sort::Definition | Sort::Hidden);
+    let is_label = near.source.ends_label(near.place.saturating_add(1));
+    is_name && is_label && near.inside() == Inside::Struct
 }
 
 /// A text of a source as it is shown, where it is short and on one line.

@@ -87,6 +87,8 @@ pub enum Form {
     For,
     /// `let x = y`.
     Let,
+    /// `[let x = y]`, `let _x = y`, in the wide profile. For programs it is the same form.
+    LetOutside,
     /// `{#A, x: int}`.
     EmbeddedDefinition,
     /// `{x: int, {y: int}}`.
@@ -97,6 +99,8 @@ pub enum Form {
     NestedDefinition,
     /// `_#A`, `_x`.
     HiddenName,
+    /// `{#A?: int}`, `{_x!: int}`, in the wide profile.
+    MarkedName,
     /// `60 * 60`, `x - 1`, `x mod 2`.
     Arithmetic,
     /// `==`, `&&`, `||`, and `<` between two values.
@@ -143,6 +147,12 @@ pub enum Form {
     UnknownName,
     /// `#A` without a declaration.
     UnknownDefinition,
+    /// `_x` without a declaration, in the wide profile, as the next two. For programs it is the same form as another name.
+    UnknownHidden,
+    /// `let x = y` where nothing names `x`.
+    UnusedLet,
+    /// `let x = y` beside another declaration of `x`.
+    BoundTwice,
     /// A name that names a field.
     FieldReference,
     /// `{x?: int, if x == 1 {..}}`, in the wide profile.
@@ -153,6 +163,8 @@ pub enum Form {
     Joined,
     /// `#B & {b: int}`: a struct literal without `...` beside what a definition closed, in the wide profile.
     ClosedOperand,
+    /// `{#K: int}` where another struct declares `#K` too and the files join structs, in the wide profile.
+    RedeclaredName,
     /// `{int, a: int}`, `{#B & {b: int}, a: int}`: something is embedded that is no struct, in the wide profile, as the next two.
     EmbeddedNoStruct,
     /// `#P: {#P, a: int}`.
@@ -214,7 +226,7 @@ type Sayings = &'static [(&'static [&'static str], &'static str)];
 
 /// What programs call each form, and what is said of it, in their order: a `{}` stands for what its place tells. A form without a row is
 /// refused by the prover.
-const FORMS: [(&str, &str); 75] = rows! {
+const FORMS: [(&str, &str); 81] = rows! {
     "byte-order-mark" => "a byte order mark: save the file as UTF-8 without it",
     "float" => "floats are left out: scale it (percent, milliseconds)",
     "number-spelling" => "`{}`: {}",
@@ -255,11 +267,13 @@ const FORMS: [(&str, &str); 75] = rows! {
     "struct-beside" => "where this isn't met `{}` may be any struct, which would open the one that its value has: give that struct a definition and name it",
     "for" => "`for`: comprehensions are left out; write the fields out, or `[string]: T`",
     "let" => "`let` is left out",
+    "let" => "`let` stands in a struct or at the top of a file, and binds a name that doesn't begin with `_`, as `let n = int & >0`",
     "embedded-definition" => "an embedded definition: write its fields out, or `{} & {{}, ...}` with `...` in `{}` too",
     "embedded-struct" => "an embedded struct: put {} into each alternative",
     "embedded-value" => "a field has to begin here: values that are embedded in a struct are left out",
     "nested-definition" => "a definition stands at the top of a file: move it there",
     "hidden-name" => "hidden fields are left out: give the value a definition and name it: `#{}`",
+    "marked-name" => "a name that begins with `#` or `_` is none of the data, so it has no mark: take the `{}` out",
     "arithmetic" => "arithmetic is left out; write the result, as 3600 for `60 * 60`",
     "comparison" => "`{}`: {}",
     "top-level-field" => "a field at the top of a file: a root is a definition",
@@ -281,11 +295,15 @@ const FORMS: [(&str, &str); 75] = rows! {
     "unknown-kind" => "`{}`: {}",
     "unknown-name" => "`{}` isn't declared",
     "unknown-definition" => "`{}` isn't declared; give the file that declares it too",
+    "unknown-name" => "`{}` isn't declared, neither in a struct around nor at the top of a file",
+    "unused-let" => "nothing names `{}`, which `let` binds: take it out, or name it",
+    "bound-twice" => "`{}`, which `let` binds, is declared beside it once more: give one of the two another name",
     "field-reference" => "`{}` is a field",
     "absent-field" => "`{}` may be absent: declare it in this struct without `?`, or ask first whether it is there, as `if {} != _|_ if {} ..`",
     "not-opened" => "this struct is joined with others: end each of them with `...`, or write all fields into one",
     "not-opened" => "`--profile wide` puts these structs together; without it end each of them with `...`, or write all fields into one",
     "closed-operand" => "a struct can't be put together with what a definition closed: embed what `&` joins in one struct, as `{{}, ..}`, or end each of them with `...`",
+    "redeclared-name" => "another struct declares `{}` too, and these files join structs, which could change what it means: give one of the two another name",
     "embedded-no-struct" => "`{}` can't be embedded: only struct literals can, alternatives of them, and definitions of these; give it a label, or write out its keys{}",
     "embedded-itself" => "`{}` embeds itself, which never ends: give it a label in its place, or write out the keys that are meant{}",
     "embedded-twice" => "embedding joins two values of `{}` that hold a struct or a reference, and one would open the other: write all of its keys in one place{}",

@@ -3,6 +3,7 @@
 use crate::conditions::form_in_condition;
 use crate::forms::{Form, Found, said_of_shown};
 use cs_grammar::{Profile, Sort, Token};
+use cs_sources::Separator::Comma;
 use cs_sources::{Inside, Near, begins_value, ends_value, follows_label, separates};
 
 /// The packages that come with CUE.
@@ -87,15 +88,50 @@ fn text_at(bytes: &[u8]) -> (Form, usize) {
     (opened, bytes.len())
 }
 
-/// The form of a name that isn't declared.
+/// The form of a name that isn't declared, or of a `let` that binds one which nothing names, or which something else declares.
 pub fn form_unknown<'s, 'a>(near: Near<'s, 'a>) -> Found<'s, 'a> {
     let name = near.here();
+    if near.begins_let() {
+        return form_of_let(near);
+    }
     let form = match name.sort {
         Sort::Definition => Form::UnknownDefinition,
+        Sort::Hidden => Form::UnknownHidden,
         _ if said_of_shown(Form::UnknownKind, name.text).is_empty() => Form::UnknownName,
         _ => Form::UnknownKind,
     };
     Found::at(near, form)
+}
+
+/// The form of a `let` at fault: another declaration of its struct or its file may have its name.
+fn form_of_let<'s, 'a>(near: Near<'s, 'a>) -> Found<'s, 'a> {
+    let name = near.name_declared().here().text;
+    let held = near.source.held(near.source.around(near.place));
+    let firsts = (0..=held.count(Comma)).filter_map(|place| held.part(Comma, place)?.first());
+    let mut others = firsts.filter(|first| first.place != near.place);
+    let is_twice = others.any(|first| {
+        let declared = first.name_declared();
+        let is_one = first.begins_let() || follows_label(declared.behind(1));
+        is_one && declared.here().text == name
+    });
+    let form = if is_twice {
+        Form::BoundTwice
+    } else {
+        Form::UnusedLet
+    };
+    Found::between(form, near, near.place.saturating_add(2)).showing(name)
+}
+
+/// The form at a name with a selector behind it; none at another token.
+pub(crate) fn form_of_selected<'s, 'a>(near: Near<'s, 'a>) -> Option<Found<'s, 'a>> {
+    let dot = near.moved(1)?;
+    let is_name = matches!(
+        near.here().sort,
+        Sort::Name | Sort::Definition | Sort::Hidden
+    );
+    let form = form_of_dot(dot).form;
+    let found = Found::between(form, near, near.place.saturating_add(3));
+    (is_name && dot.here().text == ".").then_some(found)
 }
 
 /// The form at a token that the default profile leaves out, wherever it stands.
@@ -162,6 +198,8 @@ pub fn form_out_of_place<'s, 'a>(near: Near<'s, 'a>) -> Found<'s, 'a> {
 fn after_word<'s, 'a>(near: Near<'s, 'a>) -> Option<Found<'s, 'a>> {
     let (before, here) = (near.before(1), near.here());
     if let Some(form) = form_of_clause(before.text) {
+        let is_let = matches!(form, Form::Let) && near.source.profile == Profile::Wide;
+        let form = if is_let { Form::LetOutside } else { form };
         return Some(Found::before(near, form));
     }
     let is_text = here.sort == Sort::Text;
@@ -206,7 +244,16 @@ fn form_of_declaration<'s, 'a>(near: Near<'s, 'a>) -> Found<'s, 'a> {
 /// The form inside of an expression, behind the end of a value.
 fn behind_value<'s, 'a>(near: Near<'s, 'a>) -> Found<'s, 'a> {
     let (before, here) = (near.before(1), near.here());
+    let is_name = matches!(before.sort, Sort::Definition | Sort::Hidden);
     match here.text {
+        "?" | "!" if is_name && near.source.profile == Profile::Wide => {
+            Found::at(near, Form::MarkedName)
+        }
+        // In the wide profile a call of a package is a name with a selector up to here.
+        "(" if near.before(2).text == "." => {
+            let place = near.place.saturating_sub(2);
+            form_of_dot(Near { place, ..near })
+        }
         "(" if before.text == "close" => Found::before(near, Form::Close),
         "(" if before.sort == Sort::Name => Found::before(near, Form::Call),
         "[" if before.text != "}" => Found::at(near, Form::Index),

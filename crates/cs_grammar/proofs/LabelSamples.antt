@@ -7,7 +7,7 @@ use Rattle.cs_grammar.specs.Spells.{every_label}
 use Rattle.cs_grammar.specs.Tree.{Label, Tree, atom, top, named, reference, conjunction, disjunction, paren, struct, list, wide, marked, merged, shut, no_declaration, declared, embedded, none, more, no_field, field, closed, any, each, definition, file}
 
 abbrev a : Label
-a = record { text = codes "a"; quotes = false; asked = false }
+a = record { text = codes "a"; quotes = false; asked = false; scoped = None }
 
 -- `{a: _}`, and `{[string]: _}`
 abbrev one_label : Tree
@@ -72,9 +72,9 @@ wide_every_key h = h.1.0
 -- ---- files
 
 -- no definition, and `#A: {a: _}` with `#B: _`
-files_with_labels : AllByRecursion IsLabelledFile (file None [] ∷ file None (definition (codes "A") 0 one_label ∷ definition (codes "B") 12 (atom top) ∷ []) ∷ [])
+files_with_labels : AllByRecursion IsLabelledFile (file None [] [] ∷ file None (definition (codes "A") 0 one_label ∷ definition (codes "B") 12 (atom top) ∷ []) [] ∷ [])
 files_with_labels = (tt, (((tt, tt, tt), (tt, tt)), tt))
 
 -- `#A: _` with `#B: {[string]: _}`
-file_with_every_key : ¬ IsLabelledFile (file None (definition (codes "A") 0 (atom top) ∷ definition (codes "B") 6 every_key ∷ []))
+file_with_every_key : ¬ IsLabelledFile (file None (definition (codes "A") 0 (atom top) ∷ definition (codes "B") 6 every_key ∷ []) [])
 file_with_every_key h = h.1.0.0

@@ -1,9 +1,9 @@
 -- The words that follow a spelling are a rest of those that it begins.
 use Rattle.std.proofs.Common.{ℕ, ◌≤◌, ℤ, Bool, List, ◌∷◌, length, Option, arith}
 use Rattle.cs_grammar.specs.Atom.{Atom}
-use Rattle.cs_grammar.specs.Tree.{Label, Test, Condition, Tree, Trees, Fields, Declarations, End, DefinitionTree}
+use Rattle.cs_grammar.specs.Tree.{Label, Selector, Test, Condition, Tree, Trees, Fields, Declarations, End, DefinitionTree, NameTree}
 use Rattle.cs_grammar.specs.Words.{Word, Words}
-use Rattle.cs_grammar.specs.Spells.{Comma, explicit, inserted, ClosesParen, paren_here, paren_after, ClosesList, list_here, list_after, ClosesStruct, struct_here, struct_after, SpellsNumber, positive, negative, SpellsBound, limit_is, other_number, other_text, other_null, SpellsScalar, scalar_name, scalar_number, scalar_text, SpellsTest, is_true, equal_to, unequal_to, is_absent, is_present, related, SpellsCondition, asked_is, denied_is, SpellsConditions, last_condition, next_condition, SpellsLabel, bare_label, quoted_label, SpellsMark, regular, optional, required, SpellsOpening, unopened, opened, SpellsValue, long, short, SpellsField, labelled, every_key, SpellsExpr, one_branch, disjunction_is, SpellsBars, no_bar, a_bar, SpellsBranch, unmarked, marked_is, SpellsConj, one_operand, conjunction_is, SpellsAmps, no_amp, an_amp, SpellsOperand, top_is, bottom_is, reference_is, name_is, number_is, text_is, bound_is, paren_is, struct_is, list_is, call_paren_is, shut_is, wide_struct_is, SpellsWideStruct, no_declarations, wide_dots_alone, some_declarations, SpellsDeclarations, a_field, an_embedding, a_conditional, SpellsMore, no_more, next_declaration, SpellsStruct, no_fields, dots_alone, fields, SpellsFields, no_more_fields, next_field, SpellsList, no_elements, rest_alone, elements, SpellsElements, no_more_elements, next_element, SpellsEnd, closed_is, rest_is, SpellsRest, any_is, each_is, SpellsDefinition, defined, SpellsPackage, no_clause, clause}
+use Rattle.cs_grammar.specs.Spells.{Comma, explicit, inserted, ClosesParen, paren_here, paren_after, ClosesList, list_here, list_after, ClosesStruct, struct_here, struct_after, SpellsNumber, positive, negative, SpellsBound, limit_is, other_number, other_text, other_null, SpellsScalar, scalar_name, scalar_number, scalar_text, SpellsTest, is_true, equal_to, unequal_to, is_absent, is_present, related, SpellsCondition, asked_is, denied_is, SpellsConditions, last_condition, next_condition, SpellsName, hashed, underscored, SpellsBase, name_base, field_base, SpellsSelector, by_name, by_label, by_text, SpellsSelectors, last_selector, next_selector, SpellsLabel, bare_label, quoted_label, SpellsMark, regular, optional, required, SpellsOpening, unopened, opened, SpellsValue, long, short, SpellsField, labelled, every_key, SpellsExpr, one_branch, disjunction_is, SpellsBars, no_bar, a_bar, SpellsBranch, unmarked, marked_is, SpellsConj, one_operand, conjunction_is, SpellsAmps, no_amp, an_amp, SpellsOperand, top_is, bottom_is, reference_is, name_is, number_is, text_is, bound_is, paren_is, struct_is, list_is, call_paren_is, shut_is, local_is, selected_is, wide_struct_is, SpellsWideStruct, no_declarations, wide_dots_alone, some_declarations, SpellsDeclarations, a_field, an_embedding, a_name, a_let, a_conditional, SpellsMore, no_more, next_declaration, SpellsStruct, no_fields, dots_alone, fields, SpellsFields, no_more_fields, next_field, SpellsList, no_elements, rest_alone, elements, SpellsElements, no_more_elements, next_element, SpellsEnd, closed_is, rest_is, SpellsRest, any_is, each_is, SpellsDefinition, defined, SpellsDefinitions, no_definition, next_definition, SpellsFileName, field_name, local_name, bound_name, SpellsWideFile, no_line, definition_line, name_line, SpellsPackage, no_clause, clause}
 use Rattle.cs_grammar.specs.declared.ast.FieldMark.{FieldMark}
 
 -- the last of some words, from one on
@@ -79,6 +79,23 @@ pub of_conditions : {cs : List Condition} {ts r : Words} → SpellsConditions cs
 of_conditions (last_condition e c) = behind (of_condition c)
 of_conditions (next_condition e c cs) = behind (then (of_condition c) (of_conditions cs))
 
+pub of_scope_name : {s : List ℕ} {ts r : Words} → SpellsName s ts r → IsRest r ts
+of_scope_name hashed = behind whole
+of_scope_name underscored = behind whole
+
+pub of_base : {s : List ℕ} {ts r : Words} → SpellsBase s ts r → IsRest r ts
+of_base (name_base n) = of_scope_name n
+of_base (field_base h) = behind whole
+
+pub of_selector : {l : Selector} {ts r : Words} → SpellsSelector l ts r → IsRest r ts
+of_selector (by_name o n) = behind (of_scope_name n)
+of_selector by_label = behind (behind whole)
+of_selector by_text = behind (behind whole)
+
+pub of_selectors : {ls : List Selector} {ts r : Words} → SpellsSelectors ls ts r → IsRest r ts
+of_selectors (last_selector l) = of_selector l
+of_selectors (next_selector l ls) = then (of_selector l) (of_selectors ls)
+
 mutual
   pub of_value : {e : Tree} {ts r : Words} → SpellsValue e ts r → IsRest r ts
   of_value (long e) = of_expr e
@@ -121,6 +138,8 @@ mutual
   of_operand (list_is l) = behind (of_list l)
   of_operand (call_paren_is e c) = behind (then (of_expr e) (of_paren c))
   of_operand (shut_is s e c) = behind (behind (then (of_expr e) (of_paren c)))
+  of_operand local_is = behind whole
+  of_operand (selected_is o b l) = then (of_base b) (of_selectors l)
   of_operand (wide_struct_is e s) = behind (of_wide_struct s)
 
   pub of_wide_struct : {ds : Declarations} {b : Bool} {ts r : Words} → SpellsWideStruct ds b ts r → IsRest r ts
@@ -131,6 +150,8 @@ mutual
   pub of_declarations : {ds : Declarations} {ts r : Words} → SpellsDeclarations ds ts r → IsRest r ts
   of_declarations (a_field f m) = then (of_field f) (of_more m)
   of_declarations (an_embedding o e m) = then (of_expr e) (of_more m)
+  of_declarations (a_name o n v m) = then (of_scope_name n) (behind (then (of_value v) (of_more m)))
+  of_declarations (a_let l e m) = behind (behind (behind (then (of_expr e) (of_more m))))
   of_declarations (a_conditional o c b e m) = then (of_conditions c) (then (of_expr e) (of_more m))
 
   pub of_more : {ds : Declarations} {ts r : Words} → SpellsMore ds ts r → IsRest r ts
@@ -165,6 +186,20 @@ mutual
 
 pub of_definition : {d : DefinitionTree} {ts r : Words} → SpellsDefinition d ts r → IsRest r ts
 of_definition (defined v) = behind (behind (of_value v))
+
+pub of_definitions : {ds : List DefinitionTree} {ts r : Words} → SpellsDefinitions ds ts r → IsRest r ts
+of_definitions no_definition = whole
+of_definitions (next_definition d c ds) = then (of_definition d) (then (of_comma c) (of_definitions ds))
+
+pub of_file_name : {n : NameTree} {ts r : Words} → SpellsFileName n ts r → IsRest r ts
+of_file_name (field_name p v) = behind (behind (of_value v))
+of_file_name (local_name v) = behind (behind (of_value v))
+of_file_name (bound_name l e) = behind (behind (behind (of_expr e)))
+
+pub of_wide_file : {ds : List DefinitionTree} {ns : List NameTree} {ts r : Words} → SpellsWideFile ds ns ts r → IsRest r ts
+of_wide_file no_line = whole
+of_wide_file (definition_line d c ls) = then (of_definition d) (then (of_comma c) (of_wide_file ls))
+of_wide_file (name_line n c ls) = then (of_file_name n) (then (of_comma c) (of_wide_file ls))
 
 pub of_package : {c : Option (List ℕ)} {ts r : Words} → SpellsPackage c ts r → IsRest r ts
 of_package no_clause = whole

@@ -14,7 +14,7 @@ use Rattle.cs_grammar.specs.TextParts.{TextParts, ends, plain, escape, four, eig
 use Rattle.cs_grammar.specs.Words as W
 use Rattle.cs_grammar.specs.Tree as T
 use Rattle.cs_grammar.specs.declared.ast.FieldMark.TheVariants.{Regular}
-use Rattle.cs_grammar.specs.Spells.{is_reserved, literal_of, is_null, is_package, is_string, is_close, start_at, fields_alone, literal, SpellsNumber, positive, negative}
+use Rattle.cs_grammar.specs.Spells.{is_reserved, literal_of, is_null, is_package, is_string, is_close, is_let, with_hash, start_at, fields_alone, literal, SpellsNumber, positive, negative}
 use Rattle.std.proofs.lemmas.Int.{ints}
 use Prim.Native.String.{String}
 
@@ -209,14 +209,21 @@ marks : map (λ t. word (lexeme sorts.Mark (codes t) 7)) ("{" ∷ "}" ∷ "[" �
 marks = refl
 
 -- a mark that the wide profile reads in its own way
-wide_marks : map (λ t. word (lexeme sorts.Wide (codes t) 7)) ("{" ∷ "(" ∷ "}" ∷ "{{" ∷ "*" ∷ ")" ∷ "" ∷ []) ≡ W.open_wide 7 ∷ W.open_call 7 ∷ replicate 5 (W.left_out 7)
+wide_marks : map (λ t. word (lexeme sorts.Wide (codes t) 7)) ("{" ∷ "(" ∷ "" ∷ "}" ∷ "a" ∷ "*" ∷ ")" ∷ []) ≡ W.open_wide 7 ∷ W.open_call 7 ∷ W.wide_finish 7 ∷ replicate 4 (W.left_out 7)
 wide_marks = refl
+
+wide_names : map (λ t. word (lexeme sorts.Wide (codes t) 7)) ("_a" ∷ "_#A" ∷ "__" ∷ []) ≡ map (λ t. W.local (codes t) 7) ("_a" ∷ "_#A" ∷ "__" ∷ [])
+wide_names = refl
+
+-- marks that the wide profile alone takes
+taken_marks : map (λ t. word (lexeme sorts.Mark (codes t) 7)) ("*" ∷ "==" ∷ "." ∷ "=" ∷ "+" ∷ []) ≡ W.star 7 ∷ W.equal 7 ∷ W.dot 7 ∷ W.assign 7 ∷ W.left_out 7 ∷ []
+taken_marks = refl
 
 bare_names : map (λ t. bare_name (codes t)) ("#A" ∷ "A#" ∷ "##" ∷ "" ∷ []) ≡ map codes ("A" ∷ "A#" ∷ "#" ∷ "" ∷ [])
 bare_names = refl
 
-starts : map W.start (W.name (1 ∷ []) 7 ∷ W.definition_name (1 ∷ []) 7 ∷ W.hidden 7 ∷ W.top_mark 7 ∷ W.bottom_mark 7 ∷ W.numeral 1 7 ∷ W.quoted (1 ∷ []) 7 ∷ W.open_struct 7 ∷ W.open_wide 7 ∷ W.close_struct 7 ∷ W.open_list 7 ∷ W.close_list 7 ∷ W.open_paren 7 ∷ W.open_call 7 ∷ W.close_paren 7 ∷ W.comma 7 ∷ W.nl 7 ∷ W.colon 7 ∷ W.question 7 ∷ W.bang 7 ∷ W.amp 7 ∷ W.bar 7 ∷ W.dots 7 ∷ W.relation atoms.less 7 ∷ W.unequal 7 ∷ W.minus 7 ∷ W.left_out 7 ∷ W.finish 7 ∷ [])
-    ≡ replicate 28 7
+starts : map W.start (W.name (1 ∷ []) 7 ∷ W.definition_name (1 ∷ []) 7 ∷ W.hidden 7 ∷ W.top_mark 7 ∷ W.bottom_mark 7 ∷ W.numeral 1 7 ∷ W.quoted (1 ∷ []) 7 ∷ W.open_struct 7 ∷ W.open_wide 7 ∷ W.close_struct 7 ∷ W.open_list 7 ∷ W.close_list 7 ∷ W.open_paren 7 ∷ W.open_call 7 ∷ W.close_paren 7 ∷ W.comma 7 ∷ W.nl 7 ∷ W.colon 7 ∷ W.question 7 ∷ W.bang 7 ∷ W.amp 7 ∷ W.bar 7 ∷ W.dots 7 ∷ W.relation atoms.less 7 ∷ W.unequal 7 ∷ W.minus 7 ∷ W.star 7 ∷ W.equal 7 ∷ W.local (1 ∷ []) 7 ∷ W.dot 7 ∷ W.assign 7 ∷ W.left_out 7 ∷ W.finish 7 ∷ W.wide_finish 7 ∷ [])
+    ≡ replicate 34 7
 starts = refl
 
 first_start : map start_at ([] ∷ (W.comma 7 ∷ W.finish 8 ∷ []) ∷ []) ≡ 0 ∷ 7 ∷ []
@@ -239,6 +246,13 @@ package_names = refl
 strings : parts (λ t. is_string (codes t)) ("string" ∷ []) ("strin" ∷ "strings" ∷ "String" ∷ "int" ∷ "" ∷ []) ≡ true
 strings = refl
 
+lets : parts (λ t. is_let (codes t)) ("let" ∷ []) ("le" ∷ "lets" ∷ "Let" ∷ "" ∷ []) ≡ true
+lets = refl
+
+-- as it is written
+with_hashes : map (λ t. with_hash (bare_name (codes t))) ("#A" ∷ "#_" ∷ []) ≡ map codes ("#A" ∷ "#_" ∷ [])
+with_hashes = refl
+
 closes : parts (λ t. is_close (codes t)) ("close" ∷ []) ("clos" ∷ "closes" ∷ "Close" ∷ "closed" ∷ "" ∷ []) ≡ true
 closes = refl
 
@@ -246,10 +260,10 @@ closes = refl
 
 -- `_`, with a label and with another
 abbrev labelled_by : List ℕ → T.Declarations → T.Declarations
-labelled_by t ds = T.declared (record { text = t; quotes = false; asked = false }) Regular (T.atom T.top) ds
+labelled_by t ds = T.declared (record { text = t; quotes = false; asked = false; scoped = None }) Regular (T.atom T.top) ds
 
 abbrev field_by : List ℕ → T.Fields → T.Fields
-field_by t fs = T.field (record { text = t; quotes = false; asked = false }) Regular (T.atom T.top) fs
+field_by t fs = T.field (record { text = t; quotes = false; asked = false; scoped = None }) Regular (T.atom T.top) fs
 
 -- `_` that is embedded
 abbrev embedded_top : T.Declarations → T.Declarations

@@ -7,7 +7,7 @@ use Rattle.cs_grammar.specs.Height.{height, file_height}
 use Rattle.cs_grammar.specs.Limits.{most_height, most_definitions, most_nodes}
 use Rattle.cs_grammar.specs.Size.{nodes, nodes_of_files}
 use Rattle.cs_grammar.specs.Tree as T
-use Rattle.cs_grammar.specs.Tree.{Label, Tree, Trees, Fields, End, DefinitionTree, file, definition}
+use Rattle.cs_grammar.specs.Tree.{Label, Selector, Tree, Trees, Fields, End, DefinitionTree, NameTree, file, definition}
 
 limits : most_height ∷ most_definitions ∷ most_nodes ∷ [] ≡ 28 ∷ 1000 ∷ 50000 ∷ []
 limits = refl
@@ -22,7 +22,7 @@ list_of [] = T.none
 list_of (e ∷ es) = T.more e (list_of es)
 
 abbrev a : Label
-a = record { text = codes "a"; quotes = false; asked = false }
+a = record { text = codes "a"; quotes = false; asked = false; scoped = None }
 
 abbrev fields_of : List Tree → Fields
 fields_of [] = T.no_field
@@ -52,8 +52,17 @@ star e = T.wide (T.marked 4 e)
 abbrev merged : Tree → Tree → Tree → Tree
 merged d e f = T.wide (T.merged 4 (T.embedded 5 d (T.declared a Regular e (T.embedded 9 f T.no_declaration))) false)
 
+abbrev by_label : List ℕ → Bool → Selector
+by_label s quotes = record { text = s; quotes = quotes; at = 7 }
+
+abbrev selected : List ℕ → List Selector → Tree
+selected s ls = T.wide (T.selected 4 s ls)
+
 abbrev body : Tree → DefinitionTree
 body e = definition (codes "A") 0 e
+
+abbrev value : Tree → NameTree
+value e = record { name = codes "a"; is_bound = false; at = 0; value = e }
 
 -- ---- heights
 
@@ -88,8 +97,12 @@ embeddings = refl
 calls : map (λ e. height (T.wide (T.shut 4 e))) (one ∷ kept 1 one ∷ []) ≡ 2 ∷ 3 ∷ []
 calls = refl
 
--- a file without definitions, and one whose second body is the highest
-files : map file_height (file None [] ∷ file None (body one ∷ body (kept 2 one) ∷ body one ∷ []) ∷ []) ≡ 0 ∷ 3 ∷ []
+-- `a.b`, and `(_a.b."c")`
+selectors : map height (selected (codes "a") (by_label (codes "b") false ∷ []) ∷ kept 1 (selected (codes "_a") (by_label (codes "b") false ∷ by_label (codes "c") true ∷ [])) ∷ []) ≡ 1 ∷ 2 ∷ []
+selectors = refl
+
+-- a file without definitions, one whose second body is the highest, and others whose other names are higher or lower
+files : map file_height (file None [] [] ∷ file None (body one ∷ body (kept 2 one) ∷ body one ∷ []) [] ∷ file None (body one ∷ []) (value one ∷ value (kept 3 one) ∷ []) ∷ file None (body (kept 1 one) ∷ []) (value one ∷ []) ∷ file None [] (value one ∷ []) ∷ []) ≡ 0 ∷ 3 ∷ 4 ∷ 2 ∷ 1 ∷ []
 files = refl
 
 at_the_limit : map (λ n. height (kept n one)) (27 ∷ 28 ∷ []) ≡ 28 ∷ 29 ∷ []
@@ -113,5 +126,5 @@ nodes_of_wide : map nodes (star (braces (one ∷ []) false) ∷ merged one one o
 nodes_of_wide = refl
 
 -- those of all definitions of all files
-nodes_of_all : nodes_of_files (file None (body one ∷ body (kept 2 one) ∷ []) ∷ file None [] ∷ file None (body (braces (one ∷ []) false) ∷ []) ∷ []) ≡ 4
+nodes_of_all : nodes_of_files (file None (body one ∷ body (kept 2 one) ∷ []) [] ∷ file None [] [] ∷ file None (body (braces (one ∷ []) false) ∷ []) [] ∷ []) ≡ 4
 nodes_of_all = refl

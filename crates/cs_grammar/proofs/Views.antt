@@ -1,7 +1,7 @@
 -- Expressions, fields and words as the grammar sees them, form by form.
 use Rattle.std.proofs.Common.{◌≡◌, ℕ, Bool, List, map, refl, ap, rules, string_bytes, Box, Global, String, Vec}
 use Rattle.cs_grammar.specs.Tree as T
-use Rattle.cs_grammar.specs.View.{expr_view, exprs_view, fields_view, field_view, end_view, wide_view, declaration_view, declarations_view, field_seen, embedding_seen, conditional_seen, condition_view}
+use Rattle.cs_grammar.specs.View.{expr_view, exprs_view, fields_view, field_view, end_view, wide_view, declaration_view, declarations_view, field_seen, embedding_seen, conditional_seen, condition_view, selector_view}
 use Rattle.cs_grammar.specs.TokenWords.{word_of}
 use Rattle.cs_grammar.specs.Words.{start}
 use Rattle.cs_grammar.specs.declared.ast.Expr as Exprs
@@ -10,6 +10,7 @@ use Rattle.cs_grammar.specs.declared.ast.Field.{Field}
 use Rattle.cs_grammar.specs.declared.ast.Wide as Wides
 use Rattle.cs_grammar.specs.declared.ast.Declaration as Declarations
 use Rattle.cs_grammar.specs.declared.ast.Condition.{Condition}
+use Rattle.cs_grammar.specs.declared.ast.Selector.{Selector}
 use Rattle.cs_grammar.specs.declared.ast.ListEnd as Ends
 use Rattle.cs_grammar.specs.declared.ast.ListEnd.{ListEnd}
 use Rattle.cs_grammar.specs.declared.kind.Kind.{Kind}
@@ -57,6 +58,9 @@ view-conditional at cs e = search (rules, Exprs.the_lemmas)
 pub view-Shut : (at : ℕ) (b : Box Expr Global) → wide_view (Wides.Shut at b) ≡ T.shut at (expr_view b.value)
 view-Shut at b = search (rules, Exprs.the_lemmas)
 
+pub view-Selected : (at : ℕ) (s : String Global) (v : Vec Selector Global) → wide_view (Wides.Selected at s v) ≡ T.selected at (string_bytes s) (map selector_view v.items)
+view-Selected at s v = search (rules, Exprs.the_lemmas)
+
 pub view-Marked : (at : ℕ) (b : Box Expr Global) → wide_view (Wides.Marked at b) ≡ T.marked at (expr_view b.value)
 view-Marked at b = search (rules, Exprs.the_lemmas)
 
@@ -76,7 +80,7 @@ view-Each b = search (rules, Exprs.the_lemmas)
 pub view-value : (f : Field) → (field_view f).value ≡ expr_view f.value
 view-value f = search (rules, Exprs.the_lemmas)
 
-pub view-label : (f : Field) → (field_view f).label ≡ record { text = string_bytes f.label; quotes = f.quoted; asked = f.asked }
+pub view-label : (f : Field) → (field_view f).label ≡ record { text = string_bytes f.label; quotes = f.quoted; asked = f.asked; scoped = f.scoped }
 view-label f = search (rules, Exprs.the_lemmas)
 
 pub view-mark : (f : Field) → (field_view f).mark ≡ f.mark

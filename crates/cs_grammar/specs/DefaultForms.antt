@@ -1,4 +1,5 @@
--- Files in which no form of the wide profile stands, at any depth. The sources of the default profile spell such.
+-- Files in whose definitions no form of the wide profile stands, at any depth. The sources of the default profile spell such. That no label is a name
+-- of a scope, and that a file declares no other names, is said by `IsWrittenFile`.
 use Rattle.std.specs.Prelude.{◌≡◌, false}
 use Rattle.std.specs.List.{AllByRecursion}
 use Rattle.cs_grammar.specs.Tree.{Tree, atom, named, reference, conjunction, disjunction, paren, struct, list, wide, Trees, none, more, Fields, no_field, field, End, closed, any, each, body, FileTree, definitions}

@@ -1,6 +1,6 @@
 -- How high a tree is (own rule): 1 for an expression without parts, and else one more than the greatest height of its parts.
 use Rattle.std.specs.Prelude.{ℕ, suc, ◌+◌, max, List, [], ◌∷◌, length}
-use Rattle.cs_grammar.specs.Tree.{Tree, atom, named, reference, conjunction, disjunction, paren, struct, list, wide, Wide, marked, merged, shut, Declarations, no_declaration, declared, embedded, conditional, Trees, none, more, Fields, no_field, field, End, closed, any, each, DefinitionTree, body, FileTree, definitions}
+use Rattle.cs_grammar.specs.Tree.{Tree, atom, named, reference, conjunction, disjunction, paren, struct, list, wide, Wide, marked, merged, shut, selected, Declarations, no_declaration, declared, embedded, conditional, Trees, none, more, Fields, no_field, field, End, closed, any, each, DefinitionTree, body, NameTree, FileTree, definitions, names}
 
 abbrev mutual
   pub height : Tree → ℕ
@@ -19,6 +19,7 @@ abbrev mutual
   height_wide (marked o e) = height e
   height_wide (merged o ds b) = suc (height_declarations ds)
   height_wide (shut o e) = suc (height e)
+  height_wide (selected o s ls) = 1
 
   -- the greatest height; 0 of none
   pub height_all : Trees → ℕ
@@ -45,6 +46,10 @@ abbrev pub height_definitions : List DefinitionTree → ℕ
 height_definitions [] = 0
 height_definitions (d ∷ ds) = max (height (body d)) (height_definitions ds)
 
--- the greatest height of a body
+abbrev pub height_names : List NameTree → ℕ
+height_names [] = 0
+height_names (n ∷ ns) = max (height n.value) (height_names ns)
+
+-- the greatest height of a body, or of the value of another name
 abbrev pub file_height : FileTree → ℕ
-file_height f = height_definitions (definitions f)
+file_height f = max (height_definitions (definitions f)) (height_names (names f))

@@ -16,6 +16,7 @@ pub mod Atoms
 pub mod Bodies
 pub mod Spells
 pub mod Written
+pub mod Namable
 pub mod Limits
 pub mod Height
 pub mod Size

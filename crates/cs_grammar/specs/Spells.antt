@@ -7,8 +7,8 @@ use Rattle.std.specs.List.{list_any}
 use Rattle.cs_grammar.specs.declared.ast.FieldMark.{FieldMark}
 use Rattle.cs_grammar.specs.declared.ast.FieldMark.TheVariants.{Regular, Optional, Required, Every}
 use Rattle.cs_grammar.specs.Atom.{Atom, Relation, top, bottom, null, boolean, integer, text, bound, not_integer, not_text, not_null}
-use Rattle.cs_grammar.specs.Words.{Words, start, name, definition_name, top_mark, bottom_mark, numeral, quoted, open_struct, open_wide, close_struct, open_list, close_list, open_paren, open_call, close_paren, comma, nl, colon, question, bang, amp, bar, dots, relation, unequal, minus, star, equal, finish}
-use Rattle.cs_grammar.specs.Tree.{Label, written_label, Test, present, truth, equals, compares, Condition, Tree, atom, named, reference, conjunction, disjunction, paren, struct, list, wide, marked, merged, shut, Declarations, no_declaration, declared, embedded, conditional, Trees, none, more, Fields, no_field, field, End, closed, any, each, DefinitionTree, definition, FileTree, file}
+use Rattle.cs_grammar.specs.Words.{Words, start, name, definition_name, top_mark, bottom_mark, numeral, quoted, open_struct, open_wide, close_struct, open_list, close_list, open_paren, open_call, close_paren, comma, nl, colon, question, bang, amp, bar, dots, relation, unequal, minus, star, equal, local, dot, assign, finish, wide_finish}
+use Rattle.cs_grammar.specs.Tree.{Label, written_label, scoped_label, Selector, Test, present, truth, equals, compares, Condition, Tree, atom, named, reference, conjunction, disjunction, paren, struct, list, wide, marked, merged, shut, selected, Declarations, no_declaration, declared, embedded, conditional, Trees, none, more, Fields, no_field, field, End, closed, any, each, DefinitionTree, definition, NameTree, FileTree, file}
 
 -- the names that are no operands
 abbrev pub reserved_names : List (List ℕ)
@@ -38,6 +38,14 @@ literal_of s =
     if bytes_eq s (codes "true") then Some (atom (boolean true)) else (
     if bytes_eq s (codes "false") then Some (atom (boolean false)) else
     None))
+
+-- the name that begins a let clause
+abbrev pub is_let : List ℕ → Bool
+is_let s = bytes_eq s (codes "let")
+
+-- the name of a definition as it is written, with its `#` (35)
+abbrev pub with_hash : List ℕ → List ℕ
+with_hash s = 35 ∷ s
 
 -- the name that begins a condition
 abbrev pub is_if : List ℕ → Bool
@@ -132,6 +140,29 @@ pub data SpellsConditions : List Condition → Words → Words → Type 0 where
   last_condition : {c : Condition} {s : List ℕ} {p : ℕ} {ts r : Words} → is_if s ≡ true → SpellsCondition c ts r → SpellsConditions (c ∷ []) (name s p ∷ ts) r
   next_condition : {c : Condition} {cs : List Condition} {s : List ℕ} {p : ℕ} {ts us r : Words} → is_if s ≡ true → SpellsCondition c ts us → SpellsConditions cs us r → SpellsConditions (c ∷ cs) (name s p ∷ ts) r
 
+-- ---- names and selectors of the wide profile (CUE, definitions and hidden fields, let clauses, selectors)
+
+-- a name that is no label of the data: a definition's, or one that begins with `_`
+pub data SpellsName : List ℕ → Words → Words → Type 0 where
+  hashed : {s : List ℕ} {p : ℕ} {r : Words} → SpellsName (with_hash s) (definition_name s p ∷ r) r
+  underscored : {s : List ℕ} {p : ℕ} {r : Words} → SpellsName s (local s p ∷ r) r
+
+-- what a selector begins with: such a name, or one that is an operand and no literal
+pub data SpellsBase : List ℕ → Words → Words → Type 0 where
+  name_base : {s : List ℕ} {ts r : Words} → SpellsName s ts r → SpellsBase s ts r
+  field_base : {s : List ℕ} {p : ℕ} {r : Words} → IsFieldName s → SpellsBase s (name s p ∷ r) r
+
+-- Selector = `.`, then a name of any kind or a text
+pub data SpellsSelector : Selector → Words → Words → Type 0 where
+  by_name : {s : List ℕ} {o p : ℕ} {ts r : Words} → o ≡ start_at ts → SpellsName s ts r → SpellsSelector (record { text = s; quotes = false; at = o }) (dot p ∷ ts) r
+  by_label : {s : List ℕ} {o p : ℕ} {r : Words} → SpellsSelector (record { text = s; quotes = false; at = o }) (dot p ∷ name s o ∷ r) r
+  by_text : {s : List ℕ} {o p : ℕ} {r : Words} → SpellsSelector (record { text = s; quotes = true; at = o }) (dot p ∷ quoted s o ∷ r) r
+
+-- Selector { Selector }
+pub data SpellsSelectors : List Selector → Words → Words → Type 0 where
+  last_selector : {l : Selector} {ts r : Words} → SpellsSelector l ts r → SpellsSelectors (l ∷ []) ts r
+  next_selector : {l : Selector} {ls : List Selector} {ts us r : Words} → SpellsSelector l ts us → SpellsSelectors ls us r → SpellsSelectors (l ∷ ls) ts r
+
 -- ---- literals of the wide profile
 
 -- a struct literal
@@ -140,6 +171,7 @@ is_braced (struct o fs b) = true
 is_braced (wide (merged o ds b)) = true
 is_braced (wide (marked o e)) = false
 is_braced (wide (shut o e)) = false
+is_braced (wide (selected o s ls)) = false
 is_braced (atom a) = false
 is_braced (named s o) = false
 is_braced (reference s o) = false
@@ -201,7 +233,7 @@ mutual
     no_amp : {r : Words} → SpellsAmps none r r
     an_amp : {p : ℕ} {e : Tree} {es : Trees} {ts us r : Words} → SpellsOperand e ts us → SpellsAmps es us r → SpellsAmps (more e es) (amp p ∷ ts) r
 
-  -- Operand = `_`, `_|_`, definition-name, name other than `for`, `if`, `let`, Number, text, Bound, `(` Expr [ nl ] `)`, Struct, List, and in the wide profile `close` `(` Expr [ nl ] `)`; the names `null`, `true`, `false` are literals
+  -- Operand = `_`, `_|_`, definition-name, name other than `for`, `if`, `let`, Number, text, Bound, `(` Expr [ nl ] `)`, Struct, List, and in the wide profile `close` `(` Expr [ nl ] `)`, a name that begins with `_`, and a name with selectors; the names `null`, `true`, `false` are literals
   pub data SpellsOperand : Tree → Words → Words → Type 0 where
     top_is : {p : ℕ} {r : Words} → SpellsOperand (atom top) (top_mark p ∷ r) r
     bottom_is : {p : ℕ} {r : Words} → SpellsOperand (atom bottom) (bottom_mark p ∷ r) r
@@ -215,6 +247,8 @@ mutual
     list_is : {p : ℕ} {es : Trees} {end : End} {ts r : Words} → SpellsList es end ts r → SpellsOperand (list es end) (open_list p ∷ ts) r
     call_paren_is : {p : ℕ} {e : Tree} {ts us r : Words} → SpellsExpr e ts us → ClosesParen us r → SpellsOperand (paren e) (open_call p ∷ ts) r
     shut_is : {s : List ℕ} {o p : ℕ} {e : Tree} {ts us r : Words} → is_close s ≡ true → SpellsExpr e ts us → ClosesParen us r → SpellsOperand (wide (shut o e)) (name s o ∷ open_call p ∷ ts) r
+    local_is : {s : List ℕ} {p : ℕ} {r : Words} → SpellsOperand (named s p) (local s p ∷ r) r
+    selected_is : {s : List ℕ} {o : ℕ} {ls : List Selector} {ts us r : Words} → o ≡ start_at ts → SpellsBase s ts us → SpellsSelectors ls us r → SpellsOperand (wide (selected o s ls)) ts r
     wide_struct_is : {p : ℕ} {ds : Declarations} {b : Bool} {e : Tree} {ts r : Words} → e ≡ literal p ds b → SpellsWideStruct ds b ts r → SpellsOperand e (open_wide p ∷ ts) r
 
   -- what is behind `{`: `}`; `...` [ comma ] `}`; or Field { comma Field } [ comma `...` ] [ comma ] `}`
@@ -234,10 +268,13 @@ mutual
     wide_dots_alone : {p : ℕ} {ts r : Words} → ClosesStruct ts r → SpellsWideStruct no_declaration true (dots p ∷ ts) r
     some_declarations : {ds : Declarations} {b : Bool} {ts us r : Words} → SpellsDeclarations ds ts us → SpellsOpening b us r → SpellsWideStruct ds b ts r
 
-  -- Declaration { comma Declaration }; Declaration = Field, Expr, or the conditions of a struct literal and the literal
+  -- Declaration { comma Declaration }; Declaration = Field, Expr, the conditions of a struct literal and the literal, a name that begins with `#` or `_`
+  -- and `:` Value, or `let` name `=` Expr
   pub data SpellsDeclarations : Declarations → Words → Words → Type 0 where
     a_field : {l : Label} {m : FieldMark} {e : Tree} {ds : Declarations} {ts us r : Words} → SpellsField l m e ts us → SpellsMore ds us r → SpellsDeclarations (declared l m e ds) ts r
     an_embedding : {o : ℕ} {e : Tree} {ds : Declarations} {ts us r : Words} → o ≡ start_at ts → SpellsExpr e ts us → SpellsMore ds us r → SpellsDeclarations (embedded o e ds) ts r
+    a_name : {s : List ℕ} {o p : ℕ} {e : Tree} {ds : Declarations} {ts us vs r : Words} → o ≡ start_at ts → SpellsName s ts (colon p ∷ us) → SpellsValue e us vs → SpellsMore ds vs r → SpellsDeclarations (declared (scoped_label s o) Regular e ds) ts r
+    a_let : {t s : List ℕ} {o p q : ℕ} {e : Tree} {ds : Declarations} {ts us r : Words} → is_let t ≡ true → SpellsExpr e ts us → SpellsMore ds us r → SpellsDeclarations (declared (scoped_label s o) Regular e ds) (name t o ∷ name s p ∷ assign q ∷ ts) r
     a_conditional : {o : ℕ} {cs : List Condition} {e : Tree} {ds : Declarations} {ts us vs r : Words} → o ≡ start_at ts → SpellsConditions cs ts us → is_braced e ≡ true → SpellsExpr e us vs → SpellsMore ds vs r → SpellsDeclarations (conditional o cs e ds) ts r
 
   -- { comma Declaration }
@@ -277,11 +314,24 @@ pub data SpellsDefinitions : List DefinitionTree → Words → Words → Type 0 
   no_definition : {r : Words} → SpellsDefinitions [] r r
   next_definition : {d : DefinitionTree} {ds : List DefinitionTree} {ts us vs r : Words} → SpellsDefinition d ts us → Comma us vs → SpellsDefinitions ds vs r → SpellsDefinitions (d ∷ ds) ts r
 
+-- A name of a file = name other than `package`, which begins the clause, or one that begins with `_`, and `:` Value; or `let` name `=` Expr
+pub data SpellsFileName : NameTree → Words → Words → Type 0 where
+  field_name : {s : List ℕ} {p q : ℕ} {e : Tree} {ts r : Words} → is_package s ≡ false → SpellsValue e ts r → SpellsFileName (record { name = s; is_bound = false; at = p; value = e }) (name s p ∷ colon q ∷ ts) r
+  local_name : {s : List ℕ} {p q : ℕ} {e : Tree} {ts r : Words} → SpellsValue e ts r → SpellsFileName (record { name = s; is_bound = false; at = p; value = e }) (local s p ∷ colon q ∷ ts) r
+  bound_name : {t s : List ℕ} {o p q : ℕ} {e : Tree} {ts r : Words} → is_let t ≡ true → SpellsExpr e ts r → SpellsFileName (record { name = s; is_bound = true; at = o; value = e }) (name t o ∷ name s p ∷ assign q ∷ ts) r
+
+-- { Definition comma, or a name of a file and comma }
+pub data SpellsWideFile : List DefinitionTree → List NameTree → Words → Words → Type 0 where
+  no_line : {r : Words} → SpellsWideFile [] [] r r
+  definition_line : {d : DefinitionTree} {ds : List DefinitionTree} {ns : List NameTree} {ts us vs r : Words} → SpellsDefinition d ts us → Comma us vs → SpellsWideFile ds ns vs r → SpellsWideFile (d ∷ ds) ns ts r
+  name_line : {n : NameTree} {ds : List DefinitionTree} {ns : List NameTree} {ts us vs r : Words} → SpellsFileName n ts us → Comma us vs → SpellsWideFile ds ns vs r → SpellsWideFile ds (n ∷ ns) ts r
+
 -- [ `package` name comma ]
 pub data SpellsPackage : Option (List ℕ) → Words → Words → Type 0 where
   no_clause : {r : Words} → SpellsPackage None r r
   clause : {t s : List ℕ} {p q : ℕ} {ts r : Words} → is_package t ≡ true → Comma ts r → SpellsPackage (Some s) (name t p ∷ name s q ∷ ts) r
 
--- File = [ `package` name comma ] { Definition comma } end
+-- File = [ `package` name comma ] { Definition comma } end, and in the wide profile also with other names
 pub data SpellsFile : FileTree → Words → Type 0 where
-  spelled : {c : Option (List ℕ)} {ds : List DefinitionTree} {p : ℕ} {ts us : Words} → SpellsPackage c ts us → SpellsDefinitions ds us (finish p ∷ []) → SpellsFile (file c ds) ts
+  spelled : {c : Option (List ℕ)} {ds : List DefinitionTree} {p : ℕ} {ts us : Words} → SpellsPackage c ts us → SpellsDefinitions ds us (finish p ∷ []) → SpellsFile (file c ds []) ts
+  wide_spelled : {c : Option (List ℕ)} {ds : List DefinitionTree} {ns : List NameTree} {p : ℕ} {ts us : Words} → SpellsPackage c ts us → SpellsWideFile ds ns us (wide_finish p ∷ []) → SpellsFile (file c ds ns) ts

@@ -34,12 +34,16 @@ mark_kind t =
     if bytes_eq t (codes "!=") then kinds.Unequal else (
     if bytes_eq t (codes "-") then kinds.Minus else (
     if bytes_eq t (codes "*") then kinds.Star else (
-    if bytes_eq t (codes "==") then kinds.Equal else
-    kinds.LeftOut))))))))))))))))))))
+    if bytes_eq t (codes "==") then kinds.Equal else (
+    if bytes_eq t (codes ".") then kinds.Dot else (
+    if bytes_eq t (codes "=") then kinds.Assign else
+    kinds.LeftOut))))))))))))))))))))))
 
--- what a mark is for the grammar where the wide profile reads it in its own way
+-- what a token is for the grammar where the wide profile reads it in its own way: `{` (123), `(` (40), a name behind `_` (95), or the end, which has no
+-- text
 abbrev pub wide_kind : List ℕ → Kind
-wide_kind t = if bytes_eq t (codes "{") then kinds.OpenWide else (if bytes_eq t (codes "(") then kinds.OpenCall else kinds.LeftOut)
+wide_kind [] = kinds.WideEnd
+wide_kind (x ∷ xs) = if x == 123 then kinds.OpenWide else (if x == 40 then kinds.OpenCall else (if x == 95 then kinds.Local else kinds.LeftOut))
 
 -- what a token is for the grammar
 abbrev pub kind_of : Sort → List ℕ → Kind
@@ -92,9 +96,13 @@ word_of kinds.Unequal t o = W.unequal o
 word_of kinds.Minus t o = W.minus o
 word_of kinds.Star t o = W.star o
 word_of kinds.Equal t o = W.equal o
+word_of kinds.Local t o = W.local t o
+word_of kinds.Dot t o = W.dot o
+word_of kinds.Assign t o = W.assign o
 word_of kinds.LeftOut t o = W.left_out o
 word_of kinds.Inserted t o = W.nl o
 word_of kinds.End t o = W.finish o
+word_of kinds.WideEnd t o = W.wide_finish o
 
 -- the word of a token
 abbrev pub word : Lexeme → Word

@@ -1,18 +1,31 @@
 -- The tree of a file, apart from where it lies in memory. Offsets are kept where a fault may be.
-use Rattle.std.specs.Prelude.{ℕ, ℤ, Bool, false, List, Option}
+use Rattle.std.specs.Prelude.{ℕ, ℤ, Bool, false, List, Option, Some, None}
 use Rattle.cs_grammar.specs.declared.ast.FieldMark.{FieldMark}
 use Rattle.cs_grammar.specs.Atom.{Atom, Relation}
 pub use Rattle.cs_grammar.specs.Atom.{top, bottom, null, boolean, integer, text, bound, not_integer, not_text, not_null}
 
--- a label of a struct literal, whether it is in quotes, and whether a condition asks for its field, which then is no author's
+-- a label of a struct literal, whether it is in quotes, and whether a condition asks for its field, which then is no author's; and where it is
+-- declared, if it is a name of the literal's scope and no field of the data (CUE, definitions and hidden fields, let clauses): a name that begins with
+-- `#` or `_`, as it is written, or else one that `let` binds
 pub record Label : Type 0 where
   pub text : List ℕ
   pub quotes : Bool
   pub asked : Bool
+  pub scoped : Option ℕ
 
 -- a label as an author writes it
 abbrev pub written_label : List ℕ → Bool → Label
-written_label s b = record { text = s; quotes = b; asked = false }
+written_label s b = record { text = s; quotes = b; asked = false; scoped = None }
+
+-- a name of a scope, and where it is declared
+abbrev pub scoped_label : List ℕ → ℕ → Label
+scoped_label s o = record { text = s; quotes = false; asked = false; scoped = Some o }
+
+-- what a selector asks for behind a `.`: a label, whether it is in quotes, and where it is
+pub record Selector : Type 0 where
+  pub text : List ℕ
+  pub quotes : Bool
+  pub at : ℕ
 
 -- what an `if` asks of a field (CUE, comprehensions): that it is there, that it is true, that it is a literal, or a relation to an integer
 pub data Test : Type 0 where
@@ -41,12 +54,13 @@ mutual
     -- a form of the wide profile alone
     wide : Wide → Tree
 
-  -- `*e`, where the mark is, and e; a struct literal with embeddings, where it is, its declarations, and whether it is opened; and `close(e)`,
-  -- where `close` is, and e
+  -- `*e`, where the mark is, and e; a struct literal with embeddings, where it is, its declarations, and whether it is opened; `close(e)`,
+  -- where `close` is, and e; and a name, as it is written, where it is, and the selectors behind it, one or more
   pub data Wide : Type 0 where
     marked : ℕ → Tree → Wide
     merged : ℕ → Declarations → Bool → Wide
     shut : ℕ → Tree → Wide
+    selected : ℕ → List ℕ → List Selector → Wide
 
   -- the declarations of a literal with embeddings: fields, expressions that are embedded, with where they are, and literals under conditions,
   -- with where the first `if` is
@@ -74,9 +88,16 @@ mutual
 pub data DefinitionTree : Type 0 where
   definition : List ℕ → ℕ → Tree → DefinitionTree
 
--- a file: the name of its package clause, if it has one, and its definitions
+-- a name that a file declares and that is no definition: as it is written, whether `let` binds it, where it is declared, and its value
+pub record NameTree : Type 0 where
+  pub name : List ℕ
+  pub is_bound : Bool
+  pub at : ℕ
+  pub value : Tree
+
+-- a file: the name of its package clause, if it has one, its definitions, and the other names that it declares
 pub data FileTree : Type 0 where
-  file : Option (List ℕ) → List DefinitionTree → FileTree
+  file : Option (List ℕ) → List DefinitionTree → List NameTree → FileTree
 
 abbrev pub defined_name : DefinitionTree → List ℕ
 defined_name (definition s o e) = s
@@ -85,7 +106,10 @@ abbrev pub body : DefinitionTree → Tree
 body (definition s o e) = e
 
 abbrev pub package_name : FileTree → Option (List ℕ)
-package_name (file p ds) = p
+package_name (file p ds ns) = p
 
 abbrev pub definitions : FileTree → List DefinitionTree
-definitions (file p ds) = ds
+definitions (file p ds ns) = ds
+
+abbrev pub names : FileTree → List NameTree
+names (file p ds ns) = ns

@@ -17,12 +17,14 @@ use Rattle.cs_grammar.specs.declared.ast.Relation as ast
 use Rattle.cs_grammar.specs.declared.ast.Relation.TheVariants as relations
 use Rattle.cs_grammar.specs.declared.ast.Definition.{Definition}
 use Rattle.cs_grammar.specs.declared.ast.File.{File}
+use Rattle.cs_grammar.specs.declared.ast.Name.{Name}
+use Rattle.cs_grammar.specs.declared.ast.Selector as selectors
 use Rattle.cs_grammar.specs.declared.token.Token.{Token}
 use Rattle.cs_grammar.specs.Cut.{Lexeme, lexeme}
 use Rattle.cs_grammar.specs.Atom as atoms
 use Rattle.cs_grammar.specs.Atom.{Atom, Relation, less, at_most, more, at_least}
 use Rattle.cs_grammar.specs.Tree as T
-use Rattle.cs_grammar.specs.Tree.{Label, Test, Condition, Tree, Trees, Fields, End, Wide, Declarations, DefinitionTree, FileTree}
+use Rattle.cs_grammar.specs.Tree.{Label, Selector, Test, Condition, Tree, Trees, Fields, End, Wide, Declarations, DefinitionTree, NameTree, FileTree}
 
 -- ---- tokens
 
@@ -70,6 +72,9 @@ test_view (asks.Compares r n) = T.compares (relation_of r) n
 abbrev pub condition_view : conditions.Condition → Condition
 condition_view c = record { label = string_bytes c.label; at = c.at; test = test_view c.test; is_met = c.is_met }
 
+abbrev pub selector_view : selectors.Selector → Selector
+selector_view s = record { text = string_bytes s.label; quotes = s.quoted; at = s.at }
+
 -- a declaration of a literal with embeddings
 pub data SeenDeclaration : Type 0 where
   field_seen : Seen → SeenDeclaration
@@ -113,12 +118,13 @@ abbrev pub label_of : List ℕ → Bool → Label
 label_of s b = T.written_label s b
 
 abbrev pub field_step : Field-F SeenDeclaration Tree End Wide Seen → Seen
-field_step f = record { label = record { text = string_bytes f.label; quotes = f.quoted; asked = f.asked }; mark = f.mark; value = f.value }
+field_step f = record { label = record { text = string_bytes f.label; quotes = f.quoted; asked = f.asked; scoped = f.scoped }; mark = f.mark; value = f.value }
 
 abbrev pub wide_step : Wide-F SeenDeclaration Tree End Wide Seen → Wide
 wide_step (Wide-F.Marked o b) = T.marked o b.value
 wide_step (Wide-F.Merged o v opened) = T.merged o (declarations_of v.items) opened
 wide_step (Wide-F.Shut o b) = T.shut o b.value
+wide_step (Wide-F.Selected o s v) = T.selected o (string_bytes s) (map selector_view v.items)
 
 abbrev pub declaration_step : Declaration-F SeenDeclaration Tree End Wide Seen → SeenDeclaration
 declaration_step (Declaration-F.Field f) = field_seen f
@@ -150,9 +156,12 @@ fields_view fs = fields_of (map field_view fs)
 abbrev pub declarations_view : List declarations.Declaration → Declarations
 declarations_view ds = declarations_of (map declaration_view ds)
 
--- definitions and files
+-- definitions, other names, and files
 abbrev pub definition_view : Definition → DefinitionTree
 definition_view d = T.definition (string_bytes d.name) d.at (expr_view d.body)
 
+abbrev pub name_view : Name → NameTree
+name_view n = record { name = string_bytes n.label; is_bound = n.is_bound; at = n.at; value = expr_view n.value }
+
 abbrev pub file_view : File → FileTree
-file_view f = T.file (option_map string_bytes f.package) (map definition_view f.definitions.items)
+file_view f = T.file (option_map string_bytes f.package) (map definition_view f.definitions.items) (map name_view f.names.items)

@@ -42,8 +42,14 @@ pub data Word : Type 0 where
   star : ℕ → Word
   -- `==`, in the wide profile
   equal : ℕ → Word
+  -- a name that begins with `_`, as it is written, `.` and `=`, in the wide profile
+  local : List ℕ → ℕ → Word
+  dot : ℕ → Word
+  assign : ℕ → Word
   left_out : ℕ → Word
   finish : ℕ → Word
+  -- the end in the wide profile, where a file may declare names that are no definitions
+  wide_finish : ℕ → Word
 
 abbrev pub Words : Type 0
 Words = List Word
@@ -77,5 +83,9 @@ start (unequal o) = o
 start (minus o) = o
 start (star o) = o
 start (equal o) = o
+start (local s o) = o
+start (dot o) = o
+start (assign o) = o
 start (left_out o) = o
 start (finish o) = o
+start (wide_finish o) = o

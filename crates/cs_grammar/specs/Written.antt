@@ -1,5 +1,5 @@
 -- Trees that can be written down: a name is a name, a number has 64 signed bits, and an operand of `&` or `|` needs no parenthesis that isn't in the tree (CUE, identifiers, numeric literals, operands and expressions).
-use Rattle.std.specs.Prelude.{◌≡◌, ℕ, List, ◌∷◌, false, Option, Some, None, FitsSigned}
+use Rattle.std.specs.Prelude.{◌≡◌, ℕ, List, [], ◌∷◌, false, Option, Some, None, FitsSigned}
 use Rattle.std.specs.Int.{w64}
 use Rattle.std.specs.List.{AllByRecursion}
 use Rattle.cs_grammar.specs.declared.ast.FieldMark.{FieldMark}
@@ -8,7 +8,7 @@ use Rattle.cs_grammar.specs.declared.token.Sort.TheVariants as sorts
 use Rattle.cs_grammar.specs.Spelling.{sort_of}
 use Rattle.cs_grammar.specs.Atom.{Atom, top, bottom, null, boolean, integer, text, bound, not_integer, not_text, not_null}
 use Rattle.cs_grammar.specs.Spells.{is_reserved, literal_of, every_label}
-use Rattle.cs_grammar.specs.Tree.{Label, Test, present, truth, equals, compares, Condition, Tree, atom, named, reference, conjunction, disjunction, paren, struct, list, wide, Wide, marked, merged, shut, Declarations, no_declaration, declared, embedded, conditional, Trees, none, more, Fields, no_field, field, End, closed, any, each, DefinitionTree, definition, FileTree, file}
+use Rattle.cs_grammar.specs.Tree.{Label, Test, present, truth, equals, compares, Condition, Tree, atom, named, reference, conjunction, disjunction, paren, struct, list, wide, Wide, marked, merged, shut, selected, Declarations, no_declaration, declared, embedded, conditional, Trees, none, more, Fields, no_field, field, End, closed, any, each, DefinitionTree, definition, FileTree, file}
 
 -- where an expression stands: by itself, as an operand of `|`, or as an operand of `&`
 pub data Place : Type 0 where
@@ -33,9 +33,9 @@ IsWrittenAtom (text s) = Unit {0}
 IsWrittenAtom (not_text s) = Unit {0}
 IsWrittenAtom not_null = Unit {0}
 
--- `[string]` is a label of its own; another is a text or a name
+-- `[string]` is a label of its own; another is a text or a name, which is a field
 abbrev pub IsTextOrName : Label → Type 0
-IsTextOrName l = l.quotes ≡ false → IsName l.text
+IsTextOrName l = (l.scoped ≡ None) × (l.quotes ≡ false → IsName l.text)
 
 abbrev pub IsWrittenLabel : Label → FieldMark → Type 0
 IsWrittenLabel l Regular = IsTextOrName l
@@ -85,6 +85,8 @@ abbrev mutual
   IsWrittenWide p (marked o e) = IsWritten p e
   IsWrittenWide p (merged o ds b) = AreWrittenDeclarations ds
   IsWrittenWide p (shut o e) = IsWritten by_itself e
+  -- it isn't printed: selectors are put away before
+  IsWrittenWide p (selected o s ls) = ⊥
 
   pub AreWrittenDeclarations : Declarations → Type 0
   AreWrittenDeclarations no_declaration = Unit {0}
@@ -114,4 +116,4 @@ IsWrittenClause None = Unit {0}
 IsWrittenClause (Some s) = IsName s
 
 abbrev pub IsWrittenFile : FileTree → Type 0
-IsWrittenFile (file c ds) = IsWrittenClause c × AllByRecursion IsWrittenDefinition ds
+IsWrittenFile (file c ds ns) = IsWrittenClause c × AllByRecursion IsWrittenDefinition ds × (ns ≡ [])

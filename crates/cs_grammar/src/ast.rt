@@ -5,11 +5,26 @@ ghost use Rattle.cs_grammar.specs.View.{expr_view};
 
 use std::alloc::AllocError;
 
-/// A file: its package clause, if it has one, and its definitions in order.
+/// A file: its package clause, if it has one, and its definitions and its other names, each in order.
 #[derive(Drop)]
 pub struct File {
     pub package: Option<String>,
     pub definitions: Vec<Definition>,
+    /// None in the default profile.
+    pub names: Vec<Name>,
+}
+
+/// A name that a file of the wide profile declares and that is no definition: a hidden definition `_#n`, a field `n` or `_n`, or `n` of `let n = e` (CUE,
+/// let clauses).
+#[derive(Drop)]
+pub struct Name {
+    /// As it is written, with `_` or `_#`.
+    pub label: String,
+    /// Whether `let` binds it, for its own file alone.
+    pub is_bound: bool,
+    /// The offset of the name, or of its `let`.
+    pub at: usize,
+    pub value: Expr,
 }
 
 /// A definition: its name without `#`, the offset of the name, and its body.
@@ -93,6 +108,23 @@ pub enum Wide {
         at: usize,
         value: Box<Expr>,
     },
+    /// `n.a.b`: what is declared for the labels behind a name (CUE, selectors), one or more; the offset of the name, and the name as it is written, with `#`
+    /// or `_`.
+    Selected {
+        at: usize,
+        name: String,
+        labels: Vec<Selector>,
+    },
+}
+
+/// What a selector asks for.
+#[derive(Debug, Drop)]
+pub struct Selector {
+    /// As it is written without quotes, of a definition with its `#`.
+    pub label: String,
+    pub quoted: bool,
+    /// The offset of the label.
+    pub at: usize,
 }
 
 /// A declaration of a struct literal with embeddings or conditions.
@@ -148,7 +180,8 @@ pub enum Scalar {
     Text(String),
 }
 
-/// A field of a struct literal. Of `[string]: T` the label is empty and `quoted` is true, so no name can name it.
+/// A field of a struct literal. Of `[string]: T` the label is empty and `quoted` is true, so no name can name it. In the wide profile a literal may declare
+/// names too, which are no fields of the data (CUE, definitions and hidden fields, let clauses).
 #[cycle(ast)]
 #[derive(Debug, Drop)]
 pub struct Field {
@@ -156,6 +189,9 @@ pub struct Field {
     pub quoted: bool,
     /// Whether a condition asks for it, and no author wrote it: it opens nothing, and excludes no default.
     pub asked: bool,
+    /// The offset at which it is declared, if it is a name of its literal's scope and no field of the data: one that begins with `#` or `_`, or else one
+    /// that `let` binds.
+    pub scoped: Option<usize>,
     pub mark: FieldMark,
     pub value: Expr,
     pub site: Site,

@@ -38,7 +38,15 @@ pub enum Kind {
     Star,
     /// `==`, in the wide profile.
     Equal,
+    /// A name that begins with `_`, in the wide profile.
+    Local,
+    /// `.`, in the wide profile.
+    Dot,
+    /// `=`, in the wide profile.
+    Assign,
     LeftOut,
     Inserted,
     End,
+    /// The end in the wide profile, where a file may declare names that are no definitions.
+    WideEnd,
 }

@@ -3,6 +3,7 @@
 
 mod ast;
 mod attribute;
+mod copy;
 mod fault;
 mod kind;
 mod line;
@@ -11,10 +12,11 @@ mod reference;
 mod token;
 
 pub use ast::{
-    Condition, Declaration, Definition, Expr, Field, FieldMark, File, ListEnd, Relation, Scalar,
-    Site, Test, Wide,
+    Condition, Declaration, Definition, Expr, Field, FieldMark, File, ListEnd, Name, Relation,
+    Scalar, Selector, Site, Test, Wide,
 };
 pub use attribute::{AttributeStep, Opened};
+pub use copy::{copied_names, copied_selectors};
 pub use fault::SyntaxFault;
 pub use kind::Kind;
 pub use line::LineState;

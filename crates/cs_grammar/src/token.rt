@@ -19,7 +19,7 @@ pub enum Sort {
     Text,
     /// A mark of the grammar.
     Mark,
-    /// A mark that the wide profile reads in its own way.
+    /// A token that the wide profile reads in its own way: a mark, a name that begins with `_`, or the end.
     Wide,
     /// A mark of CUE that this profile leaves out.
     LeftOut,

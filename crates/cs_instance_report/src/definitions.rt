@@ -35,8 +35,9 @@ struct Definitions<'t> {
 /// What a rule is.
 #[derive(Clone, Copy, Drop)]
 struct Node<'t> {
-    /// The name of the last definition on the way, and its bodies.
+    /// The name of the last definition on the way, also as its author declared it, and its bodies.
     name: &'t str,
+    declared: &'t str,
     bodies: &'t [Shape],
     /// The expression in it; none for the definition itself.
     shape: Option<&'t Shape>,
@@ -100,10 +101,12 @@ impl<'t> Definitions<'t> {
         } else {
             ("", &[])
         };
+        let declared = self.written.name_declared(name).unwrap_or(name);
         path.truncate(0);
-        path.push_str(name)?;
+        path.push_str(declared)?;
         Ok(Node {
             name,
+            declared,
             bodies,
             shape: None,
             spelled: None,
@@ -307,7 +310,7 @@ impl<'t> Words<'t> for Definitions<'t> {
         let Some(mut finding) = self.refusal(node, cause, way, since.is_some())? else {
             return Ok(None);
         };
-        finding.definition = node.name;
+        finding.definition = node.declared;
         finding.since = since;
         Ok(Some(finding))
     }

@@ -1,5 +1,5 @@
 // Sources, and where they write what the definitions of their package are made of.
-use cs_grammar::{Definition, Expr, Field, ListEnd, Profile, Site, Wide};
+use cs_grammar::{Definition, Expr, Field, ListEnd, Profile, Site, Sort, Wide};
 use cs_place::{Named, Position, Positions};
 use cs_placed::{Placed, placed_files};
 use cs_reason_words::{Form, Made, SourcePlace};
@@ -72,6 +72,14 @@ impl<'a> Written<'a> {
         let file = self.placed.as_ref()?.files.get(*file)?;
         let definition = file.definitions.get(*place)?;
         (found.as_str() == name).then_some(definition)
+    }
+
+    /// The name of a definition with its `#`, as its author declared it: one that stands for a name of a scope has that name.
+    pub(crate) fn name_declared(&self, name: &str) -> Option<&'a str> {
+        let definition = self.definition(name, 0)?;
+        let named = self.token_at(definition.at)?.name_declared().here();
+        let is_name = matches!(named.sort, Sort::Name | Sort::Hidden | Sort::Definition);
+        is_name.then_some(named.text)
     }
 
     /// The token at an offset of the files.

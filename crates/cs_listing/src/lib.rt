@@ -85,8 +85,12 @@ fn entries_of<'a>(alloc: Global, named: &[Named<'a>], package: &Guarded) -> Made
     let mut positions = Positions::new(&[]);
     let mut file = None;
     let mut entries = Vec::with_capacity(alloc, kinds.len())?;
-    // Definitions are numbered in the order of their first declaration, which is that of the sources.
-    for (first, kinds) in declared.firsts.iter().zip(kinds.iter()) {
+    for first in &declared.firsts {
+        // The package has other definitions too, which stand for names of scopes.
+        let number = package.package().find(first.here().text);
+        let Some(kinds) = number.and_then(|number| kinds.get(number)) else {
+            continue;
+        };
         let source = first.source;
         if file != Some(source.file) {
             positions = Positions::new(source.named.text);
@@ -104,7 +108,7 @@ fn entries_of<'a>(alloc: Global, named: &[Named<'a>], package: &Guarded) -> Made
     Ok(entries)
 }
 
-/// Puts a line for each definition of the package, in the order of first declaration: `FILE:LINE:COLUMN: #NAME: KINDS`. The place is that of its
+/// Puts a line for each definition that the files declare, in the order of first declaration: `FILE:LINE:COLUMN: #NAME: KINDS`. The place is that of its
 /// first declaration, and the kinds are those of `kinds_of`, as an expression of CUE has them but for the words `list` and `struct`: parted by ` | `,
 /// `_` where all are among them, and `_|_` where none is. `sources` are those that the package was made of, in their order.
 ///

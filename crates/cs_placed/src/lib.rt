@@ -4,8 +4,10 @@
 use cs_conditions::{ConditionFault, have_conditions, without_conditions};
 use cs_embeddings::{EmbeddingFault, without_embeddings};
 use cs_grammar::{
-    Condition, Declaration, Expr, Field, FieldMark, File, ListEnd, Profile, SyntaxFault, Wide, atom,
+    Condition, Declaration, Expr, Field, FieldMark, File, ListEnd, Profile, Selector, SyntaxFault,
+    Wide, atom,
 };
+use cs_names::{NameFault, have_names, without_names};
 use cs_syntax::parse_file_in;
 use std::alloc::{AllocError, Global};
 use std::str;
@@ -14,13 +16,22 @@ use std::str;
 /// another keeps its place.
 #[derive(Drop)]
 pub struct Placed {
-    /// The file of each source, at its place: without conditions and embeddings, and with the marks of defaults.
+    /// The file of each source, at its place: without names, conditions and embeddings, and with the marks of defaults. A definition that a name of a scope
+    /// stands for is at the offset at which that is declared.
     pub files: Vec<File>,
     /// The offset at which each source begins, in their order.
     bases: Vec<usize>,
 }
 
 impl Placed {
+    /// Where the first definition of a name without `#` is: the number of the source, and the offset there. One that stands for a name of a scope is
+    /// where that is declared.
+    pub fn definition(&self, name: &str) -> Option<(usize, usize)> {
+        let mut definitions = self.files.iter().flat_map(|file| file.definitions.iter());
+        let first = definitions.find(|definition| definition.name.as_str() == name)?;
+        Some(self.place(first.at))
+    }
+
     /// The number of the source that an offset in the files is in, and the offset there.
     pub fn place(&self, offset: usize) -> (usize, usize) {
         let behind = self.bases.partition_point(|base| *base <= offset);
@@ -36,8 +47,25 @@ pub fn placed_files(alloc: Global, sources: &[&[u8]]) -> Result<Option<Placed>, 
     let Some(Placed { files, bases }) = spelled_files(alloc, sources)? else {
         return Ok(None);
     };
-    let files = joined_files(alloc, chosen_files(alloc, files)?)?;
+    let named = named_files(alloc, files)?;
+    let files = joined_files(alloc, chosen_files(alloc, named)?)?;
     Ok(Some(Placed { files, bases }))
+}
+
+/// Files without names that are no definitions. Where they stand for none they are themselves, in which such a name stands for nothing.
+fn named_files(alloc: Global, files: Vec<File>) -> Result<Vec<File>, AllocError> {
+    if !have_names(&files) {
+        return Ok(files);
+    }
+    match without_names(alloc, &files) {
+        Ok(named) => Ok(named),
+        Err(NameFault::OutOfMemory) => Err(AllocError),
+        Err(
+            NameFault::LeftOut { .. }
+            | NameFault::UnknownName { .. }
+            | NameFault::Redeclared { .. },
+        ) => Ok(files),
+    }
 }
 
 /// Files without conditions. Where they stand for none they are themselves, in which each literal has the fields alone that are there under no
@@ -105,6 +133,10 @@ fn file_of(alloc: Global, source: &[u8], base: usize) -> Result<Option<File>, Al
         add(&mut definition.at, base);
         shift(&mut definition.body, base);
     }
+    for name in file.names.iter_mut() {
+        add(&mut name.at, base);
+        shift(&mut name.value, base);
+    }
     Ok(Some(file))
 }
 
@@ -148,6 +180,9 @@ fn shift_each(exprs: &mut Vec<Expr>, base: usize) {
 #[cycle(shift)]
 fn shift_field(field: &mut Field, base: usize) {
     add(&mut field.site.at, base);
+    if let Some(at) = &mut field.scoped {
+        add(at, base);
+    }
     if let FieldMark::Every { at } = &mut field.mark {
         add(at, base);
     }
@@ -164,6 +199,10 @@ fn shift_form(form: &mut Wide, base: usize) {
         Wide::Shut { at, value } => {
             add(at, base);
             shift(value, base);
+        }
+        Wide::Selected { at, labels, .. } => {
+            add(at, base);
+            shift_selectors(labels, base);
         }
         Wide::Merged {
             at,
@@ -195,6 +234,13 @@ fn shift_declaration(declaration: &mut Declaration, base: usize) {
             shift_conditions(conditions, base);
             shift(value, base);
         }
+    }
+}
+
+/// Adds a number to the offset of each selector.
+fn shift_selectors(labels: &mut Vec<Selector>, base: usize) {
+    for label in labels.iter_mut() {
+        add(&mut label.at, base);
     }
 }
 

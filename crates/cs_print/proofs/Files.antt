@@ -81,15 +81,15 @@ record SpeltFile (f : FileTree) (source : List ℕ) : Type 0 where
   pub same : unplaced_file tree ≡ unplaced_file f
 
 file_spelt : (f : FileTree) → IsWrittenFile f → IsDefaultFile f → FileHasTexts f → SpeltFile f (file_text f)
-file_spelt (file c ds) w d x =
+file_spelt (file c ds ns) w d x =
     let text : List ℕ = clause_text c ++ definitions_text ds in
     let front = behind {b = nothing} (λ rest ok. tt) (clause_front c w.0) (definitions_front ds w.1 d x) in
     let o : ℕ = 0 + length text in
     let cut = front.before 0 [] (lexeme sorts.End [] o ∷ []) tt (finish {o = o} {l = Plain}) in
     record {
-      tree = file c cut.are.2.trees;
+      tree = file c cut.are.2.trees [];
       spelled = record { tokens = cut.lexemes; cut = subst (λ t. Cut t 0 Plain cut.lexemes) (append-nil text) cut.cut; spelled = spelled cut.are.1 cut.are.2.spelled };
-      same = rw cut.are.2.same refl;
+      same = rw (cut.are.2.same, w.2) refl;
     }
 
 -- ---- several files
@@ -103,8 +103,8 @@ written_clause None d h k = k
 written_clause (Some s) d h k = h
 
 written_joined : (fs : List FileTree) → AllByRecursion IsWrittenFile fs → IsWrittenFile (joined_file fs)
-written_joined [] h = (tt, tt)
-written_joined (file c ds ∷ fs) h = let k = written_joined fs h.1 in (written_clause c (first_clause fs) h.0.0 k.0, all_append IsWrittenDefinition ds (flat_map definitions fs) h.0.1 k.1)
+written_joined [] h = (tt, tt, refl)
+written_joined (file c ds ns ∷ fs) h = let k = written_joined fs h.1 in (written_clause c (first_clause fs) h.0.0 k.0, all_append IsWrittenDefinition ds (flat_map definitions fs) h.0.1 k.1, refl)
 
 default_joined : (fs : List FileTree) → AllByRecursion IsDefaultFile fs → IsDefaultFile (joined_file fs)
 default_joined [] h = tt

@@ -1,9 +1,11 @@
 -- A tree without its offsets is as high as it is with them.
-use Rattle.std.proofs.Common.{◌≡◌, ℕ, suc, ◌≤◌, List, [], ◌∷◌, map, refl, sym, ap, ◌∙◌, arith}
+use Rattle.std.proofs.Common.{◌≡◌, ℕ, suc, ◌≤◌, List, [], ◌∷◌, map, refl, sym, ap, ap₂, ◌∙◌, arith}
+use Rattle.std.proofs.lemmas.Bool.Decides.{nat_tests}
+use Rattle.std.specs.Prelude.{max}
 use Rattle.std.specs.List.{flat_map}
 use Rattle.cs_grammar.specs.Limits.{most_height}
-use Rattle.cs_grammar.specs.Tree.{Tree, atom, named, reference, conjunction, disjunction, paren, struct, list, wide, Trees, none, more, Fields, no_field, field, End, closed, any, each, DefinitionTree, definition, definitions, FileTree}
-use Rattle.cs_grammar.specs.Height.{height, height_all, height_fields, height_end, height_definitions, file_height}
+use Rattle.cs_grammar.specs.Tree.{Tree, atom, named, reference, conjunction, disjunction, paren, struct, list, wide, Trees, none, more, Fields, no_field, field, End, closed, any, each, DefinitionTree, definition, definitions, names, FileTree}
+use Rattle.cs_grammar.specs.Height.{height, height_all, height_fields, height_end, height_definitions, height_names, file_height}
 use Rattle.cs_print.specs.Printed.{unplaced, unplaced_all, unplaced_fields, unplaced_end, unplaced_definition, IsPrinted, IsReadAs}
 use Rattle.cs_print.proofs.Deep.{nests_low}
 
@@ -36,10 +38,16 @@ same_definitions : (ds : List DefinitionTree) → height_definitions (map unplac
 same_definitions [] = refl
 same_definitions (definition s o e ∷ ds) = rw (same_height e, same_definitions ds) refl
 
+max_none : (n : ℕ) → max n 0 ≡ n
+max_none n = grind (arith, nat_tests)
+
 pub read_as : (source : List ℕ) (fs : List FileTree) → IsPrinted source fs → height_definitions (flat_map definitions fs) ≤ most_height → IsReadAs source fs
 read_as source fs p low =
+    let none_else : names p.tree ≡ [] = ap names p.same in
+    let highest : height_definitions (definitions p.tree) ≡ height_definitions (flat_map definitions fs) =
+    sym (same_definitions (definitions p.tree)) ∙ ap (λ f. height_definitions (definitions f)) p.same ∙ same_definitions (flat_map definitions fs) in
     let is : file_height p.tree ≡ height_definitions (flat_map definitions fs) =
-    sym (same_definitions (definitions p.tree)) ∙ ap file_height p.same ∙ same_definitions (flat_map definitions fs) in
+    ap₂ max highest (ap height_names none_else) ∙ max_none (height_definitions (flat_map definitions fs)) in
     let spelled = p.spelled.spelled in
     record {
       tree = p.tree;

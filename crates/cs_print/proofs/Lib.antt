@@ -1,5 +1,6 @@
 -- What the proofs of this crate show: the text of a file is cut into tokens that spell it, by induction on its trees (`Fronts`, `Tokens`, `Integers`, `Quoted`, `Trees`,
--- `Files`); what a source spells can be written down (`Sound`); and its words nest no deeper than its bodies are high (`Deep`, `Heights`).
+-- `Files`); what a source spells can be written down in the default profile, and but for names in the wide one (`GoodWords`, `Sound`, `Namable`); and its words
+-- nest no deeper than its bodies are high (`Deep`, `Heights`).
 
 -- texts that begin a text, and the tokens that are printed
 mod Fronts
@@ -11,7 +12,9 @@ mod Trees
 mod Files
 mod Layouts
 -- what is spelled
+mod GoodWords
 mod Sound
+mod Namable
 mod Deep
 mod Heights
 -- samples of the definitions

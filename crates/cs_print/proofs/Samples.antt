@@ -1,12 +1,13 @@
 -- Trees that can be written down and some that can't, files that are joined, and how they are laid out.
-use Rattle.std.proofs.Common.{◌≡◌, [], ◌∷◌, true, false, Some, None, codes, refl}
+use Rattle.std.proofs.Common.{◌≡◌, [], ◌∷◌, true, false, Some, None, codes, refl, inl, inr}
 use Rattle.cs_grammar.specs.declared.ast.FieldMark.TheVariants.{Regular, Optional, Required, Every}
 use Rattle.cs_grammar.specs.Atom as A
 use Rattle.cs_grammar.specs.DefaultForms.{IsDefault}
 use Rattle.cs_grammar.specs.Spells.{every_label}
-use Rattle.cs_grammar.specs.Tree.{written_label, Tree, atom, named, reference, conjunction, disjunction, paren, struct, list, wide, marked, none, more, no_field, field, any, definition, FileTree, file}
+use Rattle.cs_grammar.specs.Tree.{written_label, scoped_label, Tree, atom, named, reference, conjunction, disjunction, paren, struct, list, wide, marked, selected, none, more, no_field, field, any, definition, FileTree, file}
 use Rattle.cs_print.specs.Layout.{file_text}
 use Rattle.cs_print.specs.Printed.{unplaced, joined_file}
+use Rattle.cs_grammar.specs.Namable.{IsNamable, IsNamableLabel, IsNamableFile}
 use Rattle.cs_grammar.specs.Written.{by_itself, of_amp, IsWritten, IsWrittenLabel, IsWrittenFile}
 
 -- ---- what can be written down
@@ -50,10 +51,10 @@ no_literal w = let e = w.2 in cc
 
 -- as a label `if` is one, and a text that isn't a name has to stand in quotes
 word_label : IsWrittenLabel (written_label (codes "if") false) Required
-word_label = λ e. refl
+word_label = (refl, λ e. refl)
 
 quoted_label : IsWrittenLabel (written_label (codes "1a") true) Regular
-quoted_label = λ e. absurd cc
+quoted_label = (refl, λ e. absurd cc)
 
 -- ---- files as one
 
@@ -62,14 +63,42 @@ moved : unplaced (reference (codes "A") 7) ≡ unplaced (reference (codes "A") 3
 moved = refl
 
 abbrev plain_file : FileTree
-plain_file = file None (definition (codes "A") 1 (named (codes "int") 4) ∷ [])
+plain_file = file None (definition (codes "A") 1 (named (codes "int") 4) ∷ []) []
 
 abbrev named_file : FileTree
-named_file = file (Some (codes "p")) (definition (codes "B") 12 (struct 15 (field (written_label (codes "a") false) Optional (reference (codes "A") 19) (field every_label (Every 23) (list (more none_of none) any) no_field)) true) ∷ [])
+named_file = file (Some (codes "p")) (definition (codes "B") 12 (struct 15 (field (written_label (codes "a") false) Optional (reference (codes "A") 19) (field every_label (Every 23) (list (more none_of none) any) no_field)) true) ∷ []) []
 
 -- the clause is that of the first file that has one, and the definitions stay in their order
 layout : file_text (joined_file (plain_file ∷ named_file ∷ [])) ≡ codes "package p\n\n#A: int\n#B: {\n\ta?: #A\n\t[string]: [_|_, ...]\n\t...\n}\n"
 layout = refl
 
 both_written : IsWrittenFile (joined_file (plain_file ∷ named_file ∷ []))
-both_written = (refl, ((refl, (refl, refl, refl)), ((refl, ((λ e. refl), refl, (refl, ((tt, tt), tt), tt))), tt)))
+both_written = (refl, ((refl, (refl, refl, refl)), ((refl, ((refl, λ e. refl), refl, (refl, ((tt, tt), tt), tt))), tt)), refl)
+
+-- ---- names
+
+-- a name of a scope, a selector and a name that begins with `_` aren't written down, but a source of the wide profile may spell them
+no_scoped_label : IsWrittenLabel (scoped_label (codes "#N") 5) Regular → ⊥
+no_scoped_label w = let e = w.0 in cc
+
+scoped_namable : IsNamableLabel (scoped_label (codes "#N") 5) Regular
+scoped_namable = (refl, inr (inl refl))
+
+no_local : IsWritten by_itself (named (codes "_n") 4) → ⊥
+no_local w = let e = w.0 in cc
+
+local_namable : IsNamable by_itself (named (codes "_n") 4)
+local_namable = inr refl
+
+selected_namable : IsNamable by_itself (wide (selected 4 (codes "#A") (record { text = codes "1a"; quotes = true; at = 7 } ∷ [])))
+selected_namable = (inr (inl refl), ((λ e. absurd cc), tt))
+
+-- `_n: _|_` beside no definitions
+abbrev other_name : FileTree
+other_name = file None [] (record { name = codes "_n"; is_bound = false; at = 0; value = none_of } ∷ [])
+
+no_names : IsWrittenFile other_name → ⊥
+no_names w = let e = w.2 in cc
+
+names_namable : IsNamableFile other_name
+names_namable = (tt, tt, ((inr refl, tt), tt))

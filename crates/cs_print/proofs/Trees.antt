@@ -172,17 +172,19 @@ bang_text = read (SpellsMark Required) (λ ws us k. rw (k.1.1, k.2.1) required) 
     colon_plain : Front nothing (codes ": ") Plain Plain (One W.colon)
     colon_plain = read (One W.colon) (λ ws us k. (k.1.0, rw k.1.1 (rw k.2 refl))) (behind {xs = 58 ∷ []} {ys = 32 ∷ []} (λ rest ok. tt) colon_front (space_front 32 refl))
 
--- a label that no condition asked for
-as_written : (l : Label) {ws us : Words} → l.asked ≡ false → SpellsLabel (written_label l.text l.quotes) ws us → SpellsLabel l ws us
-as_written l {ws} {us} h k = subst (λ b. SpellsLabel (record { text = l.text; quotes = l.quotes; asked = b }) ws us) (sym h) k
+-- a label that no condition asked for, and that is no name of a scope
+as_written : (l : Label) {ws us : Words} → l.asked ≡ false → l.scoped ≡ None → SpellsLabel (written_label l.text l.quotes) ws us → SpellsLabel l ws us
+as_written l {ws} {us} h n k =
+    let asked : SpellsLabel (record { text = l.text; quotes = l.quotes; asked = l.asked; scoped = None }) ws us = subst (λ b. SpellsLabel (record { text = l.text; quotes = l.quotes; asked = b; scoped = None }) ws us) (sym h) k in
+    subst (λ o. SpellsLabel (record { text = l.text; quotes = l.quotes; asked = l.asked; scoped = o }) ws us) (sym n) asked
 
 head_front : (l : Label) (m : FieldMark) → IsWrittenLabel l m → l.asked ≡ false → IsUtf8 l.text → Front nothing (head_text l.text l.quotes m) Plain Plain (Headed l m)
-head_front l Regular name a h = read (Headed l Regular) (λ ws us k. record { mark = Regular; same = refl; spells = λ e r v. labelled (as_written l a k.1) (rw k.2.1 regular) v })
-    (behind (λ rest ok. refl) (named_label l.text l.quotes name h) colon_text)
-head_front l Optional name a h = read (Headed l Optional) (λ ws us k. record { mark = Optional; same = refl; spells = λ e r v. labelled (as_written l a k.1) k.2 v })
-    (behind (λ rest ok. refl) (named_label l.text l.quotes name h) question_text)
-head_front l Required name a h = read (Headed l Required) (λ ws us k. record { mark = Required; same = refl; spells = λ e r v. labelled (as_written l a k.1) k.2 v })
-    (behind (λ rest ok. refl) (named_label l.text l.quotes name h) bang_text)
+head_front l Regular name a h = read (Headed l Regular) (λ ws us k. record { mark = Regular; same = refl; spells = λ e r v. labelled (as_written l a name.0 k.1) (rw k.2.1 regular) v })
+    (behind (λ rest ok. refl) (named_label l.text l.quotes name.1 h) colon_text)
+head_front l Optional name a h = read (Headed l Optional) (λ ws us k. record { mark = Optional; same = refl; spells = λ e r v. labelled (as_written l a name.0 k.1) k.2 v })
+    (behind (λ rest ok. refl) (named_label l.text l.quotes name.1 h) question_text)
+head_front l Required name a h = read (Headed l Required) (λ ws us k. record { mark = Required; same = refl; spells = λ e r v. labelled (as_written l a name.0 k.1) k.2 v })
+    (behind (λ rest ok. refl) (named_label l.text l.quotes name.1 h) bang_text)
 head_front l (Every o) is a h = read (Headed l (Every o)) (λ ws us k. record {
   mark = Every k.2.1.0;
   same = refl;

@@ -6,7 +6,7 @@ use Rattle.cs_grammar.specs.declared.ast.FieldMark.{FieldMark}
 use Rattle.cs_grammar.specs.declared.ast.FieldMark.TheVariants.{Regular, Optional, Required, Every}
 use Rattle.cs_grammar.specs.Source.{IsSpelledBy}
 use Rattle.cs_syntax.specs.Answer.{IsSpelled}
-use Rattle.cs_grammar.specs.Tree.{Tree, atom, named, reference, conjunction, disjunction, paren, struct, list, wide, Trees, none, more, Fields, no_field, field, End, closed, any, each, DefinitionTree, definition, definitions, package_name, FileTree, file}
+use Rattle.cs_grammar.specs.Tree.{Tree, atom, named, reference, conjunction, disjunction, paren, struct, list, wide, Trees, none, more, Fields, no_field, field, End, closed, any, each, DefinitionTree, definition, definitions, names, package_name, FileTree, file}
 
 -- a tree with 0 in place of each offset
 abbrev pub unplaced_mark : FieldMark → FieldMark
@@ -44,16 +44,16 @@ abbrev pub unplaced_definition : DefinitionTree → DefinitionTree
 unplaced_definition (definition s o e) = definition s 0 (unplaced e)
 
 abbrev pub unplaced_file : FileTree → FileTree
-unplaced_file f = file (package_name f) (map unplaced_definition (definitions f))
+unplaced_file f = file (package_name f) (map unplaced_definition (definitions f)) (names f)
 
 -- the first package clause of files
 abbrev pub first_clause : List FileTree → Option (List ℕ)
 first_clause [] = None
 first_clause (f ∷ fs) = option_or (package_name f) (first_clause fs)
 
--- the file that has all their definitions, in their order
+-- the file that has all their definitions, in their order, and no other names
 abbrev pub joined_file : List FileTree → FileTree
-joined_file fs = file (first_clause fs) (flat_map definitions fs)
+joined_file fs = file (first_clause fs) (flat_map definitions fs) []
 
 -- the source spells these files as one, apart from offsets
 pub record IsPrinted (source : List ℕ) (fs : List FileTree) : Type 0 where

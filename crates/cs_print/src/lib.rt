@@ -8,4 +8,4 @@ mod written;
 
 pub use cs_grammar::{Definition, Expr, Field, FieldMark, File, ListEnd, Relation};
 pub use file::source_of;
-pub use written::{printed_sources_are_read, spelled_files_are_written};
+pub use written::{printed_sources_are_read, spelled_files_are_namable, spelled_files_are_written};

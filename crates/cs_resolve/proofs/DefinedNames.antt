@@ -1,10 +1,10 @@
 -- What is said of each word that spells a file is said of the names that the file defines.
 use Rattle.std.proofs.Common.{ℕ, List}
 use Rattle.std.specs.List.{AllByRecursion}
-use Rattle.cs_grammar.specs.Tree.{DefinitionTree, defined_name, FileTree, definitions}
+use Rattle.cs_grammar.specs.Tree.{DefinitionTree, defined_name, NameTree, FileTree, definitions}
 use Rattle.cs_grammar.specs.Words.{Word, Words, definition_name}
-use Rattle.cs_grammar.specs.Spells.{SpellsDefinition, defined, SpellsDefinitions, no_definition, next_definition, SpellsFile, spelled}
-use Rattle.cs_grammar.proofs.Rests.{IsRest, whole, behind, then, of_comma, of_definition, of_package}
+use Rattle.cs_grammar.specs.Spells.{SpellsDefinition, defined, SpellsDefinitions, no_definition, next_definition, SpellsWideFile, no_line, definition_line, name_line, SpellsFile, spelled, wide_spelled}
+use Rattle.cs_grammar.proofs.Rests.{IsRest, whole, behind, then, of_comma, of_definition, of_file_name, of_package}
 
 module _ (P : Word → Type 0) where
   abbrev Each : Words → Type 0
@@ -26,5 +26,11 @@ module _ (P : Word → Type 0) where
     of_definitions no_definition h = tt
     of_definitions (next_definition s c k) h = (of_name s h, of_definitions k (each_rest (then (of_definition s) (of_comma c)) h))
 
+    of_wide_file : {ds : List DefinitionTree} {ns : List NameTree} {ts r : Words} → SpellsWideFile ds ns ts r → Each ts → AllByRecursion Named ds
+    of_wide_file no_line h = tt
+    of_wide_file (definition_line s c k) h = (of_name s h, of_wide_file k (each_rest (then (of_definition s) (of_comma c)) h))
+    of_wide_file (name_line n c k) h = of_wide_file k (each_rest (then (of_file_name n) (of_comma c)) h)
+
     pub of_file : {f : FileTree} {ts : Words} → SpellsFile f ts → Each ts → AllByRecursion Named (definitions f)
     of_file (spelled p k) h = of_definitions k (each_rest (of_package p) h)
+    of_file (wide_spelled p k) h = of_wide_file k (each_rest (of_package p) h)

@@ -32,7 +32,7 @@ b_and opened = more (reference (codes "B") 4) (more (literal 9 opened) none)
 
 -- a file with `#B: {k: int}`, and one with `#C: e`
 abbrev with_b : Tree → List FileTree
-with_b e = file None (base ∷ []) ∷ file None (definition (codes "C") 0 e ∷ []) ∷ []
+with_b e = file None (base ∷ []) [] ∷ file None (definition (codes "C") 0 e ∷ []) [] ∷ []
 
 -- the plain refinements of `#B: {k: int}` alone
 abbrev of_base : Refinements
@@ -70,7 +70,7 @@ alone : IsOpened no_refinements (with_b (literal 4 false))
 alone = (inl (omega arith), (inl (omega arith), (inl (omega arith), (inl (omega arith), tt))))
 
 -- `#B: {k: int}` in one file and `#B: #C` in the next: the bodies of a name are a conjunction
-two_bodies : ¬ IsOpened no_refinements (file None (base ∷ []) ∷ file None (definition (codes "B") 0 (reference (codes "C") 4) ∷ []) ∷ [])
+two_bodies : ¬ IsOpened no_refinements (file None (base ∷ []) [] ∷ file None (definition (codes "B") 0 (reference (codes "C") 4) ∷ []) [] ∷ [])
 two_bodies h = by h.0
   where
     by : KeepsRule (literal 4 false ∷ reference (codes "C") 4 ∷ []) → ⊥
@@ -87,7 +87,7 @@ read_opened_now : resolved of_base (conjunction (b_and false)) ≡ cue.conjuncti
 read_opened_now = refl
 
 -- `#B: {k: int}` and `#C: int` with `#B: string`: all bodies of a name, by file and then by text
-each_body : environment_of_files no_refinements (file None (base ∷ definition (codes "C") 20 (named (codes "int") 24) ∷ []) ∷ file None (definition (codes "B") 0 (named (codes "string") 4) ∷ []) ∷ [])
+each_body : environment_of_files no_refinements (file None (base ∷ definition (codes "C") 20 (named (codes "int") 24) ∷ []) [] ∷ file None (definition (codes "B") 0 (named (codes "string") 4) ∷ []) [] ∷ [])
     ≡ (codes "B", k_int false ∷ cue.kind cue.string ∷ []) ∷ (codes "C", cue.kind cue.int ∷ []) ∷ []
 each_body = refl
 
@@ -117,5 +117,5 @@ not_opened E h = narrowed h.opened
 not_resolved : (E : Environment) → ¬ IsPackageEarlier (with_b (reference (codes "D") 4)) E
 not_resolved E h = let e = h.resolved in cc
 
-two_names : (E : Environment) → ¬ IsPackageEarlier (file (Some (codes "p")) [] ∷ file (Some (codes "q")) [] ∷ []) E
+two_names : (E : Environment) → ¬ IsPackageEarlier (file (Some (codes "p")) [] [] ∷ file (Some (codes "q")) [] [] ∷ []) E
 two_names E h = let e : codes "p" ≡ codes "q" = h.agree 0 1 _ _ _ _ refl refl refl refl in omega (arith, ap (λ n. get_or n 0 0) e)

@@ -6,11 +6,12 @@ use Rattle.std.specs.Str.{bytes_eq}
 use Rattle.std.proofs.lemmas.List.Elements.{recursion_from_All}
 use Rattle.cs_grammar.specs.Source.{IsSpelledBy}
 use Rattle.cs_grammar.specs.Tree as T
-use Rattle.cs_grammar.specs.Tree.{Label, Tree, Trees, Fields, Declarations, End, DefinitionTree, defined_name, body, FileTree, definitions}
+use Rattle.cs_grammar.specs.Tree.{Label, Tree, Trees, Fields, Declarations, End, DefinitionTree, defined_name, body, NameTree, FileTree, definitions}
 use Rattle.cs_grammar.specs.Words.{Words}
 use Rattle.cs_grammar.specs.Written.{Place, IsWritten, AreWritten, AreWrittenFields, IsWrittenEnd, IsWrittenDefinition, IsWrittenFile}
-use Rattle.cs_grammar.specs.Spells.{is_null, literal_of, fields_alone, literal_if, SpellsBound, limit_is, other_number, other_text, other_null, SpellsValue, long, short, SpellsField, labelled, every_key, SpellsExpr, one_branch, disjunction_is, SpellsBars, no_bar, a_bar, SpellsBranch, unmarked, marked_is, SpellsConj, one_operand, conjunction_is, SpellsAmps, no_amp, an_amp, SpellsOperand, top_is, bottom_is, reference_is, name_is, number_is, text_is, bound_is, paren_is, struct_is, list_is, call_paren_is, shut_is, wide_struct_is, SpellsWideStruct, no_declarations, wide_dots_alone, some_declarations, SpellsDeclarations, a_field, an_embedding, a_conditional, SpellsMore, no_more, next_declaration, SpellsStruct, no_fields, dots_alone, fields, SpellsFields, no_more_fields, next_field, SpellsList, no_elements, rest_alone, elements, SpellsElements, no_more_elements, next_element, SpellsEnd, closed_is, rest_is, SpellsRest, any_is, each_is, SpellsDefinition, defined, SpellsDefinitions, no_definition, next_definition, SpellsFile, spelled}
+use Rattle.cs_grammar.specs.Spells.{is_null, literal_of, fields_alone, literal_if, SpellsBound, limit_is, other_number, other_text, other_null, SpellsValue, long, short, SpellsField, labelled, every_key, SpellsExpr, one_branch, disjunction_is, SpellsBars, no_bar, a_bar, SpellsBranch, unmarked, marked_is, SpellsConj, one_operand, conjunction_is, SpellsAmps, no_amp, an_amp, SpellsOperand, top_is, bottom_is, reference_is, name_is, number_is, text_is, bound_is, paren_is, struct_is, list_is, call_paren_is, shut_is, local_is, selected_is, wide_struct_is, SpellsWideStruct, no_declarations, wide_dots_alone, some_declarations, SpellsDeclarations, a_field, an_embedding, a_name, a_let, a_conditional, SpellsMore, no_more, next_declaration, SpellsStruct, no_fields, dots_alone, fields, SpellsFields, no_more_fields, next_field, SpellsList, no_elements, rest_alone, elements, SpellsElements, no_more_elements, next_element, SpellsEnd, closed_is, rest_is, SpellsRest, any_is, each_is, SpellsDefinition, defined, SpellsDefinitions, no_definition, next_definition, SpellsWideFile, no_line, definition_line, name_line, SpellsFile, spelled, wide_spelled}
 use Rattle.cs_grammar.specs.declared.ast.FieldMark.{FieldMark}
+use Rattle.cs_grammar.specs.declared.ast.FieldMark.TheVariants.{Regular}
 use Rattle.cs_package.specs.Environment.{IsDefinitionName}
 use Rattle.cs_resolve.specs.Refusal.{AreSpelled}
 use Rattle.cs_resolve.specs.WellFormed.{IsWellFormed, AreWellFormed, AreWellFormedFields, IsWellFormedEnd, IsWellFormedDefinition, IsWellFormedFile, AreWellFormedFiles}
@@ -90,6 +91,8 @@ mutual
   of_operand (list_is l) = of_list l
   of_operand (call_paren_is e c) = of_expr e
   of_operand (shut_is s e c) = tt
+  of_operand local_is = tt
+  of_operand (selected_is o b l) = tt
   of_operand (wide_struct_is {p} {ds} {b} is s) = subst IsWellFormed (sym is) (of_literal p ds b (fields_alone ds) (of_wide_struct s))
 
   of_wide_struct : {ds : Declarations} {b : Bool} {ts r : Words} → SpellsWideStruct ds b ts r → AreFormedAlone (fields_alone ds)
@@ -100,6 +103,8 @@ mutual
   of_declarations : {ds : Declarations} {ts r : Words} → SpellsDeclarations ds ts r → AreFormedAlone (fields_alone ds)
   of_declarations (a_field {l} {m} {e} {ds} f k) = formed_more l m e (fields_alone ds) (of_field f) (of_more k)
   of_declarations (an_embedding at e k) = tt
+  of_declarations (a_name {s} {o} {p} {e} {ds} at n v k) = formed_more (T.scoped_label s o) Regular e (fields_alone ds) (of_value v) (of_more k)
+  of_declarations (a_let {t} {s} {o} {p} {q} {e} {ds} is v k) = formed_more (T.scoped_label s o) Regular e (fields_alone ds) (of_expr v) (of_more k)
   of_declarations (a_conditional at c b e k) = tt
 
   of_more : {ds : Declarations} {ts r : Words} → SpellsMore ds ts r → AreFormedAlone (fields_alone ds)
@@ -142,8 +147,14 @@ of_definitions : {ds : List DefinitionTree} {ts r : Words} → SpellsDefinitions
 of_definitions no_definition h = tt
 of_definitions (next_definition d c ds) h = ((h.0, of_definition d), of_definitions ds h.1)
 
+of_wide_file : {ds : List DefinitionTree} {ns : List NameTree} {ts r : Words} → SpellsWideFile ds ns ts r → AreNamed ds → AllByRecursion IsWellFormedDefinition ds
+of_wide_file no_line h = tt
+of_wide_file (definition_line d c k) h = ((h.0, of_definition d), of_wide_file k h.1)
+of_wide_file (name_line n c k) h = of_wide_file k h
+
 of_file : {f : FileTree} {ts : Words} → SpellsFile f ts → AreNamed (definitions f) → IsWellFormedFile f
 of_file (spelled p ds) h = of_definitions ds h
+of_file (wide_spelled p ls) h = of_wide_file ls h
 
 of_source : (f : FileTree) → (t : List ℕ) × IsSpelledBy t f → IsWellFormedFile f
 of_source f h = of_file h.1.spelled (names-spelled h.0 f h.1)
@@ -188,4 +199,4 @@ written_definitions (T.definition s o e ∷ ds) h = ((name-written s h.0.0, writ
 
 pub written-formed : (fs : List FileTree) → AllByRecursion IsWrittenFile fs → AreWellFormedFiles fs
 written-formed [] h = tt
-written-formed (T.file c ds ∷ fs) h = (written_definitions ds h.0.1, written-formed fs h.1)
+written-formed (T.file c ds ns ∷ fs) h = (written_definitions ds h.0.1, written-formed fs h.1)

@@ -48,7 +48,7 @@ abbrev empty : Tree
 empty = struct 7 no_field false
 
 abbrev file_of : List DefinitionTree → FileTree
-file_of ds = file None ds
+file_of ds = file None ds []
 
 -- ---- predeclared names
 

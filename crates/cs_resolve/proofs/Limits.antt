@@ -23,7 +23,7 @@ nodes_wide (suc n) = let k = nodes_wide n in omega arith
 
 -- `#A: _ & _ & ..`, which has n + 1 nodes
 of_operands : ℕ → List FileTree
-of_operands n = file None (definition (codes "A") 0 (conjunction (wide n)) ∷ []) ∷ []
+of_operands n = file None (definition (codes "A") 0 (conjunction (wide n)) ∷ []) [] ∷ []
 
 nodes_of_operands : (n : ℕ) → nodes_of_files (of_operands n) ≡ n + 1
 unfolding of_operands
@@ -71,7 +71,7 @@ nodes_of_many zero = refl
 nodes_of_many (suc n) = let more = sum_by-cons (λ (d : DefinitionTree). nodes (body d)) (definition (n ∷ []) 0 (atom top)) (many n) in more ∙ ap (λ k. 1 + k) (nodes_of_many n) ∙ omega arith
 
 of_definitions : ℕ → List FileTree
-of_definitions n = file None (many n) ∷ []
+of_definitions n = file None (many n) [] ∷ []
 
 names_of_definitions : (n : ℕ) → length (names (flat_map definitions (of_definitions n))) ≡ n
 unfolding of_definitions

@@ -71,7 +71,7 @@ environment_of fs = environment_of_files (refined fs) fs
 
 -- a package of #B and of `#C: e`
 abbrev with_b : Tree → List FileTree
-with_b e = file None (base ∷ definition (codes "C") 20 e ∷ []) ∷ []
+with_b e = file None (base ∷ definition (codes "C") 20 e ∷ []) [] ∷ []
 
 -- ---- what is exempt
 
@@ -106,7 +106,7 @@ a_conjunction : conjunctions given (and b (struct 9 no_field true)) ≡ (b ∷ s
 a_conjunction = refl
 
 -- of files, where #C is declared in another one than #B
-in_files : unopened_of (file None (definition (codes "C") 0 (and b (x_at 9)) ∷ []) ∷ file None (base ∷ []) ∷ []) ≡ []
+in_files : unopened_of (file None (definition (codes "C") 0 (and b (x_at 9)) ∷ []) [] ∷ file None (base ∷ []) [] ∷ []) ≡ []
 in_files = refl
 
 -- ---- what isn't
@@ -137,23 +137,23 @@ of_itself = refl
 of_itself_by_nothing : unopened_of (with_b (and (to (codes "C")) (empty_at 29))) ≡ (0, 29) ∷ []
 of_itself_by_nothing = refl
 
-in_a_circle : unopened_of (file None (definition (codes "C") 0 (and (to (codes "D")) (empty_at 9)) ∷ definition (codes "D") 20 (and (to (codes "C")) (empty_at 29)) ∷ []) ∷ []) ≡ (0, 9) ∷ (0, 29) ∷ []
+in_a_circle : unopened_of (file None (definition (codes "C") 0 (and (to (codes "D")) (empty_at 9)) ∷ definition (codes "D") 20 (and (to (codes "C")) (empty_at 29)) ∷ []) [] ∷ []) ≡ (0, 9) ∷ (0, 29) ∷ []
 in_a_circle = refl
 
 -- `#D: #C & {k: "x"}` with `#C: #B & {}`: a plain refinement is a base, wherever it stands
-of_a_refinement : unopened_of (file None (definition (codes "D") 0 (and (x_at 9) (to (codes "C"))) ∷ definition (codes "C") 20 (and b (empty_at 29)) ∷ base ∷ []) ∷ []) ≡ []
+of_a_refinement : unopened_of (file None (definition (codes "D") 0 (and (x_at 9) (to (codes "C"))) ∷ definition (codes "C") 20 (and b (empty_at 29)) ∷ base ∷ []) [] ∷ []) ≡ []
 of_a_refinement = refl
 
 -- #B has two bodies: its own literal is at fault, and that of #C
-base_of_two_bodies : unopened_of (file None (base ∷ base ∷ definition (codes "C") 20 (and b (x_at 29)) ∷ []) ∷ []) ≡ (0, 4) ∷ (0, 4) ∷ (0, 29) ∷ []
+base_of_two_bodies : unopened_of (file None (base ∷ base ∷ definition (codes "C") 20 (and b (x_at 29)) ∷ []) [] ∷ []) ≡ (0, 4) ∷ (0, 4) ∷ (0, 29) ∷ []
 base_of_two_bodies = refl
 
 -- #C has two bodies, of which each asks
-two_refinements : unopened_of (file None (base ∷ definition (codes "C") 20 (and b (x_at 29)) ∷ definition (codes "C") 40 b ∷ []) ∷ []) ≡ (0, 29) ∷ []
+two_refinements : unopened_of (file None (base ∷ definition (codes "C") 20 (and b (x_at 29)) ∷ definition (codes "C") 40 b ∷ []) [] ∷ []) ≡ (0, 29) ∷ []
 two_refinements = refl
 
 -- #B ends with `...`, so it is no base
-open_base : unopened_of (file None (definition (codes "B") 0 (opened_at 4) ∷ definition (codes "C") 20 (and b (x_at 29)) ∷ []) ∷ []) ≡ (0, 29) ∷ []
+open_base : unopened_of (file None (definition (codes "B") 0 (opened_at 4) ∷ definition (codes "C") 20 (and b (x_at 29)) ∷ []) [] ∷ []) ≡ (0, 29) ∷ []
 open_base = refl
 
 -- ---- what is resolved

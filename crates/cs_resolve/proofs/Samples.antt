@@ -57,16 +57,16 @@ one_label : unopened no_refinements false (struct 4 (field (quoted (codes "a")) 
 one_label = refl
 
 -- `#A: {x: 1}` in one file and `#A: {...}` in the next: the literal of the first file
-two_files : unopened_of (file None (definition (codes "A") 0 (struct 4 (one (codes "x")) false) ∷ []) ∷ file None (definition (codes "A") 0 (struct 4 no_field true) ∷ []) ∷ []) ≡ (0, 4) ∷ []
+two_files : unopened_of (file None (definition (codes "A") 0 (struct 4 (one (codes "x")) false) ∷ []) [] ∷ file None (definition (codes "A") 0 (struct 4 no_field true) ∷ []) [] ∷ []) ≡ (0, 4) ∷ []
 two_files = refl
 
 -- `#A: {a: b: int, a: c: int}`: two short fields of one label, so both literals, each at its own label
 short_fields : unopened_of (file None (definition (codes "A") 0 (struct 4 (field (plain (codes "a")) Regular (struct 8 (field (plain (codes "b")) Regular (named (codes "int") 11) no_field) false)
-    (field (plain (codes "a")) Regular (struct 19 (field (plain (codes "c")) Regular (named (codes "int") 22) no_field) false) no_field)) false) ∷ []) ∷ []) ≡ (0, 8) ∷ (0, 19) ∷ []
+    (field (plain (codes "a")) Regular (struct 19 (field (plain (codes "c")) Regular (named (codes "int") 22) no_field) false) no_field)) false) ∷ []) [] ∷ []) ≡ (0, 8) ∷ (0, 19) ∷ []
 short_fields = refl
 
 -- `#B: 1` and `#A: {a: {x: 1}, ...}` in one file and `#A: #B` in the next: the literal inside the opened one
-inside_a_body : unopened_of (file None (definition (codes "B") 0 (atom (integer (pos 1))) ∷ definition (codes "A") 6 (struct 10 (field (plain (codes "a")) Regular (struct 14 (one (codes "x")) false) no_field) true) ∷ []) ∷ file None (definition (codes "A") 0 (reference (codes "B") 4) ∷ []) ∷ []) ≡ (0, 14) ∷ []
+inside_a_body : unopened_of (file None (definition (codes "B") 0 (atom (integer (pos 1))) ∷ definition (codes "A") 6 (struct 10 (field (plain (codes "a")) Regular (struct 14 (one (codes "x")) false) no_field) true) ∷ []) [] ∷ file None (definition (codes "A") 0 (reference (codes "B") 4) ∷ []) [] ∷ []) ≡ (0, 14) ∷ []
 inside_a_body = refl
 
 -- ---- the opening rule for `[string]`
@@ -114,11 +114,11 @@ every_in_each = refl
 -- ---- package names
 
 -- `package p`, no clause, `package q`: the third file
-third_file : differing_file (file (Some (codes "p")) [] ∷ file None [] ∷ file (Some (codes "q")) [] ∷ []) ≡ Some 2
+third_file : differing_file (file (Some (codes "p")) [] [] ∷ file None [] [] ∷ file (Some (codes "q")) [] [] ∷ []) ≡ Some 2
 third_file = refl
 
 -- no clause, `package p`, `package p`
-joins_any : differing_file (file None [] ∷ file (Some (codes "p")) [] ∷ file (Some (codes "p")) [] ∷ []) ≡ None
+joins_any : differing_file (file None [] [] ∷ file (Some (codes "p")) [] [] ∷ file (Some (codes "p")) [] [] ∷ []) ≡ None
 joins_any = refl
 
 -- ---- names
@@ -167,7 +167,7 @@ unknown_names : faults (codes "A" ∷ []) (places [] (conjunction (more (named (
 unknown_names = refl
 
 -- `#A: {x: #B}` in one file alone: the reference in file 0
-undeclared : faults_of_files (file None (definition (codes "A") 10 (struct 14 (field (plain (codes "x")) Regular (reference (codes "B") 18) no_field) false) ∷ []) ∷ []) ≡ (0, unknown 18) ∷ []
+undeclared : faults_of_files (file None (definition (codes "A") 10 (struct 14 (field (plain (codes "x")) Regular (reference (codes "B") 18) no_field) false) ∷ []) [] ∷ []) ≡ (0, unknown 18) ∷ []
 undeclared = refl
 
 -- `#A`, `#B`, `#A`: two names, in order of first declaration
@@ -177,7 +177,7 @@ two_names = refl
 -- ---- environments
 
 -- `#A: int`, `#B: 1`, `#A: >2 & 3`: two definitions, of which the first has two bodies
-two_bodies : environment_of_files no_refinements (file None (definition (codes "A") 0 (named (codes "int") 4) ∷ []) ∷ file None (definition (codes "B") 0 (atom (integer (pos 1))) ∷ []) ∷ file None (definition (codes "A") 0 (conjunction (more (atom (bound atoms.more (pos 2))) (more (atom (integer (pos 3))) none))) ∷ []) ∷ [])
+two_bodies : environment_of_files no_refinements (file None (definition (codes "A") 0 (named (codes "int") 4) ∷ []) [] ∷ file None (definition (codes "B") 0 (atom (integer (pos 1))) ∷ []) [] ∷ file None (definition (codes "A") 0 (conjunction (more (atom (bound atoms.more (pos 2))) (more (atom (integer (pos 3))) none))) ∷ []) [] ∷ [])
     ≡ (codes "A", cue.kind cue.int ∷ cue.conjunction (cue.expression (cue.atom (cue.bound cue.more (pos 2))) (cue.expression (cue.atom (cue.integer (pos 3))) cue.no_expressions)) ∷ []) ∷ (codes "B", cue.atom (cue.integer (pos 1)) ∷ []) ∷ []
 two_bodies = refl
 

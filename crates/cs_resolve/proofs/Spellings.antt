@@ -10,6 +10,7 @@ use Rattle.cs_grammar.specs.Tree.{FileTree, defined_name, definitions}
 use Rattle.cs_grammar.specs.TokenWords.{bare_name, mark_kind, wide_kind, word_of, word, words}
 use Rattle.cs_grammar.specs.Words as W
 use Rattle.cs_grammar.specs.Words.{Word}
+use Rattle.cs_grammar.specs.declared.kind.Kind.TheVariants as kinds
 use Rattle.cs_grammar.specs.declared.token.Sort.{Sort}
 use Rattle.cs_grammar.specs.declared.token.Sort.TheVariants as sorts
 use Rattle.cs_package.specs.Environment.{IsDefinitionName}
@@ -66,13 +67,21 @@ module _ (t : List ℕ) (o : ℕ) where
   of_mark : is_named (word_of (mark_kind t) t o) ≡ true
   of_mark = grind arith
 
-  of_wide : is_named (word_of (wide_kind t) t o) ≡ true
-  of_wide = grind arith
+  -- nor is a token that the wide profile reads in its own way that of a definition's
+  wide_named : (a b c : Bool) (k : List ℕ) → is_named (word_of (cond a kinds.OpenWide (cond b kinds.OpenCall (cond c kinds.Local kinds.LeftOut))) k o) ≡ true
+  wide_named true b c k = refl
+  wide_named false true c k = refl
+  wide_named false false true k = refl
+  wide_named false false false k = refl
+
+  of_wide : (k : List ℕ) → is_named (word_of (wide_kind k) k o) ≡ true
+  of_wide [] = refl
+  of_wide (x ∷ xs) = wide_named (x == 123) (x == 40) (x == 95) (x ∷ xs)
 
   of_token : (s : Sort) → sort_of t ≡ Some s → is_named (word (lexeme s t o)) ≡ true
   of_token sorts.Definition h = bare t h
   of_token sorts.Mark h = of_mark
-  of_token sorts.Wide h = of_wide
+  of_token sorts.Wide h = of_wide t
   of_token _ h = refl
 
 -- ---- the cut

@@ -2,11 +2,17 @@
 use crate::source::Separator::{Amp, Bar, Colon, Comma};
 use crate::source::{Bracket, Inside, Separation, Separator, Source};
 use crate::tokens::{end_of, is_mark, precedes_declaration};
-use cs_grammar::{Sort, Token};
+use cs_grammar::{Profile, Sort, Token};
 use cs_place::Made;
 use std::alloc::Global;
 use std::iter::successors;
 use std::mem;
+
+/// The names that refer to nothing, unless they are declared: those of kinds (CUE, predeclared identifiers), and of literals.
+const PREDECLARED: [&str; 15] = [
+    "int", "number", "string", "bool", "uint", "uint8", "int8", "uint16", "int16", "uint32",
+    "int32", "int64", "null", "true", "false",
+];
 
 /// A token among those of a source.
 #[derive(Clone, Copy)]
@@ -117,6 +123,41 @@ impl<'s, 'a> Near<'s, 'a> {
             && !self.source.ends_label(self.place.saturating_add(1))
     }
 
+    /// Whether a declaration begins with the token that is a `let`, and no field of this label.
+    pub fn begins_let(self) -> bool {
+        let here = self.here();
+        let is_let = here.sort == Sort::Name && here.text == "let";
+        is_let && self.begins_declaration() && !self.source.ends_label(self.place.saturating_add(1))
+    }
+
+    /// The token that has the name which a declaration gives that begins with the token: behind a `let`, and else itself.
+    pub fn name_declared(self) -> Near<'s, 'a> {
+        let behind = self.moved(1).unwrap_or(self);
+        if self.begins_let() { behind } else { self }
+    }
+
+    /// Whether the token refers to a definition, or to another name that a struct or a file declares: in sources that spell a package each name
+    /// does that is no label and not predeclared.
+    pub fn is_reference(self) -> bool {
+        let here = self.here();
+        let is_declared = self.source.ends_label(self.place.saturating_add(1));
+        match here.sort {
+            Sort::Definition | Sort::Hidden => !is_declared,
+            Sort::Name => {
+                let negations = usize::from(is_mark(self.before(1), "!"));
+                let word = self.before(negations.saturating_add(1)).text;
+                // A field that an `if` asks about, what a `let` binds, and these words themselves.
+                let is_of_clause = ["if", "let"].contains(&word)
+                    || ["if", "let"].contains(&here.text);
+                self.source.profile == Profile::Wide
+                    && !is_declared
+                    && !is_of_clause
+                    && !PREDECLARED.contains(&here.text)
+            }
+            _ => false,
+        }
+    }
+
     /// Whether the token is in the conditions of an `if` of a struct, or the first one that opens a struct there.
     pub fn is_in_condition(self) -> bool {
         let source = self.source;
@@ -148,6 +189,7 @@ impl<'s, 'a> Near<'s, 'a> {
         let first = declaration.first()?;
         let is_embedded = first.inside() == Inside::Struct
             && declaration.count(Colon) == 0
+            && !first.begins_let()
             && !is_mark(first.here(), "...");
         is_embedded.then_some(declaration)
     }
@@ -275,7 +317,8 @@ impl<'s, 'a> Part<'s, 'a> {
             let token = self.source.token(place);
             // A colon is that of a short form, which is a struct.
             let is_struct = is_mark(token, "{") || is_mark(token, ":");
-            token.sort != Sort::Definition && !is_struct
+            let source = self.source;
+            !Near { source, place }.is_reference() && !is_struct
         })
     }
 
@@ -290,7 +333,7 @@ impl<'s, 'a> Part<'s, 'a> {
         let (mut passed_to, mut embedded_to) = (0, 0);
         for place in self.from..self.to {
             let near = Near { source, place };
-            if place >= passed_to && near.here().sort == Sort::Definition {
+            if place >= passed_to && near.is_reference() {
                 return Some(near);
             }
             let is_field = near.begins_declaration() && near.part().count(Colon) > 0;
@@ -317,8 +360,11 @@ impl<'s, 'a> Part<'s, 'a> {
             .nth(place)
     }
 
-    /// What is declared by this declaration: what is behind its first colon.
+    /// What is declared by this declaration: what is behind its first colon, or behind the `=` of a `let`.
     pub fn declared(self) -> Option<Part<'s, 'a>> {
+        if self.first()?.begins_let() {
+            return Some(self.between(self.from.checked_add(3)?, self.to));
+        }
         let colon = self.separations(Colon).first()?.2;
         Some(self.between(colon.checked_add(1)?, self.to))
     }

@@ -1,51 +1,61 @@
 -- What may follow an expression, and what begins one: so a reader with one word of look-ahead takes it for nothing else.
-use Rattle.std.proofs.Common.{◌≡◌, ℕ, ℤ, Bool, true, false, cond, List, ◌∷◌, Some, None, refl, sym, ◌∙◌}
+use Rattle.std.proofs.Common.{◌≡◌, ℕ, ℤ, Bool, true, false, cond, List, ◌∷◌, Some, None, refl, sym, ap₂, ◌∙◌}
 use Rattle.std.proofs.lemmas.Slice.Eq.{bytes_eq-Decides}
 use Rattle.std.specs.Option.{unwrap_or}
-use Rattle.std.specs.Prelude.{codes}
+use Rattle.std.specs.Prelude.{◌||◌, codes}
 use Rattle.std.specs.Str.{bytes_eq}
 use Rattle.cs_grammar.specs.declared.kind.Kind.TheVariants as kinds
 use Rattle.cs_grammar.specs.Atom as atoms
 use Rattle.cs_grammar.specs.Atom.{Relation, top, bottom, integer, text, not_integer, not_text, not_null}
 use Rattle.cs_grammar.specs.Words.{Words, open_struct, open_wide, relation}
 use Rattle.cs_grammar.specs.Tree as T
-use Rattle.cs_grammar.specs.Tree.{Tree, Trees, Fields, Declarations, End}
-use Rattle.cs_grammar.specs.Spells.{is_reserved, is_null, is_if, is_close, is_braced, literal_of, Comma, explicit, inserted, ClosesParen, paren_here, paren_after, ClosesList, list_here, list_after, ClosesStruct, struct_here, struct_after, SpellsNumber, positive, negative, SpellsBound, limit_is, other_number, other_text, other_null, SpellsOpening, unopened, opened, SpellsExpr, one_branch, disjunction_is, SpellsBars, no_bar, a_bar, SpellsBranch, unmarked, marked_is, SpellsConj, one_operand, conjunction_is, SpellsAmps, no_amp, an_amp, SpellsOperand, top_is, bottom_is, reference_is, name_is, number_is, text_is, bound_is, paren_is, struct_is, list_is, call_paren_is, shut_is, wide_struct_is, SpellsMore, no_more, next_declaration, SpellsFields, no_more_fields, next_field, SpellsElements, no_more_elements, next_element, SpellsEnd, closed_is, rest_is}
+use Rattle.cs_grammar.specs.Tree.{Selector, Tree, Trees, Fields, Declarations, End}
+use Rattle.cs_grammar.specs.Spells.{is_reserved, is_null, is_if, is_let, is_close, is_braced, literal_of, Comma, explicit, inserted, ClosesParen, paren_here, paren_after, ClosesList, list_here, list_after, ClosesStruct, struct_here, struct_after, SpellsNumber, positive, negative, SpellsBound, limit_is, other_number, other_text, other_null, SpellsName, hashed, underscored, SpellsBase, name_base, field_base, SpellsSelector, by_name, by_label, by_text, SpellsSelectors, last_selector, next_selector, SpellsOpening, unopened, opened, SpellsExpr, one_branch, disjunction_is, SpellsBars, no_bar, a_bar, SpellsBranch, unmarked, marked_is, SpellsConj, one_operand, conjunction_is, SpellsAmps, no_amp, an_amp, SpellsOperand, top_is, bottom_is, reference_is, name_is, number_is, text_is, bound_is, paren_is, struct_is, list_is, call_paren_is, shut_is, local_is, selected_is, wide_struct_is, SpellsMore, no_more, next_declaration, SpellsFields, no_more_fields, next_field, SpellsElements, no_more_elements, next_element, SpellsEnd, closed_is, rest_is}
 use Rattle.cs_syntax.specs.Reading.{after, begins_with, begins_comma, goes_on_label, begins_field, begins_if}
 use Rattle.cs_syntax.proofs.BracketLabels.{list_no_label}
 use Rattle.cs_syntax.proofs.Calls.{close_stands}
 
 -- ---- what follows an expression
 
--- no operator goes on here, and no label
+-- no operator goes on here, no label, no call and no selector
 pub record Quiet (ts : Words) : Type 0 where
   pub no_amp_here : after kinds.Amp ts ≡ None
   pub no_bar_here : after kinds.Bar ts ≡ None
   pub no_label : goes_on_label ts ≡ false
   pub no_call : begins_with kinds.OpenCall ts ≡ false
+  pub no_dot : begins_with kinds.Dot ts ≡ false
 
--- no `&` goes on here, and `close` isn't called
+-- no `&` goes on here, `close` isn't called, and no selector stands
 pub record Ended (ts : Words) : Type 0 where
   pub no_amp_here : after kinds.Amp ts ≡ None
   pub no_call : begins_with kinds.OpenCall ts ≡ false
+  pub no_dot : begins_with kinds.Dot ts ≡ false
+
+-- `close` isn't called here, and no selector stands
+pub record Alone (ts : Words) : Type 0 where
+  pub no_call : begins_with kinds.OpenCall ts ≡ false
+  pub no_dot : begins_with kinds.Dot ts ≡ false
 
 pub quiet_ended : {ts : Words} → Quiet ts → Ended ts
-quiet_ended q = record { no_amp_here = q.no_amp_here; no_call = q.no_call }
+quiet_ended q = record { no_amp_here = q.no_amp_here; no_call = q.no_call; no_dot = q.no_dot }
+
+pub ended_alone : {ts : Words} → Ended ts → Alone ts
+ended_alone q = record { no_call = q.no_call; no_dot = q.no_dot }
 
 pub quiet_comma : {ts r : Words} → Comma ts r → Quiet ts
-quiet_comma explicit = record { no_amp_here = refl; no_bar_here = refl; no_label = refl; no_call = refl }
-quiet_comma inserted = record { no_amp_here = refl; no_bar_here = refl; no_label = refl; no_call = refl }
+quiet_comma explicit = record { no_amp_here = refl; no_bar_here = refl; no_label = refl; no_call = refl; no_dot = refl }
+quiet_comma inserted = record { no_amp_here = refl; no_bar_here = refl; no_label = refl; no_call = refl; no_dot = refl }
 
 pub quiet_closes_paren : {ts r : Words} → ClosesParen ts r → Quiet ts
-quiet_closes_paren paren_here = record { no_amp_here = refl; no_bar_here = refl; no_label = refl; no_call = refl }
-quiet_closes_paren paren_after = record { no_amp_here = refl; no_bar_here = refl; no_label = refl; no_call = refl }
+quiet_closes_paren paren_here = record { no_amp_here = refl; no_bar_here = refl; no_label = refl; no_call = refl; no_dot = refl }
+quiet_closes_paren paren_after = record { no_amp_here = refl; no_bar_here = refl; no_label = refl; no_call = refl; no_dot = refl }
 
 pub quiet_closes_list : {ts r : Words} → ClosesList ts r → Quiet ts
-quiet_closes_list list_here = record { no_amp_here = refl; no_bar_here = refl; no_label = refl; no_call = refl }
+quiet_closes_list list_here = record { no_amp_here = refl; no_bar_here = refl; no_label = refl; no_call = refl; no_dot = refl }
 quiet_closes_list (list_after c) = quiet_comma c
 
 quiet_closes_struct : {ts r : Words} → ClosesStruct ts r → Quiet ts
-quiet_closes_struct struct_here = record { no_amp_here = refl; no_bar_here = refl; no_label = refl; no_call = refl }
+quiet_closes_struct struct_here = record { no_amp_here = refl; no_bar_here = refl; no_label = refl; no_call = refl; no_dot = refl }
 quiet_closes_struct (struct_after c) = quiet_comma c
 
 pub quiet_opening : {b : Bool} {ts r : Words} → SpellsOpening b ts r → Quiet ts
@@ -62,26 +72,26 @@ quiet_more (next_declaration c d) q = quiet_comma c
 
 pub quiet_end : {end : End} {ts r : Words} → SpellsEnd end ts r → Quiet ts
 quiet_end (closed_is c) = quiet_closes_list c
-quiet_end (rest_is s) = record { no_amp_here = refl; no_bar_here = refl; no_label = refl; no_call = refl }
+quiet_end (rest_is s) = record { no_amp_here = refl; no_bar_here = refl; no_label = refl; no_call = refl; no_dot = refl }
 
 pub quiet_elements : {es : Trees} {ts r : Words} → SpellsElements es ts r → Quiet r → Quiet ts
 quiet_elements no_more_elements q = q
-quiet_elements (next_element e es) q = record { no_amp_here = refl; no_bar_here = refl; no_label = refl; no_call = refl }
+quiet_elements (next_element e es) q = record { no_amp_here = refl; no_bar_here = refl; no_label = refl; no_call = refl; no_dot = refl }
 
 -- an operator of the outer level ends the inner one
 pub ended-bars : {es : Trees} {ts r : Words} → SpellsBars es ts r → Ended r → Ended ts
 ended-bars no_bar h = h
-ended-bars (a_bar c b) h = record { no_amp_here = refl; no_call = refl }
+ended-bars (a_bar c b) h = record { no_amp_here = refl; no_call = refl; no_dot = refl }
 
-pub no_call-amps : {es : Trees} {ts r : Words} → SpellsAmps es ts r → begins_with kinds.OpenCall r ≡ false → begins_with kinds.OpenCall ts ≡ false
-no_call-amps no_amp h = h
-no_call-amps (an_amp o a) h = refl
+pub alone-amps : {es : Trees} {ts r : Words} → SpellsAmps es ts r → Alone r → Alone ts
+alone-amps no_amp h = h
+alone-amps (an_amp o a) h = record { no_call = refl; no_dot = refl }
 
-no_label-bars : {es : Trees} {ts r : Words} → SpellsBars es ts r → goes_on_label r ≡ false → goes_on_label ts ≡ false
+pub no_label-bars : {es : Trees} {ts r : Words} → SpellsBars es ts r → goes_on_label r ≡ false → goes_on_label ts ≡ false
 no_label-bars no_bar h = h
 no_label-bars (a_bar c b) h = refl
 
-no_label-amps : {es : Trees} {ts r : Words} → SpellsAmps es ts r → goes_on_label r ≡ false → goes_on_label ts ≡ false
+pub no_label-amps : {es : Trees} {ts r : Words} → SpellsAmps es ts r → goes_on_label r ≡ false → goes_on_label ts ≡ false
 no_label-amps no_amp h = h
 no_label-amps (an_amp o a) h = refl
 
@@ -112,6 +122,12 @@ bound_open (other_number n) = record { no_list_end = refl; no_dots = refl; not_l
 bound_open other_text = record { no_list_end = refl; no_dots = refl; not_list_end = refl; no_struct_end = refl; not_struct_end = refl; not_dots = refl; no_comma = refl }
 bound_open (other_null h) = record { no_list_end = refl; no_dots = refl; not_list_end = refl; no_struct_end = refl; not_struct_end = refl; not_dots = refl; no_comma = refl }
 
+-- a name that selectors stand behind
+base_open : {s : List ℕ} {ts r : Words} → SpellsBase s ts r → IsOpen ts
+base_open (name_base hashed) = record { no_list_end = refl; no_dots = refl; not_list_end = refl; no_struct_end = refl; not_struct_end = refl; not_dots = refl; no_comma = refl }
+base_open (name_base underscored) = record { no_list_end = refl; no_dots = refl; not_list_end = refl; no_struct_end = refl; not_struct_end = refl; not_dots = refl; no_comma = refl }
+base_open (field_base h) = record { no_list_end = refl; no_dots = refl; not_list_end = refl; no_struct_end = refl; not_struct_end = refl; not_dots = refl; no_comma = refl }
+
 operand_open : {e : Tree} {ts r : Words} → SpellsOperand e ts r → IsOpen ts
 operand_open top_is = record { no_list_end = refl; no_dots = refl; not_list_end = refl; no_struct_end = refl; not_struct_end = refl; not_dots = refl; no_comma = refl }
 operand_open bottom_is = record { no_list_end = refl; no_dots = refl; not_list_end = refl; no_struct_end = refl; not_struct_end = refl; not_dots = refl; no_comma = refl }
@@ -124,6 +140,8 @@ operand_open (paren_is e c) = record { no_list_end = refl; no_dots = refl; not_l
 operand_open (struct_is s) = record { no_list_end = refl; no_dots = refl; not_list_end = refl; no_struct_end = refl; not_struct_end = refl; not_dots = refl; no_comma = refl }
 operand_open (call_paren_is e c) = record { no_list_end = refl; no_dots = refl; not_list_end = refl; no_struct_end = refl; not_struct_end = refl; not_dots = refl; no_comma = refl }
 operand_open (shut_is s e c) = record { no_list_end = refl; no_dots = refl; not_list_end = refl; no_struct_end = refl; not_struct_end = refl; not_dots = refl; no_comma = refl }
+operand_open local_is = record { no_list_end = refl; no_dots = refl; not_list_end = refl; no_struct_end = refl; not_struct_end = refl; not_dots = refl; no_comma = refl }
+operand_open (selected_is o b l) = base_open b
 operand_open (wide_struct_is e s) = record { no_list_end = refl; no_dots = refl; not_list_end = refl; no_struct_end = refl; not_struct_end = refl; not_dots = refl; no_comma = refl }
 operand_open (list_is s) = record { no_list_end = refl; no_dots = refl; not_list_end = refl; no_struct_end = refl; not_struct_end = refl; not_dots = refl; no_comma = refl }
 
@@ -138,6 +156,20 @@ branch_open (marked_is c) = record { no_list_end = refl; no_dots = refl; not_lis
 pub expr_open : {e : Tree} {ts r : Words} → SpellsExpr e ts r → IsOpen ts
 expr_open (one_branch c) = branch_open c
 expr_open (disjunction_is c b) = branch_open c
+
+selector_no_label : {l : Selector} {ts r : Words} → SpellsSelector l ts r → goes_on_label ts ≡ false
+selector_no_label (by_name o n) = refl
+selector_no_label by_label = refl
+selector_no_label by_text = refl
+
+selectors_no_label : {ls : List Selector} {ts r : Words} → SpellsSelectors ls ts r → goes_on_label ts ≡ false
+selectors_no_label (last_selector l) = selector_no_label l
+selectors_no_label (next_selector l ls) = selector_no_label l
+
+selected_no_field : {s : List ℕ} {ls : List Selector} {ts us r : Words} → SpellsBase s ts us → SpellsSelectors ls us r → begins_field ts ≡ false
+selected_no_field (name_base hashed) l = refl
+selected_no_field (name_base underscored) l = refl
+selected_no_field (field_base h) l = ap₂ (λ a b. a || b) h.0 (selectors_no_label l)
 
 -- no expression with nothing behind it that goes on a label is a field
 operand_no_field : {e : Tree} {ts r : Words} → SpellsOperand e ts r → goes_on_label r ≡ false → begins_field ts ≡ false
@@ -156,6 +188,8 @@ operand_no_field (paren_is e c) q = refl
 operand_no_field (struct_is s) q = refl
 operand_no_field (call_paren_is e c) q = refl
 operand_no_field (shut_is {s} h e c) q = rw (close_stands s h) refl
+operand_no_field local_is q = refl
+operand_no_field (selected_is o b l) q = selected_no_field b l
 operand_no_field (wide_struct_is e s) q = refl
 operand_no_field (list_is s) q = list_no_label s q
 
@@ -178,6 +212,11 @@ relation_no_star atoms.at_most p ts = refl
 relation_no_star atoms.more p ts = refl
 relation_no_star atoms.at_least p ts = refl
 
+base_no_star : {s : List ℕ} {ts r : Words} → SpellsBase s ts r → after kinds.Star ts ≡ None
+base_no_star (name_base hashed) = refl
+base_no_star (name_base underscored) = refl
+base_no_star (field_base h) = refl
+
 operand_no_star : {e : Tree} {ts r : Words} → SpellsOperand e ts r → after kinds.Star ts ≡ None
 operand_no_star top_is = refl
 operand_no_star bottom_is = refl
@@ -195,6 +234,8 @@ operand_no_star (struct_is s) = refl
 operand_no_star (list_is s) = refl
 operand_no_star (call_paren_is e c) = refl
 operand_no_star (shut_is s e c) = refl
+operand_no_star local_is = refl
+operand_no_star (selected_is o b l) = base_no_star b
 operand_no_star (wide_struct_is e s) = refl
 
 pub conj_no_star : {e : Tree} {ts r : Words} → SpellsConj e ts r → after kinds.Star ts ≡ None
@@ -211,8 +252,23 @@ no_if s h = by (is_if s) refl
         let same : s ≡ codes "if" = (bytes_eq-Decides s (codes "if")).0 e in
         let never : true ≡ false = rw same at h in absurd cc
 
+-- nor with `let`
+pub no_let : (s : List ℕ) → is_reserved s ≡ false → is_let s ≡ false
+no_let s h = by (is_let s) refl
+  where
+    by : (b : Bool) → is_let s ≡ b → b ≡ false
+    by false e = refl
+    by true e =
+        let same : s ≡ codes "let" = (bytes_eq-Decides s (codes "let")).0 e in
+        let never : true ≡ false = rw same at h in absurd cc
+
 close_no_if : (s : List ℕ) → is_close s ≡ true → is_if s ≡ false
 close_no_if s h = no_if s (close_stands s h)
+
+base_no_if : {s : List ℕ} {ts r : Words} → SpellsBase s ts r → begins_if ts ≡ false
+base_no_if (name_base hashed) = refl
+base_no_if (name_base underscored) = refl
+base_no_if (field_base {s} h) = no_if s h.0
 
 operand_no_if : {e : Tree} {ts r : Words} → SpellsOperand e ts r → begins_if ts ≡ false
 operand_no_if top_is = refl
@@ -231,6 +287,8 @@ operand_no_if (struct_is s) = refl
 operand_no_if (list_is s) = refl
 operand_no_if (call_paren_is e c) = refl
 operand_no_if (shut_is {s} h e c) = close_no_if s h
+operand_no_if local_is = refl
+operand_no_if (selected_is o b l) = base_no_if b
 operand_no_if (wide_struct_is e s) = refl
 
 conj_no_if : {e : Tree} {ts r : Words} → SpellsConj e ts r → begins_if ts ≡ false
@@ -282,6 +340,8 @@ operand_braced (struct_is s) h = narrow_brace
 operand_braced {e} (list_is s) h = unbraced e h refl
 operand_braced {e} (call_paren_is k c) h = unbraced e h refl
 operand_braced {e} (shut_is s k c) h = unbraced e h refl
+operand_braced {e} local_is h = unbraced e h refl
+operand_braced {e} (selected_is o b l) h = unbraced e h refl
 operand_braced (wide_struct_is is s) h = wide_brace
 
 conj_braced : {e : Tree} {ts r : Words} → SpellsConj e ts r → is_braced e ≡ true → OpensBrace ts

@@ -3,12 +3,30 @@ use Rattle.std.proofs.Common.{◌≡◌, ℕ, Bool, true, false, List, [], ◌�
 use Rattle.std.specs.Prelude.{◌&&◌, ◌||◌}
 use Rattle.cs_grammar.specs.Atom as atoms
 use Rattle.cs_grammar.specs.declared.kind.Kind.TheVariants as kinds
-use Rattle.cs_grammar.specs.Words.{Words, name, close_list, relation}
-use Rattle.cs_grammar.specs.Tree.{Tree, Trees, End}
-use Rattle.cs_grammar.specs.Spells.{explicit, inserted, list_here, list_after, positive, negative, limit_is, other_number, other_text, other_null, SpellsExpr, one_branch, disjunction_is, SpellsBars, no_bar, a_bar, SpellsBranch, unmarked, marked_is, SpellsConj, one_operand, conjunction_is, SpellsAmps, no_amp, an_amp, SpellsOperand, top_is, bottom_is, reference_is, name_is, number_is, text_is, bound_is, paren_is, struct_is, list_is, call_paren_is, shut_is, wide_struct_is, SpellsList, no_elements, rest_alone, elements, SpellsElements, no_more_elements, next_element, SpellsEnd, closed_is, rest_is}
+use Rattle.cs_grammar.specs.Words.{Words, name, close_list, relation, dot}
+use Rattle.cs_grammar.specs.Tree.{Selector, Tree, Trees, End}
+use Rattle.cs_grammar.specs.Spells.{explicit, inserted, list_here, list_after, positive, negative, SpellsName, hashed, underscored, SpellsBase, name_base, field_base, SpellsSelector, by_name, by_label, by_text, SpellsSelectors, last_selector, next_selector, limit_is, other_number, other_text, other_null, SpellsExpr, one_branch, disjunction_is, SpellsBars, no_bar, a_bar, SpellsBranch, unmarked, marked_is, SpellsConj, one_operand, conjunction_is, SpellsAmps, no_amp, an_amp, SpellsOperand, top_is, bottom_is, reference_is, name_is, number_is, text_is, bound_is, paren_is, struct_is, list_is, call_paren_is, shut_is, local_is, selected_is, wide_struct_is, SpellsList, no_elements, rest_alone, elements, SpellsElements, no_more_elements, next_element, SpellsEnd, closed_is, rest_is}
 use Rattle.cs_syntax.specs.Reading.{begins_with, goes_on_label, begins_string, goes_on_bracket}
 
 -- ---- a list that begins with a name and `]`
+
+-- a `.` is here
+data Dotted : Words → Type 0 where
+  is_dotted : {p : ℕ} {r : Words} → Dotted (dot p ∷ r)
+
+selector_dotted : {l : Selector} {ts r : Words} → SpellsSelector l ts r → Dotted ts
+selector_dotted (by_name o n) = is_dotted
+selector_dotted by_label = is_dotted
+selector_dotted by_text = is_dotted
+
+dotted : {ls : List Selector} {ts r : Words} → SpellsSelectors ls ts r → Dotted ts
+dotted (last_selector l) = selector_dotted l
+dotted (next_selector l ls) = selector_dotted l
+
+selected_ends : {t s : List ℕ} {p q : ℕ} {ts vs us r : Words} → SpellsBase t ts vs → Dotted vs → ts ≡ name s p ∷ close_list q ∷ us → r ≡ close_list q ∷ us
+selected_ends (name_base hashed) d is = absurd cc
+selected_ends (name_base underscored) d is = absurd cc
+selected_ends (field_base h) is_dotted is = absurd cc
 
 operand_ends : {e : Tree} {s : List ℕ} {p q : ℕ} {ts us r : Words} → SpellsOperand e ts r → ts ≡ name s p ∷ close_list q ∷ us → r ≡ close_list q ∷ us
 operand_ends top_is is = absurd cc
@@ -27,6 +45,8 @@ operand_ends (struct_is s) is = absurd cc
 operand_ends (list_is s) is = absurd cc
 operand_ends (call_paren_is e c) is = absurd cc
 operand_ends (shut_is s e c) is = absurd cc
+operand_ends local_is is = absurd cc
+operand_ends (selected_is o b l) is = selected_ends b (dotted l) is
 operand_ends (wide_struct_is e s) is = absurd cc
 
 amps_end : {es : Trees} {q : ℕ} {ts us r : Words} → SpellsAmps es ts r → ts ≡ close_list q ∷ us → r ≡ close_list q ∷ us
@@ -74,7 +94,7 @@ first : (b c : Bool) → b || c ≡ false → b ≡ false
 first true c h = h
 first false c h = refl
 
-no_colon : (ts : Words) → goes_on_label ts ≡ false → begins_with kinds.Colon ts ≡ false
+pub no_colon : (ts : Words) → goes_on_label ts ≡ false → begins_with kinds.Colon ts ≡ false
 no_colon ts h = first (begins_with kinds.Colon ts) (begins_with kinds.Question ts || begins_with kinds.Bang ts) h
 
 -- what is behind the bracket of a list does not go on a label

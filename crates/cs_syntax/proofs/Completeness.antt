@@ -1,21 +1,22 @@
 -- What is spelled so is read.
-use Rattle.std.proofs.Common.{◌≡◌, ℕ, zero, suc, ◌<◌, ◌≤◌, ℤ, Bool, true, false, List, [], ◌∷◌, length, Option, Some, None, Ok, refl, ap, arith}
-use Rattle.std.specs.Prelude.{◌||◌, max}
+use Rattle.std.proofs.Common.{◌≡◌, ℕ, zero, suc, ◌<◌, ◌≤◌, ℤ, Bool, true, false, List, [], ◌∷◌, length, Option, Some, None, Ok, refl, ap, ◌∙◌, arith}
+use Rattle.std.specs.Prelude.{◌&&◌, ◌||◌, not, max}
 use Rattle.std.specs.Option.{unwrap_or}
 use Rattle.cs_grammar.specs.declared.kind.Kind.TheVariants as kinds
 use Rattle.cs_grammar.specs.Atom.{top, bottom, integer, text, not_integer, not_text, not_null}
 use Rattle.cs_grammar.specs.declared.ast.FieldMark.{FieldMark}
-use Rattle.cs_grammar.specs.declared.ast.FieldMark.TheVariants.{Every}
-use Rattle.cs_grammar.specs.Words.{Words, comma, name, open_list, colon, quoted, top_mark, bottom_mark, definition_name, unequal, close_struct, close_list, dots, finish}
-use Rattle.cs_grammar.specs.Tree.{Label, Condition, Tree, atom, reference, closed, named, Trees, none, more, Fields, no_field, field, Declarations, no_declaration, declared, embedded, conditional, End, DefinitionTree, body, FileTree}
+use Rattle.cs_grammar.specs.declared.ast.FieldMark.TheVariants.{Regular, Every}
+use Rattle.cs_grammar.specs.Words.{Word, Words, comma, assign, name, open_list, colon, quoted, top_mark, bottom_mark, definition_name, unequal, close_struct, close_list, dots, finish, wide_finish}
+use Rattle.cs_grammar.specs.Tree.{Label, scoped_label, Condition, Tree, atom, reference, closed, named, Trees, none, more, Fields, no_field, field, Declarations, no_declaration, declared, embedded, conditional, End, DefinitionTree, body, NameTree, FileTree}
 use Rattle.cs_grammar.specs.View.{trees_of, fields_of, Seen, declarations_of, SeenDeclaration, field_seen, embedding_seen, conditional_seen}
-use Rattle.cs_grammar.specs.Spells.{is_reserved, is_null, is_string, is_close, is_braced, every_label, start_at, literal_of, literal, Comma, explicit, inserted, ClosesParen, paren_here, paren_after, ClosesList, list_here, list_after, ClosesStruct, struct_here, struct_after, SpellsNumber, positive, negative, SpellsBound, limit_is, other_number, other_text, other_null, SpellsLabel, bare_label, quoted_label, SpellsMark, regular, optional, required, SpellsOpening, unopened, opened, SpellsConditions, SpellsValue, long, short, SpellsField, labelled, every_key, SpellsExpr, one_branch, disjunction_is, SpellsBars, no_bar, a_bar, SpellsBranch, unmarked, marked_is, SpellsConj, one_operand, conjunction_is, SpellsAmps, no_amp, an_amp, SpellsOperand, top_is, bottom_is, reference_is, name_is, number_is, text_is, bound_is, paren_is, struct_is, list_is, call_paren_is, shut_is, wide_struct_is, SpellsWideStruct, no_declarations, wide_dots_alone, some_declarations, a_field, an_embedding, a_conditional, SpellsMore, no_more, next_declaration, SpellsStruct, no_fields, dots_alone, fields, SpellsFields, no_more_fields, next_field, SpellsList, no_elements, rest_alone, elements, SpellsElements, no_more_elements, next_element, SpellsEnd, closed_is, rest_is, SpellsRest, any_is, each_is, SpellsDefinition, defined, SpellsDefinitions, no_definition, next_definition, SpellsPackage, no_clause, clause, SpellsFile, spelled}
-use Rattle.cs_grammar.proofs.Rests.{no_longer, of_conditions, of_field, of_expr, of_branch, of_operand, of_definition}
-use Rattle.cs_syntax.specs.Reading.{◌>>=◌, Read, after, begins_with, comma_at, close_at, paren_end, goes_on_label, begins_field, another_field, another_element, opening_at, may_end, number_at, bound_at, unequal_at, integer_at, unbracketed_at, label_at, mark_at, every_key_at, head_at, expected, field_with, fields_with, struct_with, begins_conditional, conditional_with, declaration_with, declarations_with, wide_struct_with, rest_with, end_with, elements_with, list_with, paren_with, uncalled_with, operand_with, amps_with, conj_with, branch_with, bars_with, expr_with, inner, definition_at, line_at, before_end, definitions_at, clause_at, package_at, file_with, file_at}
+use Rattle.cs_grammar.specs.Spells.{is_reserved, is_null, is_string, is_close, is_package, is_let, is_braced, every_label, start_at, literal_of, literal, Comma, explicit, inserted, ClosesParen, paren_here, paren_after, ClosesList, list_here, list_after, ClosesStruct, struct_here, struct_after, SpellsNumber, positive, negative, SpellsBound, limit_is, other_number, other_text, other_null, underscored, SpellsLabel, bare_label, quoted_label, SpellsMark, regular, optional, required, SpellsOpening, unopened, opened, SpellsConditions, SpellsValue, long, short, SpellsField, labelled, every_key, SpellsExpr, one_branch, disjunction_is, SpellsBars, no_bar, a_bar, SpellsBranch, unmarked, marked_is, SpellsConj, one_operand, conjunction_is, SpellsAmps, no_amp, an_amp, SpellsOperand, top_is, bottom_is, reference_is, name_is, number_is, text_is, bound_is, paren_is, struct_is, list_is, call_paren_is, shut_is, local_is, selected_is, wide_struct_is, SpellsWideStruct, no_declarations, wide_dots_alone, some_declarations, a_field, an_embedding, a_name, a_let, a_conditional, SpellsMore, no_more, next_declaration, SpellsStruct, no_fields, dots_alone, fields, SpellsFields, no_more_fields, next_field, SpellsList, no_elements, rest_alone, elements, SpellsElements, no_more_elements, next_element, SpellsEnd, closed_is, rest_is, SpellsRest, any_is, each_is, SpellsDefinition, defined, SpellsDefinitions, no_definition, next_definition, SpellsFileName, field_name, local_name, bound_name, SpellsWideFile, no_line, definition_line, name_line, SpellsPackage, no_clause, clause, SpellsFile, spelled, wide_spelled}
+use Rattle.cs_grammar.proofs.Rests.{IsRest, whole, behind, then, no_longer, of_conditions, of_scope_name, of_value, of_field, of_expr, of_branch, of_operand, of_definition, of_definitions, of_file_name, of_wide_file, of_package}
+use Rattle.cs_syntax.specs.Reading.{◌>>=◌, Read, after, begins_with, comma_at, close_at, paren_end, goes_on_label, begins_field, another_field, another_element, opening_at, may_end, number_at, bound_at, unequal_at, integer_at, unbracketed_at, label_at, mark_at, every_key_at, head_at, expected, field_with, fields_with, struct_with, begins_conditional, conditional_with, names_no_field, leaf_at, begins_scoped, name_head_at, scoped_with, declaration_with, declarations_with, wide_struct_with, many, rest_with, end_with, elements_with, list_with, paren_with, uncalled_with, operand_with, amps_with, conj_with, branch_with, bars_with, expr_with, inner, definition_at, line_at, begins_file_name, file_name_at, name_line_at, SeenLine, definition_seen, name_seen, definitions_seen, names_seen, any_line_at, before_end, lines_at, clause_at, package_at, ends_wide, file_with, file_at}
 use Rattle.cs_syntax.specs.Nesting.{nesting}
-use Rattle.cs_syntax.proofs.Boundaries.{Quiet, IsOpen, quiet_comma, quiet_closes_paren, quiet_closes_list, quiet_opening, quiet_fields, quiet_more, quiet_end, quiet_elements, Ended, quiet_ended, ended-bars, no_call-amps, expr_open, expr_no_field, conj_no_star, OpensBrace, expr_braced}
+use Rattle.cs_syntax.proofs.Boundaries.{Quiet, IsOpen, quiet_comma, quiet_closes_paren, quiet_closes_list, quiet_opening, quiet_fields, quiet_more, quiet_end, quiet_elements, Ended, quiet_ended, ended-bars, Alone, ended_alone, alone-amps, expr_open, expr_no_field, conj_no_star, OpensBrace, expr_braced}
 use Rattle.cs_syntax.proofs.ConditionsRead.{many_end, many_next, read_number, read_conditions, conditions_begin, conditions_open, and_false, field_no_conditional, expr_no_conditional}
-use Rattle.cs_syntax.proofs.NestingBounds.{inside, inside_all, inside_elements, inside_fields, inside_declarations, inside_literal, inside_end, inside_definitions, inside_file, inside_low, max_left, max_right}
+use Rattle.cs_syntax.proofs.NamesRead.{operand_selected, read_local, read_bound_head, read_scope_head, read_field_head, bound_begins, scope_begins, name_opens, scope_opens, field_no_scoped, conditions_no_scoped, expr_no_scoped, let_no_package}
+use Rattle.cs_syntax.proofs.NestingBounds.{inside, inside_all, inside_elements, inside_fields, inside_declarations, inside_literal, inside_end, inside_definitions, inside_names, inside_file, inside_low, max_left, max_right}
 
 -- a comma takes a word
 shorter_comma : {ts r : Words} → Comma ts r → length r < length ts
@@ -88,22 +89,22 @@ read_reference : (s : List ℕ) (p : ℕ) (r : Words) → unbracketed_at (defini
 unfolding unbracketed_at
 read_reference s p r = refl
 
--- a name that isn't called
-read_name : (f : Bool → Read Tree) (s : List ℕ) (e : Tree) (p : ℕ) (r : Words) → is_reserved s ≡ false → e ≡ unwrap_or (literal_of s) (named s p) → begins_with kinds.OpenCall r ≡ false → operand_with f (name s p ∷ r) ≡ Ok (e, r)
-unfolding operand_with uncalled_with unbracketed_at
-read_name f s e p r k is q = rw (q, and_false (is_close s), k, is) refl
+-- a name that isn't called and has no selectors
+read_name : (f : Bool → Read Tree) (s : List ℕ) (e : Tree) (p : ℕ) (r : Words) → is_reserved s ≡ false → e ≡ unwrap_or (literal_of s) (named s p) → Alone r → operand_with f (name s p ∷ r) ≡ Ok (e, r)
+unfolding operand_with uncalled_with leaf_at unbracketed_at
+read_name f s e p r k is q = rw (q.no_call, and_false (is_close s), q.no_dot, and_false (not (names_no_field s)), k, is) refl
 
 read_text : (s : List ℕ) (p : ℕ) (r : Words) → unbracketed_at (quoted s p ∷ r) ≡ Ok (atom (text s), r)
 unfolding unbracketed_at
 read_text s p r = refl
 
 plain_number : {z : ℤ} {ts r : Words} → SpellsNumber z ts r → (r' : Bool → Read Tree) → operand_with r' ts ≡ (number_at ts >>= λ y. Ok (atom (integer y.0), y.1))
-unfolding operand_with uncalled_with unbracketed_at integer_at
+unfolding operand_with uncalled_with leaf_at unbracketed_at integer_at
 plain_number (positive h) r' = refl
 plain_number (negative e h) r' = refl
 
 plain_bound : {e : Tree} {ts r : Words} → SpellsBound e ts r → (r' : Bool → Read Tree) → operand_with r' ts ≡ unbracketed_at ts
-unfolding operand_with uncalled_with
+unfolding operand_with uncalled_with leaf_at
 plain_bound (limit_is n) r' = refl
 plain_bound (other_number n) r' = refl
 plain_bound other_text r' = refl
@@ -260,11 +261,11 @@ literal_inside p ds b is h = omega (arith, h, ap inside is, inside_literal p ds 
 
 field_declared : (r : Bool → Read Tree) {l : Label} {m : FieldMark} {e : Tree} {ts us : Words} → SpellsField l m e ts us → field_with r ts ≡ Ok (record { label = l; mark = m; value = e }, us) → declaration_with r ts ≡ Ok (field_seen (record { label = l; mark = m; value = e }), us)
 unfolding declaration_with
-field_declared r f h = rw (field_no_conditional f, begins_label f, h) refl
+field_declared r f h = rw (field_no_scoped f, field_no_conditional f, begins_label f, h) refl
 
-expr_embedded : (d : ℕ) (ts : Words) {o : ℕ} {e : Tree} {us : Words} → o ≡ start_at ts → begins_conditional ts ≡ false → begins_field ts ≡ false → expr_with (inner d) ts ≡ Ok (e, us) → declaration_with (inner (suc d)) ts ≡ Ok (embedding_seen o e, us)
+expr_embedded : (d : ℕ) (ts : Words) {o : ℕ} {e : Tree} {us : Words} → o ≡ start_at ts → begins_scoped ts ≡ false → begins_conditional ts ≡ false → begins_field ts ≡ false → expr_with (inner d) ts ≡ Ok (e, us) → declaration_with (inner (suc d)) ts ≡ Ok (embedding_seen o e, us)
 unfolding declaration_with inner
-expr_embedded d ts s c n h = rw (c, n, h, s) refl
+expr_embedded d ts s x c n h = rw (x, c, n, h, s) refl
 
 conditions_read : (r : Bool → Read Tree) (ts : Words) {o : ℕ} {cs : List Condition} {e : Tree} {us vs : Words} → o ≡ start_at ts → SpellsConditions cs ts us → is_braced e ≡ true → OpensBrace us → r false us ≡ Ok (e, vs) → conditional_with r ts ≡ Ok (conditional_seen o cs e, vs)
 unfolding conditional_with
@@ -272,7 +273,11 @@ conditions_read r ts s cs b i h = rw (read_conditions cs (length ts) (omega arit
 
 conditional_declared : (r : Bool → Read Tree) (ts : Words) {o : ℕ} {cs : List Condition} {e : Tree} {us vs : Words} → o ≡ start_at ts → SpellsConditions cs ts us → is_braced e ≡ true → OpensBrace us → r false us ≡ Ok (e, vs) → declaration_with r ts ≡ Ok (conditional_seen o cs e, vs)
 unfolding declaration_with
-conditional_declared r ts s cs b i h = rw (conditions_begin cs, conditions_read r ts s cs b i h) refl
+conditional_declared r ts s cs b i h = rw (conditions_no_scoped cs, conditions_begin cs, conditions_read r ts s cs b i h) refl
+
+scoped_declared : (r : Bool → Read Tree) (ts : Words) {o : ℕ} {s : List ℕ} {b : Bool} {e : Tree} {us vs : Words} → o ≡ start_at ts → begins_scoped ts ≡ true → name_head_at ts ≡ Ok ((s, b), us) → r (not b) us ≡ Ok (e, vs) → declaration_with r ts ≡ Ok (field_seen (record { label = scoped_label s o; mark = Regular; value = e }), vs)
+unfolding declaration_with scoped_with
+scoped_declared r ts s k h v = rw (k, h, v, s) refl
 
 read_inside : (d : ℕ) (ts : Words) {e : Tree} {us : Words} → expr_with (inner d) ts ≡ Ok (e, us) → inner (suc d) false ts ≡ Ok (e, us)
 unfolding inner
@@ -281,7 +286,7 @@ read_inside d ts h = h
 -- ---- the whole grammar
 
 mutual
-  unfolding operand_with uncalled_with paren_with conj_with branch_with expr_with inner field_with rest_with
+  unfolding operand_with uncalled_with leaf_at paren_with conj_with branch_with expr_with inner field_with rest_with
 
   read_value : {e : Tree} {ts r : Words} → SpellsValue e ts r → (d : ℕ) → inside e ≤ d → Quiet r → inner (suc d) true ts ≡ Ok (e, r)
   read_value (long s) d h q = rw (expr_no_field s q.no_label) (read_expr s d h q)
@@ -307,18 +312,18 @@ mutual
   read_branch (marked_is c) d h q = rw (read_conj c d h q) refl
 
   read_conj : {e : Tree} {ts r : Words} → SpellsConj e ts r → (d : ℕ) → inside e ≤ d → Ended r → conj_with (inner d) ts ≡ Ok (e, r)
-  read_conj (one_operand {e} {ts} {r} o) d h q = rw (read_operand o d h q.no_call, many_end (after kinds.Amp) (operand_with (inner d)) (length r) r q.no_amp_here) refl
-  read_conj (conjunction_is {fs = fs} {us = us} o a) d h q = rw (read_operand o d (max_left _ _ h) (no_call-amps a q.no_call), read_amps a d (length us) (max_right _ _ h) (omega arith) q, trees_back fs) refl
+  read_conj (one_operand {e} {ts} {r} o) d h q = rw (read_operand o d h (ended_alone q), many_end (after kinds.Amp) (operand_with (inner d)) (length r) r q.no_amp_here) refl
+  read_conj (conjunction_is {fs = fs} {us = us} o a) d h q = rw (read_operand o d (max_left _ _ h) (alone-amps a (ended_alone q)), read_amps a d (length us) (max_right _ _ h) (omega arith) q, trees_back fs) refl
 
   read_amps : {es : Trees} {ts r : Words} → SpellsAmps es ts r → (d n : ℕ) → inside_all es ≤ d → length ts ≤ n → Ended r → amps_with (inner d) n ts ≡ Ok (trees_in es, r)
   read_amps (no_amp {r}) d n h k q = many_end (after kinds.Amp) (operand_with (inner d)) n r q.no_amp_here
   read_amps (an_amp o a) d zero h k q = let never : ⊥ = omega arith in absurd never
-  read_amps (an_amp o a) d (suc n) h k q = many_next (after kinds.Amp) (operand_with (inner d)) n refl (read_operand o d (max_left _ _ h) (no_call-amps a q.no_call)) (read_amps a d n (max_right _ _ h) (omega (arith, no_longer (of_operand o))) q)
+  read_amps (an_amp o a) d (suc n) h k q = many_next (after kinds.Amp) (operand_with (inner d)) n refl (read_operand o d (max_left _ _ h) (alone-amps a (ended_alone q))) (read_amps a d n (max_right _ _ h) (omega (arith, no_longer (of_operand o))) q)
 
-  read_operand : {e : Tree} {ts r : Words} → SpellsOperand e ts r → (d : ℕ) → inside e ≤ d → begins_with kinds.OpenCall r ≡ false → operand_with (inner d) ts ≡ Ok (e, r)
+  read_operand : {e : Tree} {ts r : Words} → SpellsOperand e ts r → (d : ℕ) → inside e ≤ d → Alone r → operand_with (inner d) ts ≡ Ok (e, r)
   read_operand (top_is {p} {r}) d h q = read_top p r
   read_operand (bottom_is {p} {r}) d h q = read_bottom p r
-  read_operand (reference_is {s} {p} {r}) d h q = read_reference s p r
+  read_operand (reference_is {s} {p} {r}) d h q = rw q.no_dot (read_reference s p r)
   read_operand (name_is {s} {e} {p} {r} k is) d h q = read_name (inner d) s e p r k is q
   read_operand (number_is n) d h q = rw (plain_number n (inner d), read_number n) refl
   read_operand (text_is {s} {p} {r}) d h q = read_text s p r
@@ -329,6 +334,8 @@ mutual
   read_operand (call_paren_is e c) (suc d) h q = rw (read_expr e d (omega (arith, h)) (quiet_closes_paren c), paren_end_is c) refl
   read_operand (shut_is s e c) zero h q = let never : ⊥ = omega (arith, h) in absurd never
   read_operand (shut_is s e c) (suc d) h q = rw (s, read_expr e d (omega (arith, h)) (quiet_closes_paren c), paren_end_is c) refl
+  read_operand (local_is {s} {p} {r}) d h q = rw q.no_dot (read_local s p r)
+  read_operand (selected_is o b l) d h q = operand_selected (inner d) o b l q.no_dot
   read_operand (struct_is {fs = fs} s) d h q = rw (read_struct s d h, fields_back fs) refl
   read_operand (wide_struct_is {p} {ds} {b} is s) d h q = rw (read_wide_struct s d (literal_inside p ds b is h), declarations_back ds, is) refl
   read_operand (list_is {es = es} s) d h q = rw (read_list s d h, trees_back es) refl
@@ -352,7 +359,19 @@ mutual
       let first : suc (inside x) ≤ suc d = max_left _ _ h in
       let begins = expr_open e in
       let q = quiet_more m (quiet_opening o) in
-      rw (wide_first (inner (suc d)) ts begins.no_struct_end begins.no_dots, expr_embedded d _ s (expr_no_conditional e) (expr_no_field e q.no_label) (read_expr e d (omega (arith, first)) q), read_more m (suc d) (length us) (max_right _ _ h) (omega arith) (quiet_opening o) (no_other_field o), opening_is o) refl
+      rw (wide_first (inner (suc d)) ts begins.no_struct_end begins.no_dots, expr_embedded d _ s (expr_no_scoped e q.no_label) (expr_no_conditional e) (expr_no_field e q.no_label) (read_expr e d (omega (arith, first)) q), read_more m (suc d) (length us) (max_right _ _ h) (omega arith) (quiet_opening o) (no_other_field o), opening_is o) refl
+  read_wide_struct (some_declarations (a_name s n v m) o) zero h = let none_in = max_left _ _ h in let never : ⊥ = omega (arith, none_in) in absurd never
+  read_wide_struct (some_declarations (a_name {e = x} {ts = ts} {vs = vs} s n v m) o) (suc d) h =
+      let first : suc (inside x) ≤ suc d = max_left _ _ h in
+      let begins = scope_opens n in
+      let q = quiet_more m (quiet_opening o) in
+      rw (wide_first (inner (suc d)) ts begins.no_struct_end begins.no_dots, scoped_declared (inner (suc d)) ts s (scope_begins n) (read_scope_head n) (read_value v d (omega (arith, first)) q), read_more m (suc d) (length vs) (max_right _ _ h) (omega arith) (quiet_opening o) (no_other_field o), opening_is o) refl
+  read_wide_struct (some_declarations (a_let l e m) o) zero h = let none_in = max_left _ _ h in let never : ⊥ = omega (arith, none_in) in absurd never
+  read_wide_struct (some_declarations (a_let {t} {s} {o = begin} {p} {q = mark} {e = x} {ts = ts} {us = us} l e m) o) (suc d) h =
+      let first : suc (inside x) ≤ suc d = max_left _ _ h in
+      let begins = name_opens t begin (name s p ∷ assign mark ∷ ts) in
+      let q = quiet_more m (quiet_opening o) in
+      rw (wide_first (inner (suc d)) (name t begin ∷ name s p ∷ assign mark ∷ ts) begins.no_struct_end begins.no_dots, scoped_declared (inner (suc d)) (name t begin ∷ name s p ∷ assign mark ∷ ts) refl (bound_begins t s begin p mark ts l) (read_bound_head t s begin p mark ts l) (read_inside d ts (read_expr e d (omega (arith, first)) q)), read_more m (suc d) (length us) (max_right _ _ h) (omega arith) (quiet_opening o) (no_other_field o), opening_is o) refl
   read_wide_struct (some_declarations (a_conditional s cs b e m) o) zero h = let none_in = max_left _ _ h in let never : ⊥ = omega (arith, none_in) in absurd never
   read_wide_struct (some_declarations (a_conditional {e = x} {ts = ts} {us = us} {vs = vs} s cs b e m) o) (suc d) h =
       let first : suc (inside x) ≤ suc d = max_left _ _ h in
@@ -368,7 +387,17 @@ mutual
   read_more (next_declaration c (an_embedding {e = y} s x m)) (suc d) (suc n) h k q e =
       let first : suc (inside y) ≤ suc d = max_left _ _ h in
       let l = quiet_more m q in
-      many_next another_field (declaration_with (inner (suc d))) n (another_open c (expr_open x)) (expr_embedded d _ s (expr_no_conditional x) (expr_no_field x l.no_label) (read_expr x d (omega (arith, first)) l)) (read_more m (suc d) n (max_right _ _ h) (omega (arith, shorter_comma c, no_longer (of_expr x))) q e)
+      many_next another_field (declaration_with (inner (suc d))) n (another_open c (expr_open x)) (expr_embedded d _ s (expr_no_scoped x l.no_label) (expr_no_conditional x) (expr_no_field x l.no_label) (read_expr x d (omega (arith, first)) l)) (read_more m (suc d) n (max_right _ _ h) (omega (arith, shorter_comma c, no_longer (of_expr x))) q e)
+  read_more (next_declaration c (a_name s y v m)) zero (suc n) h k q e = let none_in = max_left _ _ h in let never : ⊥ = omega (arith, none_in) in absurd never
+  read_more (next_declaration c (a_name {e = x} {ts = ts} s y v m)) (suc d) (suc n) h k q e =
+      let first : suc (inside x) ≤ suc d = max_left _ _ h in
+      let l = quiet_more m q in
+      many_next another_field (declaration_with (inner (suc d))) n (another_open c (scope_opens y)) (scoped_declared (inner (suc d)) ts s (scope_begins y) (read_scope_head y) (read_value v d (omega (arith, first)) l)) (read_more m (suc d) n (max_right _ _ h) (omega (arith, shorter_comma c, no_longer (of_scope_name y), no_longer (of_value v))) q e)
+  read_more (next_declaration c (a_let y x m)) zero (suc n) h k q e = let none_in = max_left _ _ h in let never : ⊥ = omega (arith, none_in) in absurd never
+  read_more (next_declaration c (a_let {t} {s} {o = begin} {p} {q = mark} {e = z} {ts = ts} y x m)) (suc d) (suc n) h k q e =
+      let first : suc (inside z) ≤ suc d = max_left _ _ h in
+      let l = quiet_more m q in
+      many_next another_field (declaration_with (inner (suc d))) n (another_open c (name_opens t begin (name s p ∷ assign mark ∷ ts))) (scoped_declared (inner (suc d)) (name t begin ∷ name s p ∷ assign mark ∷ ts) refl (bound_begins t s begin p mark ts y) (read_bound_head t s begin p mark ts y) (read_inside d ts (read_expr x d (omega (arith, first)) l))) (read_more m (suc d) n (max_right _ _ h) (omega (arith, shorter_comma c, no_longer (of_expr x))) q e)
   read_more (next_declaration c (a_conditional s cs b x m)) zero (suc n) h k q e = let none_in = max_left _ _ h in let never : ⊥ = omega (arith, none_in) in absurd never
   read_more (next_declaration c (a_conditional {e = y} {ts = ts} {us = us} s cs b x m)) (suc d) (suc n) h k q e =
       let first : suc (inside y) ≤ suc d = max_left _ _ h in
@@ -412,28 +441,130 @@ read_line : {d : DefinitionTree} {ts us r : Words} → SpellsDefinition d ts us 
 unfolding line_at
 read_line d c n h = rw (read_definition d n h (quiet_comma c), comma_is c) refl
 
+-- ---- lines of files
+
+definition_no_name : (w : Bool) {d : DefinitionTree} {ts r : Words} → SpellsDefinition d ts r → w && begins_file_name ts ≡ false
+definition_no_name w (defined v) = and_false w
+
+definition_read : (w : Bool) {d : DefinitionTree} {ts us r : Words} → SpellsDefinition d ts us → Comma us r → (n : ℕ) → suc (inside (body d)) ≤ n → any_line_at w n ts ≡ Ok (definition_seen d, r)
+unfolding any_line_at
+definition_read w d c n h = rw (definition_no_name w d, read_line d c n h) refl
+
+read_file_name : {x : NameTree} {ts r : Words} → SpellsFileName x ts r → (n : ℕ) → suc (inside x.value) ≤ n → Quiet r → file_name_at n ts ≡ Ok (x, r)
+unfolding file_name_at
+read_file_name (field_name k v) zero h q = let never : ⊥ = omega (arith, h) in absurd never
+read_file_name (field_name {s} {p} {q = c} {ts = ts} k v) (suc n) h q = rw (read_field_head s p c ts, read_value v n (omega (arith, h)) q) refl
+read_file_name (local_name v) zero h q = let never : ⊥ = omega (arith, h) in absurd never
+read_file_name (local_name {s} {p} {q = c} {ts = ts} v) (suc n) h q = rw (read_scope_head (underscored {s = s} {p = p} {r = colon c ∷ ts}), read_value v n (omega (arith, h)) q) refl
+read_file_name (bound_name l e) zero h q = let never : ⊥ = omega (arith, h) in absurd never
+read_file_name (bound_name {t} {s} {o} {p} {q = c} {ts = ts} l e) (suc n) h q = rw (read_bound_head t s o p c ts l, read_inside n ts (read_expr e n (omega (arith, h)) q)) refl
+
+read_name_line : {x : NameTree} {ts us r : Words} → SpellsFileName x ts us → Comma us r → (n : ℕ) → suc (inside x.value) ≤ n → name_line_at n ts ≡ Ok (x, r)
+unfolding name_line_at
+read_name_line x c n h = rw (read_file_name x n h (quiet_comma c), comma_is c) refl
+
+file_name_begins : {x : NameTree} {ts r : Words} → SpellsFileName x ts r → begins_file_name ts ≡ true
+file_name_begins (field_name {s} k v) = rw k (or_true (is_let s && false))
+file_name_begins (local_name v) = refl
+file_name_begins (bound_name l e) = rw l refl
+
+name_read : {x : NameTree} {ts us r : Words} → SpellsFileName x ts us → Comma us r → (n : ℕ) → suc (inside x.value) ≤ n → any_line_at true n ts ≡ Ok (name_seen x, r)
+unfolding any_line_at
+name_read x c n h = rw (file_name_begins x, read_name_line x c n h) refl
+
 definition_stands : {d : DefinitionTree} {ts r : Words} → SpellsDefinition d ts r → before_end ts ≡ Some ts
 definition_stands (defined v) = refl
 
-read_definitions : {ds : List DefinitionTree} {ts r : Words} → SpellsDefinitions ds ts r → (d n : ℕ) → inside_definitions ds ≤ d → length ts ≤ n → before_end r ≡ None → definitions_at d n ts ≡ Ok (ds, r)
-read_definitions (no_definition {r}) d n h k e = many_end before_end (line_at d) n r e
-read_definitions (next_definition s c ds) d zero h k e = let never : ⊥ = omega (arith, no_longer (of_definition s), shorter_comma c) in absurd never
-read_definitions (next_definition s c ds) d (suc n) h k e = many_next before_end (line_at d) n (definition_stands s) (read_line s c d (max_left _ _ h)) (read_definitions ds d n (max_right _ _ h) (omega (arith, no_longer (of_definition s), shorter_comma c)) e)
+name_stands : {x : NameTree} {ts r : Words} → SpellsFileName x ts r → before_end ts ≡ Some ts
+name_stands (field_name k v) = refl
+name_stands (local_name v) = refl
+name_stands (bound_name l e) = refl
+
+-- the lines of a spelling, one after the other
+abbrev definitions_in : List DefinitionTree → List SeenLine
+definitions_in [] = []
+definitions_in (d ∷ ds) = definition_seen d ∷ definitions_in ds
+
+definitions_back : (ds : List DefinitionTree) → definitions_seen (definitions_in ds) ≡ ds
+definitions_back [] = refl
+definitions_back (d ∷ ds) = ap (λ xs. d ∷ xs) (definitions_back ds)
+
+no_names_in : (ds : List DefinitionTree) → names_seen (definitions_in ds) ≡ []
+no_names_in [] = refl
+no_names_in (d ∷ ds) = no_names_in ds
+
+abbrev lines_in : {ds : List DefinitionTree} {ns : List NameTree} {ts r : Words} → SpellsWideFile ds ns ts r → List SeenLine
+lines_in no_line = []
+lines_in (definition_line {d = d} s c ls) = definition_seen d ∷ lines_in ls
+lines_in (name_line {n = n} s c ls) = name_seen n ∷ lines_in ls
+
+wide_definitions_back : {ds : List DefinitionTree} {ns : List NameTree} {ts r : Words} (s : SpellsWideFile ds ns ts r) → definitions_seen (lines_in s) ≡ ds
+wide_definitions_back no_line = refl
+wide_definitions_back (definition_line {d = d} s c ls) = ap (λ xs. d ∷ xs) (wide_definitions_back ls)
+wide_definitions_back (name_line s c ls) = wide_definitions_back ls
+
+wide_names_back : {ds : List DefinitionTree} {ns : List NameTree} {ts r : Words} (s : SpellsWideFile ds ns ts r) → names_seen (lines_in s) ≡ ns
+wide_names_back no_line = refl
+wide_names_back (definition_line s c ls) = wide_names_back ls
+wide_names_back (name_line {n = n} s c ls) = ap (λ xs. n ∷ xs) (wide_names_back ls)
+
+many_definitions : {ds : List DefinitionTree} {ts r : Words} → SpellsDefinitions ds ts r → (d n : ℕ) → inside_definitions ds ≤ d → length ts ≤ n → before_end r ≡ None → many before_end (any_line_at false d) n ts ≡ Ok (definitions_in ds, r)
+many_definitions (no_definition {r}) d n h k e = many_end before_end (any_line_at false d) n r e
+many_definitions (next_definition s c ds) d zero h k e = let never : ⊥ = omega (arith, no_longer (of_definition s), shorter_comma c) in absurd never
+many_definitions (next_definition s c ds) d (suc n) h k e = many_next before_end (any_line_at false d) n (definition_stands s) (definition_read false s c d (max_left _ _ h)) (many_definitions ds d n (max_right _ _ h) (omega (arith, no_longer (of_definition s), shorter_comma c)) e)
+
+many_lines : {ds : List DefinitionTree} {ns : List NameTree} {ts r : Words} (s : SpellsWideFile ds ns ts r) → (d n : ℕ) → inside_definitions ds ≤ d → inside_names ns ≤ d → length ts ≤ n → before_end r ≡ None → many before_end (any_line_at true d) n ts ≡ Ok (lines_in s, r)
+many_lines (no_line {r}) d n h i k e = many_end before_end (any_line_at true d) n r e
+many_lines (definition_line s c ls) d zero h i k e = let never : ⊥ = omega (arith, no_longer (of_definition s), shorter_comma c) in absurd never
+many_lines (definition_line s c ls) d (suc n) h i k e = many_next before_end (any_line_at true d) n (definition_stands s) (definition_read true s c d (max_left _ _ h)) (many_lines ls d n (max_right _ _ h) i (omega (arith, no_longer (of_definition s), shorter_comma c)) e)
+many_lines (name_line s c ls) d zero h i k e = let never : ⊥ = omega (arith, no_longer (of_file_name s), shorter_comma c) in absurd never
+many_lines (name_line s c ls) d (suc n) h i k e = many_next before_end (any_line_at true d) n (name_stands s) (name_read s c d (max_left _ _ i)) (many_lines ls d n h (max_right _ _ i) (omega (arith, no_longer (of_file_name s), shorter_comma c)) e)
+
+read_definitions : {ds : List DefinitionTree} {ts r : Words} → SpellsDefinitions ds ts r → (d n : ℕ) → inside_definitions ds ≤ d → length ts ≤ n → before_end r ≡ None → lines_at false d n ts ≡ Ok ((ds, []), r)
+unfolding lines_at
+read_definitions {ds = ds} s d n h k e = rw (many_definitions s d n h k e, definitions_back ds, no_names_in ds) refl
+
+read_wide_lines : {ds : List DefinitionTree} {ns : List NameTree} {ts r : Words} → SpellsWideFile ds ns ts r → (d n : ℕ) → inside_definitions ds ≤ d → inside_names ns ≤ d → length ts ≤ n → before_end r ≡ None → lines_at true d n ts ≡ Ok ((ds, ns), r)
+unfolding lines_at
+read_wide_lines s d n h i k e = rw (many_lines s d n h i k e, wide_definitions_back s, wide_names_back s) refl
+
+-- ---- files
 
 no_package : {ds : List DefinitionTree} {ts : Words} {p : ℕ} → SpellsDefinitions ds ts (finish p ∷ []) → package_at ts ≡ Ok (None, ts)
 unfolding package_at
 no_package no_definition = refl
 no_package (next_definition (defined v) c ds) = refl
 
-read_package : {c : Option (List ℕ)} {ds : List DefinitionTree} {ts us : Words} {p : ℕ} → SpellsPackage c ts us → SpellsDefinitions ds us (finish p ∷ []) → package_at ts ≡ Ok (c, us)
+no_wide_package : {ds : List DefinitionTree} {ns : List NameTree} {ts : Words} {p : ℕ} → SpellsWideFile ds ns ts (wide_finish p ∷ []) → package_at ts ≡ Ok (None, ts)
+unfolding package_at
+no_wide_package no_line = refl
+no_wide_package (definition_line (defined v) c ls) = refl
+no_wide_package (name_line (field_name k v) c ls) = rw k refl
+no_wide_package (name_line (local_name v) c ls) = refl
+no_wide_package (name_line (bound_name {t} l e) c ls) = rw (let_no_package t l) refl
+
+read_clause : (t s : List ℕ) (p q : ℕ) {ts r : Words} → is_package t ≡ true → Comma ts r → package_at (name t p ∷ name s q ∷ ts) ≡ Ok (Some s, r)
 unfolding package_at clause_at
-read_package no_clause ds = no_package ds
-read_package (clause h c) ds = rw (h, comma_is c) refl
+read_clause t s p q h c = rw (h, comma_is c) refl
+
+read_package : {c : Option (List ℕ)} {ts us : Words} → SpellsPackage c ts us → package_at us ≡ Ok (None, us) → package_at ts ≡ Ok (c, us)
+read_package no_clause e = e
+read_package (clause {t} {s} {p} {q} h c) e = read_clause t s p q h c
+
+-- the last word of all is that of what is left
+ends_more : (v : Word) {w : Word} {r ts : Words} → IsRest (w ∷ r) ts → ends_wide (v ∷ ts) ≡ ends_wide ts
+ends_more v whole = refl
+ends_more v (behind k) = refl
+
+ends_rest : {w : Word} {r ts : Words} → IsRest (w ∷ r) ts → ends_wide ts ≡ ends_wide (w ∷ r)
+ends_rest whole = refl
+ends_rest (behind {w = v} k) = ends_more v k ∙ ends_rest k
 
 -- with so many values inside one another at most
-pub read_within : {f : FileTree} {ts : Words} (d : ℕ) → SpellsFile f ts → inside_file f ≤ d → file_with d ts ≡ Ok f
+pub read_within : {f : FileTree} {ts : Words} (d : ℕ) → SpellsFile f ts → inside_file f ≤ d → file_with (ends_wide ts) d ts ≡ Ok f
 unfolding file_with
-read_within d (spelled {us = us} c ds) h = rw (read_package c ds, read_definitions ds d (length us) h (omega arith) refl) refl
+read_within d (spelled {us = us} c ds) h = rw (ends_rest (then (of_package c) (of_definitions ds)), read_package c (no_package ds), read_definitions ds d (length us) (max_left _ _ h) (omega arith) refl) refl
+read_within d (wide_spelled {us = us} c ls) h = rw (ends_rest (then (of_package c) (of_wide_file ls)), read_package c (no_wide_package ls), read_wide_lines ls d (length us) (max_left _ _ h) (max_right _ _ h) (omega arith) refl) refl
 
 pub read_file : {f : FileTree} {ts : Words} → nesting ts ≤ 28 → SpellsFile f ts → file_at ts ≡ Ok f
 read_file n s = read_within 29 s (inside_low s n)

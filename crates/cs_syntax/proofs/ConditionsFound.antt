@@ -20,6 +20,16 @@ pub if_bind : {A B : Type 0} (P : A → Words → Type 0) (Q : B → Words → T
 if_bind P Q (Ok x) f h k = k x.0 x.1 h
 if_bind P Q (Err e) f h k = tt
 
+-- P of what is left
+abbrev pub IfLeft : (Words → Type 0) → Result Words SyntaxFault → Type 0
+IfLeft P (Ok us) = P us
+IfLeft P (Err f) = Unit {0}
+
+pub if_left : {B : Type 0} (P : Words → Type 0) (Q : B → Words → Type 0) (m : Result Words SyntaxFault) (f : Words → Result (B × Words) SyntaxFault)
+    → IfLeft P m → ((us : Words) → P us → IfRead Q (f us)) → IfRead Q (m >>= f)
+if_left P Q (Ok us) f h k = k us h
+if_left P Q (Err e) f h k = tt
+
 -- ---- numbers
 
 signed_positive : (n : ℕ) (z : ℤ) → signed false n ≡ Some z → (z ≡ pos n) × FitsSigned w64 (pos n)
@@ -114,12 +124,12 @@ nothing : {A : Type 0} (o : Option A) → is_some o ≡ false → o ≡ None
 nothing None h = refl
 nothing (Some x) h = absurd cc
 
-field_name : (s : List ℕ) → names_no_field s ≡ false → IsFieldName s
-field_name s h = let n = neither (is_some (literal_of s)) (is_reserved s) h in (n.1, nothing (literal_of s) n.0)
+pub no_field_name : (s : List ℕ) → names_no_field s ≡ false → IsFieldName s
+no_field_name s h = let n = neither (is_some (literal_of s)) (is_reserved s) h in (n.1, nothing (literal_of s) n.0)
 
 asked_name_of : (s : List ℕ) (p : ℕ) (ts : Words) (b : Bool) → names_no_field s ≡ b → IfRead (Asked (name s p ∷ ts)) (asked_or b s p ts)
 asked_name_of s p ts true e = tt
-asked_name_of s p ts false e = asked_name (field_name s e)
+asked_name_of s p ts false e = asked_name (no_field_name s e)
 
 asked_of : (ts : Words) → IfRead (Asked ts) (asked_at ts)
 unfolding asked_at

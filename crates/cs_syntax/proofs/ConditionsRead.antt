@@ -120,7 +120,7 @@ read_test (related {b} {z} {p} {ts} n) u = test_relation b p ts ∙ read_related
 
 -- ---- conditions
 
-field_known : (s : List ℕ) → IsFieldName s → names_no_field s ≡ false
+pub field_known : (s : List ℕ) → IsFieldName s → names_no_field s ≡ false
 field_known s h = ap₂ (λ o b. is_some o || b) h.1 h.0
 
 read_asked : (s : List ℕ) (p : ℕ) (r : Words) → IsFieldName s → asked_at (name s p ∷ r) ≡ Ok ((s, p), r)
@@ -163,7 +163,7 @@ pub and_false : (b : Bool) → b && false ≡ false
 and_false true = refl
 and_false false = refl
 
-mark_ends : {m : FieldMark} {ts us : Words} → SpellsMark m ts us → ends_label ts ≡ true
+pub mark_ends : {m : FieldMark} {ts us : Words} → SpellsMark m ts us → ends_label ts ≡ true
 mark_ends regular = refl
 mark_ends optional = refl
 mark_ends required = refl

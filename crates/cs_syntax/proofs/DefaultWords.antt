@@ -1,5 +1,5 @@
--- The words of the default profile have no `*` and no `{` or `(` of the wide one, so the files that they spell have no form of the wide profile;
--- and an author wrote what is spelled.
+-- The words of the default profile have no `*`, `.` or `=`, no name that begins with `_`, and no `{`, `(` or end of the wide one, so the files that they
+-- spell have no form of the wide profile; and an author wrote what is spelled.
 use Rattle.std.proofs.Common.{◌≡◌, ℕ, Bool, true, false, cond, List, [], ◌∷◌, Option, Some, None, refl, sym, ap, ◌∙◌}
 use Rattle.std.proofs.lemmas.Slice.Eq.{bytes_eq-Decides}
 use Rattle.std.specs.Prelude.{◌==◌, codes}
@@ -19,24 +19,28 @@ use Rattle.cs_grammar.specs.Cut.{Lexeme, lexeme, comma_if, Cut, blank, new_line,
 use Rattle.cs_grammar.specs.DefaultForms.{IsDefault, AreDefault, AreDefaultFields, IsDefaultEnd, IsDefaultFile}
 use Rattle.cs_grammar.specs.Source.{IsSpelledBy}
 use Rattle.cs_grammar.specs.Spelling.{is_letter, is_digit, is_name_byte, is_integer, is_definition_rest, text_value, used_marks, left_out_marks, sort_if, underscore_sort, sort_of}
-use Rattle.cs_grammar.specs.Spells.{is_null, literal_of, SpellsBound, limit_is, other_number, other_text, other_null, bare_label, quoted_label, SpellsValue, long, short, SpellsField, labelled, every_key, SpellsExpr, one_branch, disjunction_is, SpellsBars, no_bar, a_bar, SpellsBranch, unmarked, marked_is, SpellsConj, one_operand, conjunction_is, SpellsAmps, no_amp, an_amp, SpellsOperand, top_is, bottom_is, reference_is, name_is, number_is, text_is, bound_is, paren_is, struct_is, list_is, call_paren_is, shut_is, wide_struct_is, SpellsStruct, no_fields, dots_alone, fields, SpellsFields, no_more_fields, next_field, SpellsList, no_elements, rest_alone, elements, SpellsElements, no_more_elements, next_element, SpellsEnd, closed_is, rest_is, SpellsRest, any_is, each_is, SpellsDefinition, defined, SpellsDefinitions, no_definition, next_definition, SpellsFile, spelled}
+use Rattle.cs_grammar.specs.Spells.{is_null, literal_of, SpellsBound, limit_is, other_number, other_text, other_null, SpellsSelector, by_name, by_label, by_text, SpellsSelectors, last_selector, next_selector, bare_label, quoted_label, SpellsValue, long, short, SpellsField, labelled, every_key, SpellsExpr, one_branch, disjunction_is, SpellsBars, no_bar, a_bar, SpellsBranch, unmarked, marked_is, SpellsConj, one_operand, conjunction_is, SpellsAmps, no_amp, an_amp, SpellsOperand, top_is, bottom_is, reference_is, name_is, number_is, text_is, bound_is, paren_is, struct_is, list_is, call_paren_is, shut_is, local_is, selected_is, wide_struct_is, SpellsStruct, no_fields, dots_alone, fields, SpellsFields, no_more_fields, next_field, SpellsList, no_elements, rest_alone, elements, SpellsElements, no_more_elements, next_element, SpellsEnd, closed_is, rest_is, SpellsRest, any_is, each_is, SpellsDefinition, defined, SpellsDefinitions, no_definition, next_definition, SpellsFile, spelled, wide_spelled}
 use Rattle.cs_grammar.specs.TokenWords.{mark_kind, word_of, word, words}
 use Rattle.cs_grammar.specs.Tree as T
-use Rattle.cs_grammar.specs.Tree.{Label, Tree, named, Trees, Fields, End, DefinitionTree, body, FileTree}
-use Rattle.cs_grammar.specs.Words.{Word, Words, open_wide, open_call, star}
+use Rattle.cs_grammar.specs.Tree.{Label, Selector, Tree, named, Trees, Fields, End, DefinitionTree, body, FileTree}
+use Rattle.cs_grammar.specs.Words.{Word, Words, open_wide, open_call, star, local, dot, assign, wide_finish}
 
 abbrev is_wide_word : Word → Bool
 is_wide_word (star o) = true
 is_wide_word (open_wide o) = true
 is_wide_word (open_call o) = true
+is_wide_word (local s o) = true
+is_wide_word (dot o) = true
+is_wide_word (assign o) = true
+is_wide_word (wide_finish o) = true
 is_wide_word _ = false
 
 -- none of the words is one of the wide profile alone
-abbrev Narrow : Words → Type 0
+abbrev pub Narrow : Words → Type 0
 Narrow [] = Unit {0}
 Narrow (w ∷ ts) = (is_wide_word w ≡ false) × Narrow ts
 
-kept : {r ts : Words} → IsRest r ts → Narrow ts → Narrow r
+pub kept : {r ts : Words} → IsRest r ts → Narrow ts → Narrow r
 kept whole h = h
 kept (behind k) h = kept k h.1
 
@@ -62,6 +66,15 @@ field_written : {l : Label} {m : FieldMark} {e : Tree} {ts r : Words} → Spells
 field_written (labelled bare_label m v) = refl
 field_written (labelled quoted_label m v) = refl
 field_written (every_key s v) = refl
+
+no_selector : {l : Selector} {ts r : Words} → SpellsSelector l ts r → Narrow ts → ⊥
+no_selector (by_name o n) h = let never : true ≡ false = h.0 in absurd cc
+no_selector by_label h = let never : true ≡ false = h.0 in absurd cc
+no_selector by_text h = let never : true ≡ false = h.0 in absurd cc
+
+no_selectors : {ls : List Selector} {ts r : Words} → SpellsSelectors ls ts r → Narrow ts → ⊥
+no_selectors (last_selector l) h = no_selector l h
+no_selectors (next_selector l ls) h = no_selector l h
 
 mutual
   value_default : {e : Tree} {ts r : Words} → SpellsValue e ts r → Narrow ts → IsDefault e
@@ -105,6 +118,8 @@ mutual
   operand_default (list_is s) h = list_default s h.1
   operand_default (call_paren_is e c) h = let never : true ≡ false = h.0 in absurd cc
   operand_default (shut_is s e c) h = let never : true ≡ false = h.1.0 in absurd cc
+  operand_default local_is h = let never : true ≡ false = h.0 in absurd cc
+  operand_default (selected_is o b l) h = absurd (no_selectors l (kept (R.of_base b) h))
   operand_default (wide_struct_is e s) h = let never : true ≡ false = h.0 in absurd cc
 
   struct_default : {fs : Fields} {b : Bool} {ts r : Words} → SpellsStruct fs b ts r → Narrow ts → AreDefaultFields fs
@@ -142,6 +157,7 @@ definitions_default (next_definition d c ds) h = (definition_default d h, defini
 
 file_default : {f : FileTree} {ts : Words} → SpellsFile f ts → Narrow ts → IsDefaultFile f
 file_default (spelled p ds) h = definitions_default ds (kept (R.of_package p) h)
+file_default (wide_spelled p ls) h = let never : true ≡ false = (kept (R.of_wide_file ls) (kept (R.of_package p) h)).0 in absurd cc
 
 -- ---- the words of tokens
 
@@ -149,6 +165,10 @@ abbrev is_wide_kind : Kind → Bool
 is_wide_kind kinds.Star = true
 is_wide_kind kinds.OpenWide = true
 is_wide_kind kinds.OpenCall = true
+is_wide_kind kinds.Local = true
+is_wide_kind kinds.Dot = true
+is_wide_kind kinds.Assign = true
+is_wide_kind kinds.WideEnd = true
 is_wide_kind _ = false
 
 record Other (k : Kind) : Type 0 where
@@ -158,11 +178,22 @@ unless : (b : Bool) (k : Kind) {l : Kind} → is_wide_kind k ≡ false → Other
 unless true k h i = record { is = h }
 unless false k h i = i
 
-unless_star : (b : Bool) {l : Kind} → b ≡ false → Other l → Other (cond b kinds.Star l)
-unless_star true h i = absurd cc
-unless_star false h i = i
+-- a mark that isn't there
+never : (b : Bool) (k : Kind) {l : Kind} → b ≡ false → Other l → Other (cond b k l)
+never true k h i = absurd cc
+never false k h i = i
 
-mark_other : (t : List ℕ) → bytes_eq t (codes "*") ≡ false → Other (mark_kind t)
+-- a mark of the grammar is none that the default profile leaves out
+mark_not : (m t : List ℕ) → sort_of m ≡ Some sorts.LeftOut → sort_of t ≡ Some sorts.Mark → bytes_eq t m ≡ false
+mark_not m t o h = by (bytes_eq t m) refl
+  where
+    by : (b : Bool) → bytes_eq t m ≡ b → b ≡ false
+    by false e = refl
+    by true e =
+        let same : t ≡ m = (bytes_eq-Decides t m).0 e in
+        let none : Some sorts.LeftOut ≡ Some sorts.Mark = sym o ∙ ap sort_of (sym same) ∙ h in absurd cc
+
+mark_other : (t : List ℕ) → sort_of t ≡ Some sorts.Mark → Other (mark_kind t)
 mark_other t h =
     unless (bytes_eq t (codes "{")) kinds.OpenStruct refl (
     unless (bytes_eq t (codes "}")) kinds.CloseStruct refl (
@@ -183,27 +214,20 @@ mark_other t h =
     unless (bytes_eq t (codes ">=")) kinds.AtLeast refl (
     unless (bytes_eq t (codes "!=")) kinds.Unequal refl (
     unless (bytes_eq t (codes "-")) kinds.Minus refl (
-    unless_star (bytes_eq t (codes "*")) h (
+    never (bytes_eq t (codes "*")) kinds.Star (mark_not (codes "*") t refl h) (
     unless (bytes_eq t (codes "==")) kinds.Equal refl (
-    record { is = refl })))))))))))))))))))))
+    never (bytes_eq t (codes ".")) kinds.Dot (mark_not (codes ".") t refl h) (
+    never (bytes_eq t (codes "=")) kinds.Assign (mark_not (codes "=") t refl h) (
+    record { is = refl })))))))))))))))))))))))
 
--- a mark of the grammar is no `*`
-mark_no_star : (t : List ℕ) → sort_of t ≡ Some sorts.Mark → bytes_eq t (codes "*") ≡ false
-mark_no_star t h = by (bytes_eq t (codes "*")) refl
-  where
-    by : (b : Bool) → bytes_eq t (codes "*") ≡ b → b ≡ false
-    by false e = refl
-    by true e =
-        let same : t ≡ codes "*" = (bytes_eq-Decides t (codes "*")).0 e in
-        let never : Some sorts.LeftOut ≡ Some sorts.Mark = rw same at h in absurd cc
-
--- no token is of the sort that the wide profile makes
-abbrev is_wide_sort : Option Sort → Bool
+-- no text is a token of the sort that the wide profile makes, or the end
+abbrev pub is_wide_sort : Option Sort → Bool
 is_wide_sort (Some sorts.Wide) = true
+is_wide_sort (Some sorts.End) = true
 is_wide_sort o = false
 
-record OtherSort (o : Option Sort) : Type 0 where
-  is : is_wide_sort o ≡ false
+pub record OtherSort (o : Option Sort) : Type 0 where
+  pub is : is_wide_sort o ≡ false
 
 either : (b : Bool) {o p : Option Sort} → OtherSort o → OtherSort p → OtherSort (cond b o p)
 either true h k = h
@@ -223,7 +247,7 @@ underscore_other (y ∷ ys) =
     either (y == 35) (if_so (is_definition_rest ys) sorts.Hidden refl)
     (if_so (bytes_eq (y ∷ ys) (codes "|_")) sorts.Bottom refl))
 
-sort_other : (t : List ℕ) → OtherSort (sort_of t)
+pub sort_other : (t : List ℕ) → OtherSort (sort_of t)
 sort_other [] = record { is = refl }
 sort_other (x ∷ xs) =
     either (is_letter x) (if_so (list_all is_name_byte xs) sorts.Name refl) (
@@ -238,10 +262,14 @@ word_narrow : (k : Kind) (t : List ℕ) (o : ℕ) → is_wide_kind k ≡ false �
 word_narrow kinds.Star t o h = h
 word_narrow kinds.OpenWide t o h = h
 word_narrow kinds.OpenCall t o h = h
+word_narrow kinds.Local t o h = h
+word_narrow kinds.Dot t o h = h
+word_narrow kinds.Assign t o h = h
+word_narrow kinds.WideEnd t o h = h
 word_narrow k t o h = refl
 
 token_narrow : (s : Sort) (t : List ℕ) (o : ℕ) → sort_of t ≡ Some s → is_wide_word (word (lexeme s t o)) ≡ false
-token_narrow sorts.Mark t o h = word_narrow (mark_kind t) t o (mark_other t (mark_no_star t h)).is
+token_narrow sorts.Mark t o h = word_narrow (mark_kind t) t o (mark_other t h).is
 token_narrow sorts.Wide t o h = let never : true ≡ false = sym (ap is_wide_sort h) ∙ (sort_other t).is in absurd cc
 token_narrow s t o h = refl
 
@@ -250,7 +278,7 @@ comma_narrow WantsComma o ks h = (refl, h)
 comma_narrow Plain o ks h = h
 comma_narrow Minus o ks h = h
 
-cut_narrow : {bs : List ℕ} {o : ℕ} {l : LineState} {ks : List Lexeme} → Cut bs o l ks → Narrow (words ks)
+pub cut_narrow : {bs : List ℕ} {o : ℕ} {l : LineState} {ks : List Lexeme} → Cut bs o l ks → Narrow (words ks)
 cut_narrow (blank h k) = cut_narrow k
 cut_narrow (new_line {o = o} {l = l} {ks = ks} h k) = comma_narrow l o ks (cut_narrow k)
 cut_narrow (comment {o = o} {l = l} {ks = ks} h k) = comma_narrow l o ks (cut_narrow k)

@@ -7,6 +7,7 @@ use Rattle.cs_grammar.specs.Words.{Word, Words, close_list, colon, question, ban
 use Rattle.cs_syntax.specs.Answer.{IsSpelled}
 use Rattle.cs_syntax.specs.Earlier.{is_short_earlier, behind_earlier, nesting_from_earlier, earlier_nesting, IsSpelledEarlier}
 use Rattle.cs_syntax.specs.Nesting.{OpenLevels, ends_with_chained_label, ends_with_chained_string, is_short, counted_if, behind, nesting_at, nesting_from, nesting, most_nested}
+use Rattle.cs_syntax.proofs.DefaultWords.{cut_narrow}
 use Rattle.cs_syntax.proofs.LabelledWords.{goes_on, closes, begins, Apart, words_apart}
 
 turned : (a b : Bool) → a && b ≡ false → b && a ≡ false
@@ -57,7 +58,7 @@ pub still_spelled : (source : List ℕ) (f : FileTree) → IsSpelledEarlier sour
 still_spelled source f h = record {
   tokens = h.tokens;
   cut = h.cut;
-  nested = subst (λ n. n ≤ most_nested) (same_nesting (words h.tokens) (words_apart f (words h.tokens) h.spelled h.labelled)) h.nested;
+  nested = subst (λ n. n ≤ most_nested) (same_nesting (words h.tokens) (words_apart f (words h.tokens) h.spelled (cut_narrow h.cut) h.labelled)) h.nested;
   spelled = h.spelled;
   low = h.low;
 }

@@ -17,7 +17,7 @@ use Rattle.cs_grammar.proofs.CutSamples.{begins}
 use Rattle.cs_syntax.specs.Earlier.{is_short_earlier, behind_earlier, earlier_nesting, IsSpelledEarlier}
 use Rattle.cs_grammar.specs.Height.{file_height}
 use Rattle.cs_syntax.specs.Nesting.{is_short, behind}
-use Rattle.cs_syntax.specs.Reading.{unbracketed_at, many, operand_with, uncalled_with, paren_with, conj_with, branch_with, expr_with, inner, definition_at, line_at, package_at, file_with, file_at}
+use Rattle.cs_syntax.specs.Reading.{unbracketed_at, many, operand_with, uncalled_with, leaf_at, paren_with, conj_with, branch_with, expr_with, inner, definition_at, line_at, any_line_at, lines_at, package_at, file_with, file_at}
 use Rattle.cs_syntax.proofs.Soundness.{file_found}
 use Rattle.cs_syntax.proofs.Samples.{a, q, body, every, repeated, sorts}
 
@@ -76,7 +76,7 @@ module _ (source : List ℕ) where
   low_enough f s h = omega (arith, s.low, h)
 
   -- `#A: {[string]: int}`
-  every_key_was_none : ¬ IsSpelledEarlier source (file None (definition (codes "A") 0 (T.struct 4 (T.field every_label (Every 6) (T.named (codes "int") 15) T.no_field) false) ∷ []))
+  every_key_was_none : ¬ IsSpelledEarlier source (file None (definition (codes "A") 0 (T.struct 4 (T.field every_label (Every 6) (T.named (codes "int") 15) T.no_field) false) ∷ []) [])
   every_key_was_none s = s.labelled.0.0
 
 -- ---- a whole source, which was accepted: `#T: int`
@@ -85,7 +85,7 @@ abbrev pub plain_source : List ℕ
 plain_source = codes "#T: int"
 
 abbrev pub plain_file : FileTree
-plain_file = file None (definition (codes "T") 0 (T.named (codes "int") 4) ∷ [])
+plain_file = file None (definition (codes "T") 0 (T.named (codes "int") 4) ∷ []) []
 
 abbrev plain_tokens : List Lexeme
 plain_tokens = lexeme kinds.Definition (codes "#T") 0 ∷ lexeme kinds.Mark (codes ":") 2 ∷ lexeme kinds.Name (codes "int") 4 ∷ lexeme kinds.Inserted [] 7 ∷ lexeme kinds.End [] 7 ∷ []
@@ -99,7 +99,7 @@ plain_cut =
     finish {l = WantsComma}))))
 
 plain_read : file_at (words plain_tokens) ≡ Ok plain_file
-unfolding unbracketed_at many operand_with uncalled_with paren_with conj_with branch_with expr_with inner definition_at line_at package_at file_with
+unfolding unbracketed_at many operand_with uncalled_with leaf_at paren_with conj_with branch_with expr_with inner definition_at line_at any_line_at lines_at package_at file_with
 plain_read = refl
 
 pub plain_was_spelled : IsSpelledEarlier plain_source plain_file

@@ -8,7 +8,7 @@ use Rattle.cs_grammar.specs.Tree as T
 use Rattle.cs_grammar.specs.Tree.{Tree, FileTree, file, definition}
 use Rattle.cs_syntax.specs.Nesting.{nesting}
 use Rattle.cs_grammar.specs.Spells.{SpellsFile, every_label}
-use Rattle.cs_syntax.specs.Reading.{number_at, integer_at, unbracketed_at, many, label_at, every_key_at, head_at, field_with, struct_with, rest_with, end_with, list_with, operand_with, uncalled_with, paren_with, conj_with, branch_with, expr_with, inner, definition_at, line_at, package_at, file_with, file_at}
+use Rattle.cs_syntax.specs.Reading.{number_at, integer_at, unbracketed_at, many, label_at, every_key_at, head_at, field_with, struct_with, rest_with, end_with, list_with, operand_with, uncalled_with, leaf_at, paren_with, conj_with, branch_with, expr_with, inner, definition_at, line_at, any_line_at, lines_at, package_at, file_with, file_at}
 use Rattle.cs_syntax.proofs.Soundness.{file_found}
 
 -- the words of `#A: ` and a body, with the comma and the end at that offset
@@ -16,7 +16,7 @@ abbrev one_body : Words → Words
 one_body ts = W.definition_name (codes "A") 0 ∷ W.colon 2 ∷ ts
 
 abbrev one_file : Tree → FileTree
-one_file e = file None (definition (codes "A") 0 e ∷ [])
+one_file e = file None (definition (codes "A") 0 e ∷ []) []
 
 -- ---- `&` binds tighter than `|`: `#A: 1 | 2 & 3`
 
@@ -27,7 +27,7 @@ abbrev choice_tree : Tree
 choice_tree = T.disjunction (T.more (T.atom (T.integer (pos 1))) (T.more (T.conjunction (T.more (T.atom (T.integer (pos 2))) (T.more (T.atom (T.integer (pos 3))) T.none))) T.none))
 
 choice_read : file_at choice ≡ Ok (one_file choice_tree)
-unfolding number_at integer_at unbracketed_at many operand_with uncalled_with paren_with conj_with branch_with expr_with inner definition_at line_at package_at file_with
+unfolding number_at integer_at unbracketed_at many operand_with uncalled_with leaf_at paren_with conj_with branch_with expr_with inner definition_at line_at any_line_at lines_at package_at file_with
 choice_read = refl
 
 pub choice_spelled : SpellsFile (one_file choice_tree) choice
@@ -40,12 +40,12 @@ short_form = one_body (W.name (codes "a") 4 ∷ W.colon 5 ∷ W.open_struct 7 �
 
 abbrev short_tree : Tree
 short_tree =
-    T.struct 4 (T.field (record { text = codes "a"; quotes = false; asked = false }) Regular
-    (T.struct 7 (T.field (record { text = codes "b"; quotes = false; asked = false }) Optional (T.list T.none T.any) T.no_field) true)
+    T.struct 4 (T.field (record { text = codes "a"; quotes = false; asked = false; scoped = None }) Regular
+    (T.struct 7 (T.field (record { text = codes "b"; quotes = false; asked = false; scoped = None }) Optional (T.list T.none T.any) T.no_field) true)
     T.no_field) false
 
 short_read : file_at short_form ≡ Ok (one_file short_tree)
-unfolding number_at integer_at unbracketed_at many label_at head_at field_with struct_with rest_with end_with list_with operand_with uncalled_with paren_with conj_with branch_with expr_with inner definition_at line_at package_at file_with
+unfolding number_at integer_at unbracketed_at many label_at head_at field_with struct_with rest_with end_with list_with operand_with uncalled_with leaf_at paren_with conj_with branch_with expr_with inner definition_at line_at any_line_at lines_at package_at file_with
 short_read = refl
 
 pub short_spelled : SpellsFile (one_file short_tree) short_form
@@ -64,7 +64,7 @@ abbrev every_tree : Tree
 every_tree = T.struct 4 (T.field every_label (Every 5) (T.named (codes "int") 14) T.no_field) false
 
 every_read : file_at every_form ≡ Ok (one_file every_tree)
-unfolding unbracketed_at many every_key_at head_at field_with operand_with uncalled_with paren_with conj_with branch_with expr_with inner definition_at line_at package_at file_with
+unfolding unbracketed_at many every_key_at head_at field_with operand_with uncalled_with leaf_at paren_with conj_with branch_with expr_with inner definition_at line_at any_line_at lines_at package_at file_with
 every_read = refl
 
 pub every_spelled : SpellsFile (one_file every_tree) every_form
@@ -80,10 +80,10 @@ abbrev beside_form : Words
 beside_form = one_body (W.open_struct 4 ∷ W.open_list 5 ∷ W.name (codes "string") 6 ∷ W.close_list 12 ∷ W.colon 13 ∷ W.name (codes "int") 15 ∷ W.comma 18 ∷ W.name (codes "a") 20 ∷ W.colon 21 ∷ W.name (codes "int") 23 ∷ W.close_struct 26 ∷ W.nl 27 ∷ W.finish 27 ∷ [])
 
 abbrev beside_tree : Tree
-beside_tree = T.struct 4 (T.field every_label (Every 6) (T.named (codes "int") 15) (T.field (record { text = codes "a"; quotes = false; asked = false }) Regular (T.named (codes "int") 23) T.no_field)) false
+beside_tree = T.struct 4 (T.field every_label (Every 6) (T.named (codes "int") 15) (T.field (record { text = codes "a"; quotes = false; asked = false; scoped = None }) Regular (T.named (codes "int") 23) T.no_field)) false
 
 beside_read : file_at beside_form ≡ Ok (one_file beside_tree)
-unfolding unbracketed_at many label_at every_key_at head_at field_with struct_with operand_with uncalled_with paren_with conj_with branch_with expr_with inner definition_at line_at package_at file_with
+unfolding unbracketed_at many label_at every_key_at head_at field_with struct_with operand_with uncalled_with leaf_at paren_with conj_with branch_with expr_with inner definition_at line_at any_line_at lines_at package_at file_with
 beside_read = refl
 
 pub beside_spelled : SpellsFile (one_file beside_tree) beside_form
@@ -102,7 +102,7 @@ abbrev list_tree : Tree
 list_tree = T.list (T.more (T.named (codes "string") 5) T.none) T.closed
 
 list_read : file_at list_form ≡ Ok (one_file list_tree)
-unfolding unbracketed_at many end_with list_with operand_with uncalled_with paren_with conj_with branch_with expr_with inner definition_at line_at package_at file_with
+unfolding unbracketed_at many end_with list_with operand_with uncalled_with leaf_at paren_with conj_with branch_with expr_with inner definition_at line_at any_line_at lines_at package_at file_with
 list_read = refl
 
 pub list_spelled : SpellsFile (one_file list_tree) list_form
@@ -114,29 +114,29 @@ abbrev faulty_in_struct : Words → Words
 faulty_in_struct ts = one_body (W.open_struct 4 ∷ W.open_list 5 ∷ ts)
 
 other_name : file_at (faulty_in_struct (W.name (codes "int") 6 ∷ W.close_list 9 ∷ W.colon 10 ∷ W.name (codes "int") 12 ∷ W.close_struct 15 ∷ W.nl 16 ∷ W.finish 16 ∷ [])) ≡ Err (Syntax 6)
-unfolding many every_key_at head_at field_with struct_with operand_with uncalled_with paren_with conj_with branch_with expr_with inner definition_at line_at package_at file_with
+unfolding many every_key_at head_at field_with struct_with operand_with uncalled_with leaf_at paren_with conj_with branch_with expr_with inner definition_at line_at any_line_at lines_at package_at file_with
 other_name = refl
 
 left_out_name : file_at (faulty_in_struct (W.name (codes "let") 6 ∷ W.close_list 9 ∷ W.colon 10 ∷ W.name (codes "int") 12 ∷ W.close_struct 15 ∷ W.nl 16 ∷ W.finish 16 ∷ [])) ≡ Err (LeftOut 6)
-unfolding many every_key_at head_at field_with struct_with operand_with uncalled_with paren_with conj_with branch_with expr_with inner definition_at line_at package_at file_with
+unfolding many every_key_at head_at field_with struct_with operand_with uncalled_with leaf_at paren_with conj_with branch_with expr_with inner definition_at line_at any_line_at lines_at package_at file_with
 left_out_name = refl
 
 quoted_name : file_at (faulty_in_struct (W.quoted (codes "string") 6 ∷ W.close_list 14 ∷ W.colon 15 ∷ W.name (codes "int") 17 ∷ W.close_struct 20 ∷ W.nl 21 ∷ W.finish 21 ∷ [])) ≡ Err (Syntax 6)
-unfolding many every_key_at head_at field_with struct_with operand_with uncalled_with paren_with conj_with branch_with expr_with inner definition_at line_at package_at file_with
+unfolding many every_key_at head_at field_with struct_with operand_with uncalled_with leaf_at paren_with conj_with branch_with expr_with inner definition_at line_at any_line_at lines_at package_at file_with
 quoted_name = refl
 
 marked_key : file_at (faulty_in_struct (W.name (codes "string") 6 ∷ W.close_list 12 ∷ W.question 13 ∷ W.colon 14 ∷ W.name (codes "int") 16 ∷ W.close_struct 19 ∷ W.nl 20 ∷ W.finish 20 ∷ [])) ≡ Err (Syntax 13)
-unfolding many every_key_at head_at field_with struct_with operand_with uncalled_with paren_with conj_with branch_with expr_with inner definition_at line_at package_at file_with
+unfolding many every_key_at head_at field_with struct_with operand_with uncalled_with leaf_at paren_with conj_with branch_with expr_with inner definition_at line_at any_line_at lines_at package_at file_with
 marked_key = refl
 
 open_bracket : file_at (faulty_in_struct (W.name (codes "string") 6 ∷ W.colon 12 ∷ W.name (codes "int") 14 ∷ W.close_struct 17 ∷ W.nl 18 ∷ W.finish 18 ∷ [])) ≡ Err (Syntax 12)
-unfolding many every_key_at head_at field_with struct_with operand_with uncalled_with paren_with conj_with branch_with expr_with inner definition_at line_at package_at file_with
+unfolding many every_key_at head_at field_with struct_with operand_with uncalled_with leaf_at paren_with conj_with branch_with expr_with inner definition_at line_at any_line_at lines_at package_at file_with
 open_bracket = refl
 
 short_other_name : file_at (one_body (W.open_list 4 ∷ W.name (codes "int") 5 ∷ W.close_list 8 ∷ W.colon 9 ∷ W.name (codes "int") 11 ∷ W.nl 14 ∷ W.finish 14 ∷ [])) ≡ Err (Syntax 9)
-unfolding unbracketed_at many end_with list_with operand_with uncalled_with paren_with conj_with branch_with expr_with inner definition_at line_at package_at file_with
+unfolding unbracketed_at many end_with list_with operand_with uncalled_with leaf_at paren_with conj_with branch_with expr_with inner definition_at line_at any_line_at lines_at package_at file_with
 short_other_name = refl
 
 short_marked_key : file_at (one_body (W.open_list 4 ∷ W.name (codes "string") 5 ∷ W.close_list 11 ∷ W.bang 12 ∷ W.colon 13 ∷ W.name (codes "int") 15 ∷ W.nl 18 ∷ W.finish 18 ∷ [])) ≡ Err (Syntax 12)
-unfolding unbracketed_at many end_with list_with operand_with uncalled_with paren_with conj_with branch_with expr_with inner definition_at line_at package_at file_with
+unfolding unbracketed_at many end_with list_with operand_with uncalled_with leaf_at paren_with conj_with branch_with expr_with inner definition_at line_at any_line_at lines_at package_at file_with
 short_marked_key = refl

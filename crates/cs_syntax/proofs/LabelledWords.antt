@@ -4,10 +4,12 @@ use Rattle.std.specs.List.{AllByRecursion}
 use Rattle.std.specs.Option.{option_map}
 use Rattle.cs_grammar.specs.declared.ast.FieldMark.{FieldMark}
 use Rattle.cs_grammar.specs.Labels.{HasLabel, IsLabelled, AreLabelled, AreLabelledFields, AreLabelledDeclarations, IsLabelledEnd, IsLabelledFile}
-use Rattle.cs_grammar.specs.Spells.{fields_alone, literal_if, literal, Comma, explicit, inserted, ClosesParen, paren_here, paren_after, ClosesList, list_here, list_after, ClosesStruct, struct_here, struct_after, SpellsNumber, positive, negative, SpellsBound, limit_is, other_number, other_text, other_null, SpellsLabel, bare_label, quoted_label, SpellsMark, regular, optional, required, SpellsOpening, unopened, opened, SpellsScalar, scalar_name, scalar_number, scalar_text, SpellsTest, is_true, equal_to, unequal_to, is_absent, is_present, related, SpellsCondition, asked_is, denied_is, SpellsConditions, last_condition, next_condition, SpellsValue, long, short, SpellsField, labelled, every_key, SpellsExpr, one_branch, disjunction_is, SpellsBars, no_bar, a_bar, SpellsBranch, unmarked, marked_is, SpellsConj, one_operand, conjunction_is, SpellsAmps, no_amp, an_amp, SpellsOperand, top_is, bottom_is, reference_is, name_is, number_is, text_is, bound_is, paren_is, struct_is, list_is, call_paren_is, shut_is, wide_struct_is, SpellsWideStruct, no_declarations, wide_dots_alone, some_declarations, SpellsDeclarations, a_field, an_embedding, a_conditional, SpellsMore, no_more, next_declaration, SpellsStruct, no_fields, dots_alone, fields, SpellsFields, no_more_fields, next_field, SpellsList, no_elements, rest_alone, elements, SpellsElements, no_more_elements, next_element, SpellsEnd, closed_is, rest_is, SpellsRest, any_is, each_is, SpellsDefinition, defined, SpellsDefinitions, no_definition, next_definition, SpellsPackage, no_clause, clause, SpellsFile, spelled}
+use Rattle.cs_grammar.specs.Spells.{fields_alone, literal_if, literal, Comma, explicit, inserted, ClosesParen, paren_here, paren_after, ClosesList, list_here, list_after, ClosesStruct, struct_here, struct_after, SpellsNumber, positive, negative, SpellsBound, limit_is, other_number, other_text, other_null, SpellsName, hashed, underscored, SpellsBase, name_base, field_base, SpellsSelector, by_name, by_label, by_text, SpellsSelectors, last_selector, next_selector, SpellsLabel, bare_label, quoted_label, SpellsMark, regular, optional, required, SpellsOpening, unopened, opened, SpellsScalar, scalar_name, scalar_number, scalar_text, SpellsTest, is_true, equal_to, unequal_to, is_absent, is_present, related, SpellsCondition, asked_is, denied_is, SpellsConditions, last_condition, next_condition, SpellsValue, long, short, SpellsField, labelled, every_key, SpellsExpr, one_branch, disjunction_is, SpellsBars, no_bar, a_bar, SpellsBranch, unmarked, marked_is, SpellsConj, one_operand, conjunction_is, SpellsAmps, no_amp, an_amp, SpellsOperand, top_is, bottom_is, reference_is, name_is, number_is, text_is, bound_is, paren_is, struct_is, list_is, call_paren_is, shut_is, local_is, selected_is, wide_struct_is, SpellsWideStruct, no_declarations, wide_dots_alone, some_declarations, SpellsDeclarations, a_field, an_embedding, a_name, a_let, a_conditional, SpellsMore, no_more, next_declaration, SpellsStruct, no_fields, dots_alone, fields, SpellsFields, no_more_fields, next_field, SpellsList, no_elements, rest_alone, elements, SpellsElements, no_more_elements, next_element, SpellsEnd, closed_is, rest_is, SpellsRest, any_is, each_is, SpellsDefinition, defined, SpellsDefinitions, no_definition, next_definition, SpellsPackage, no_clause, clause, SpellsFile, spelled, wide_spelled}
 use Rattle.cs_grammar.specs.Atom.{Atom}
-use Rattle.cs_grammar.specs.Tree.{Label, Test, Condition, Tree, Trees, Fields, field, Declarations, no_declaration, declared, embedded, conditional, End, DefinitionTree, body, FileTree}
+use Rattle.cs_grammar.specs.Tree.{Label, Selector, Test, Condition, Tree, Trees, Fields, field, Declarations, no_declaration, declared, embedded, conditional, End, DefinitionTree, body, FileTree}
 use Rattle.cs_grammar.specs.Words.{Word, Words, close_list, colon, question, bang}
+use Rattle.cs_grammar.proofs.Rests as R
+use Rattle.cs_syntax.proofs.DefaultWords.{Narrow, kept}
 
 -- what goes on behind a label: a colon, or a mark
 abbrev pub goes_on : Word → Bool
@@ -99,6 +101,25 @@ of_conditions : {cs : List Condition} {ts r : Words} → SpellsConditions cs ts 
 of_conditions (last_condition is c) h = record { quiet = refl; apart = (refl, of_condition c h) }
 of_conditions (next_condition is c cs) h = record { quiet = refl; apart = (refl, of_condition c (of_conditions cs h).apart) }
 
+-- ---- names and selectors
+
+of_scope_name : {s : List ℕ} {ts r : Words} → SpellsName s ts r → Apart r → Follows ts
+of_scope_name hashed h = record { quiet = refl; apart = (refl, h) }
+of_scope_name underscored h = record { quiet = refl; apart = (refl, h) }
+
+of_base : {s : List ℕ} {ts r : Words} → SpellsBase s ts r → Apart r → Follows ts
+of_base (name_base n) h = of_scope_name n h
+of_base (field_base is) h = record { quiet = refl; apart = (refl, h) }
+
+of_selector : {l : Selector} {ts r : Words} → SpellsSelector l ts r → Apart r → Apart ts
+of_selector (by_name o n) h = (refl, (of_scope_name n h).apart)
+of_selector by_label h = (refl, (refl, h))
+of_selector by_text h = (refl, (refl, h))
+
+of_selectors : {ls : List Selector} {ts r : Words} → SpellsSelectors ls ts r → Apart r → Apart ts
+of_selectors (last_selector l) h = of_selector l h
+of_selectors (next_selector l ls) h = of_selector l (of_selectors ls h)
+
 -- ---- literals of the wide profile
 
 alone_labelled : (ds : Declarations) (fs : Fields) → fields_alone ds ≡ Some fs → AreLabelledFields fs → AreLabelledDeclarations ds
@@ -166,6 +187,8 @@ mutual
   of_operand (list_is s) is h = record { quiet = refl; apart = (refl, (of_list s is.0 is.1 h).apart) }
   of_operand (call_paren_is e c) is h = record { quiet = refl; apart = (refl, (of_expr e is (of_paren_end c h.apart)).apart) }
   of_operand (shut_is s e c) is h = record { quiet = refl; apart = (refl, (refl, (of_expr e is (of_paren_end c h.apart)).apart)) }
+  of_operand local_is is h = record { quiet = refl; apart = (refl, h.apart) }
+  of_operand (selected_is o b l) is h = of_base b (of_selectors l h.apart)
   of_operand (wide_struct_is {p} {ds} {b} e s) is h = record { quiet = refl; apart = (refl, (of_wide_struct s (literal_labelled p ds b (subst IsLabelled e is)) h).apart) }
 
   of_wide_struct : {ds : Declarations} {b : Bool} {ts r : Words} → SpellsWideStruct ds b ts r → AreLabelledDeclarations ds → Follows r → Follows ts
@@ -176,6 +199,8 @@ mutual
   of_declarations : {ds : Declarations} {ts r : Words} → SpellsDeclarations ds ts r → AreLabelledDeclarations ds → Follows r → Follows ts
   of_declarations (a_field f m) is h = of_field f is.0 is.1 (of_more m is.2 h)
   of_declarations (an_embedding o e m) is h = of_expr e is.0 (of_more m is.1 h)
+  of_declarations (a_name o n v m) is h = of_scope_name n (refl, (of_value v is.1 (of_more m is.2 h)).apart)
+  of_declarations (a_let l e m) is h = record { quiet = refl; apart = (refl, (refl, (refl, (of_expr e is.1 (of_more m is.2 h)).apart))) }
   of_declarations (a_conditional o cs b e m) is h = of_conditions cs (of_expr e is.0 (of_more m is.1 h)).apart
 
   of_more : {ds : Declarations} {ts r : Words} → SpellsMore ds ts r → AreLabelledDeclarations ds → Follows r → Follows ts
@@ -221,5 +246,7 @@ of_package : {c : Option (List ℕ)} {ts r : Words} → SpellsPackage c ts r →
 of_package no_clause h = h
 of_package (clause is c) h = (refl, (refl, (of_comma c h).apart))
 
-pub words_apart : (f : FileTree) (ts : Words) → SpellsFile f ts → IsLabelledFile f → Apart ts
-words_apart f ts (spelled p ds) is = of_package p (of_definitions ds is (record { quiet = refl; apart = (refl, tt) })).apart
+-- words of the default profile
+pub words_apart : (f : FileTree) (ts : Words) → SpellsFile f ts → Narrow ts → IsLabelledFile f → Apart ts
+words_apart f ts (spelled p ds) n is = of_package p (of_definitions ds is (record { quiet = refl; apart = (refl, tt) })).apart
+words_apart f ts (wide_spelled p ls) n is = let never : true ≡ false = (kept (R.of_wide_file ls) (kept (R.of_package p) n)).0 in absurd cc

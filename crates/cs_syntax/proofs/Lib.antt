@@ -6,14 +6,17 @@
 pub mod WordKinds
 pub mod QuotedTexts
 pub mod Reader
+pub mod LastWord
 pub mod Calls
 -- completeness, with the lists that a label's bracket begins, and what begins and follows an expression
 pub mod BracketLabels
 pub mod Boundaries
 pub mod ConditionsRead
+pub mod NamesRead
 pub mod Completeness
 -- soundness, faults, and what the call answers
 pub mod ConditionsFound
+pub mod NamesFound
 pub mod Soundness
 pub mod Places
 pub mod FileAnswers
@@ -37,3 +40,4 @@ pub mod EarlierSamples
 pub mod ProfileSamples
 pub mod EmbeddingSamples
 pub mod ConditionSamples
+pub mod NameSamples

@@ -8,8 +8,8 @@ use Rattle.cs_grammar.specs.declared.ast.FieldMark.{FieldMark}
 use Rattle.cs_grammar.specs.Words.{Word, Words, name, quoted, open_list, close_list, comma, nl, colon}
 use Rattle.cs_grammar.specs.Atom.{Atom}
 use Rattle.cs_grammar.specs.Tree as T
-use Rattle.cs_grammar.specs.Tree.{Label, Test, Condition, Tree, Trees, none, more, Fields, no_field, field, Declarations, no_declaration, declared, embedded, conditional, End, DefinitionTree, body, FileTree, definitions}
-use Rattle.cs_grammar.specs.Spells.{is_null, is_string, literal_of, fields_alone, literal_if, literal, Comma, explicit, inserted, ClosesParen, paren_here, paren_after, ClosesList, list_here, list_after, ClosesStruct, struct_here, struct_after, SpellsNumber, positive, negative, SpellsBound, limit_is, other_number, other_text, other_null, SpellsLabel, bare_label, quoted_label, SpellsMark, regular, optional, required, SpellsOpening, unopened, opened, SpellsScalar, scalar_name, scalar_number, scalar_text, SpellsTest, is_true, equal_to, unequal_to, is_absent, is_present, related, SpellsCondition, asked_is, denied_is, SpellsConditions, last_condition, next_condition, SpellsValue, long, short, SpellsField, labelled, every_key, SpellsExpr, one_branch, disjunction_is, SpellsBars, no_bar, a_bar, SpellsBranch, unmarked, marked_is, SpellsConj, one_operand, conjunction_is, SpellsAmps, no_amp, an_amp, SpellsOperand, top_is, bottom_is, reference_is, name_is, number_is, text_is, bound_is, paren_is, struct_is, list_is, call_paren_is, shut_is, wide_struct_is, SpellsWideStruct, no_declarations, wide_dots_alone, some_declarations, SpellsDeclarations, a_field, an_embedding, a_conditional, SpellsMore, no_more, next_declaration, SpellsStruct, no_fields, dots_alone, fields, SpellsFields, no_more_fields, next_field, SpellsList, no_elements, rest_alone, elements, SpellsElements, no_more_elements, next_element, SpellsEnd, closed_is, rest_is, SpellsRest, any_is, each_is, defined, SpellsDefinitions, no_definition, next_definition, SpellsPackage, no_clause, clause, SpellsFile, spelled}
+use Rattle.cs_grammar.specs.Tree.{Label, Selector, Test, Condition, Tree, Trees, none, more, Fields, no_field, field, Declarations, no_declaration, declared, embedded, conditional, End, DefinitionTree, body, NameTree, FileTree, definitions, names}
+use Rattle.cs_grammar.specs.Spells.{is_null, is_string, literal_of, fields_alone, literal_if, literal, Comma, explicit, inserted, ClosesParen, paren_here, paren_after, ClosesList, list_here, list_after, ClosesStruct, struct_here, struct_after, SpellsNumber, positive, negative, SpellsBound, limit_is, other_number, other_text, other_null, SpellsName, hashed, underscored, SpellsBase, name_base, field_base, SpellsSelector, by_name, by_label, by_text, SpellsSelectors, last_selector, next_selector, SpellsLabel, bare_label, quoted_label, SpellsMark, regular, optional, required, SpellsOpening, unopened, opened, SpellsScalar, scalar_name, scalar_number, scalar_text, SpellsTest, is_true, equal_to, unequal_to, is_absent, is_present, related, SpellsCondition, asked_is, denied_is, SpellsConditions, last_condition, next_condition, SpellsValue, long, short, SpellsField, labelled, every_key, SpellsExpr, one_branch, disjunction_is, SpellsBars, no_bar, a_bar, SpellsBranch, unmarked, marked_is, SpellsConj, one_operand, conjunction_is, SpellsAmps, no_amp, an_amp, SpellsOperand, top_is, bottom_is, reference_is, name_is, number_is, text_is, bound_is, paren_is, struct_is, list_is, call_paren_is, shut_is, local_is, selected_is, wide_struct_is, SpellsWideStruct, no_declarations, wide_dots_alone, some_declarations, SpellsDeclarations, a_field, an_embedding, a_name, a_let, a_conditional, SpellsMore, no_more, next_declaration, SpellsStruct, no_fields, dots_alone, fields, SpellsFields, no_more_fields, next_field, SpellsList, no_elements, rest_alone, elements, SpellsElements, no_more_elements, next_element, SpellsEnd, closed_is, rest_is, SpellsRest, any_is, each_is, defined, SpellsDefinitions, no_definition, next_definition, SpellsFileName, field_name, local_name, bound_name, SpellsWideFile, no_line, definition_line, name_line, SpellsPackage, no_clause, clause, SpellsFile, spelled, wide_spelled}
 use Rattle.cs_syntax.specs.Nesting.{OpenLevels, ends_with_chained_label, is_short, counted_if, behind, nesting_at, nesting_from, nesting}
 use Rattle.cs_syntax.proofs.NestingCounts.{nesting-cons}
 
@@ -30,6 +30,7 @@ abbrev mutual
   inside_wide (T.marked o e) = inside e
   inside_wide (T.merged o ds b) = inside_declarations ds
   inside_wide (T.shut o e) = suc (inside e)
+  inside_wide (T.selected o s ls) = 0
 
   pub inside_declarations : Declarations → ℕ
   inside_declarations no_declaration = 0
@@ -59,8 +60,13 @@ abbrev pub inside_definitions : List DefinitionTree → ℕ
 inside_definitions [] = 0
 inside_definitions (d ∷ ds) = max (suc (inside (body d))) (inside_definitions ds)
 
+-- so is the value of another name
+abbrev pub inside_names : List NameTree → ℕ
+inside_names [] = 0
+inside_names (n ∷ ns) = max (suc (inside n.value)) (inside_names ns)
+
 abbrev pub inside_file : FileTree → ℕ
-inside_file f = inside_definitions (definitions f)
+inside_file f = max (inside_definitions (definitions f)) (inside_names (names f))
 
 -- a literal has inside what its declarations have, whether all are fields or not
 inside_alone : (ds : Declarations) (fs : Fields) → fields_alone ds ≡ Some fs → inside_fields fs ≡ inside_declarations ds
@@ -192,6 +198,30 @@ conditions_go : {k : ℕ} {cs : List Condition} {ws ts r : Words} {ns : OpenLeve
 conditions_go (last_condition is c) h = condition_goes c (pass h)
 conditions_go (next_condition is c cs) h = conditions_go cs (condition_goes c (pass h)).1
 
+-- ---- names and selectors
+
+scope_name_goes : {k : ℕ} {s : List ℕ} {ws ts r : Words} {ns : OpenLevels} → SpellsName s ts r → Runs k ws ns ts → Goes k ns r
+scope_name_goes hashed h = (_, pass h)
+scope_name_goes underscored h = (_, pass h)
+
+base_goes : {k : ℕ} {s : List ℕ} {ws ts r : Words} {ns : OpenLevels} → SpellsBase s ts r → Runs k ws ns ts → Goes k ns r
+base_goes (name_base n) h = scope_name_goes n h
+base_goes (field_base is) h = (_, pass h)
+
+selector_goes : {k : ℕ} {l : Selector} {ws ts r : Words} {ns : OpenLevels} → SpellsSelector l ts r → Runs k ws ns ts → Goes k ns r
+selector_goes (by_name o n) h = scope_name_goes n (pass h)
+selector_goes by_label h = (_, pass (pass h))
+selector_goes by_text h = (_, pass (pass h))
+
+selectors_go : {k : ℕ} {ls : List Selector} {ws ts r : Words} {ns : OpenLevels} → SpellsSelectors ls ts r → Runs k ws ns ts → Goes k ns r
+selectors_go (last_selector l) h = selector_goes l h
+selectors_go (next_selector l ls) h = selectors_go ls (selector_goes l h).1
+
+-- the colon behind such a name isn't short
+scope_value : {k n p : ℕ} {s : List ℕ} {ws ts us : Words} {ns : OpenLevels} → SpellsName s ts (colon p ∷ us) → Runs k ws (n ∷ ns) ts → ToValue k (n ∷ ns) us
+scope_value hashed h = (_, _, pass (pass h))
+scope_value underscored h = (_, _, pass (pass h))
+
 -- ---- operands without parts
 
 name_flat : (s : List ℕ) (p : ℕ) → inside (unwrap_or (literal_of s) (T.named s p)) ≡ 0
@@ -303,6 +333,8 @@ mutual
   operand_low (list_is s) h = list_low s (pass h)
   operand_low {n = n} {ns = ns} (call_paren_is e c) h = let x = expr_low e (pass h) in (one_in _ n ns x.0, paren_goes c x.1.1)
   operand_low {n = n} {ns = ns} (shut_is s e c) h = let x = expr_low e (pass (pass h)) in (one_in _ n ns x.0, paren_goes c x.1.1)
+  operand_low local_is h = (flat h, (_, pass h))
+  operand_low (selected_is o b l) h = (flat h, selectors_go l (base_goes b h).1)
   operand_low (wide_struct_is {p} {ds} {b} e s) h = let x = wide_struct_low s refl (pass h) in (omega (arith, x.0, ap inside e, inside_literal p ds b), x.1)
 
   struct_low : {k n : ℕ} {fs : Fields} {b : Bool} {ws ts r : Words} {ns : OpenLevels} → SpellsStruct fs b ts r → begins_colon ws ≡ false → Runs k ws (0 ∷ n ∷ ns) ts → Fits k (inside_fields fs) (n ∷ ns) × Goes k (n ∷ ns) r
@@ -322,6 +354,8 @@ mutual
   declarations_low : {k n : ℕ} {ds : Declarations} {ws ts r : Words} {ns : OpenLevels} → SpellsDeclarations ds ts r → begins_colon ws ≡ false → Runs k ws (0 ∷ n ∷ ns) ts → Fits k (inside_declarations ds) (n ∷ ns) × Leaves k (n ∷ ns) r
   declarations_low {n = n} {ns = ns} (a_field v m) f h = let x = field_low v f h in let y = more_low m x.1.1.1 in (max_plus _ _ _ (one_in _ n ns x.0) y.0, y.1)
   declarations_low {n = n} {ns = ns} (an_embedding o e m) f h = let x = expr_low e h in let y = more_low m x.1.1 in (max_plus _ _ _ (one_in _ n ns x.0) y.0, y.1)
+  declarations_low {n = n} {ns = ns} (a_name o s v m) f h = let b = scope_value s h in let x = value_low v b.2 in let y = more_low m x.1.1.1 in (max_plus _ _ _ (one_in _ n ns x.0) y.0, y.1)
+  declarations_low {n = n} {ns = ns} (a_let l e m) f h = let x = expr_low e (pass (pass (pass h))) in let y = more_low m x.1.1 in (max_plus _ _ _ (one_in _ n ns x.0) y.0, y.1)
   declarations_low {n = n} {ns = ns} (a_conditional o cs b e m) f h = let x = expr_low e (conditions_go cs h).1 in let y = more_low m x.1.1 in (max_plus _ _ _ (one_in _ n ns x.0) y.0, y.1)
 
   more_low : {k m n : ℕ} {ds : Declarations} {ws ts r : Words} {ns : OpenLevels} → SpellsMore ds ts r → Runs k ws (m ∷ n ∷ ns) ts → Fits k (inside_declarations ds) (n ∷ ns) × Leaves k (n ∷ ns) r
@@ -351,10 +385,30 @@ definitions_low : {k : ℕ} {ds : List DefinitionTree} {ws ts r : Words} → Spe
 definitions_low no_definition h = omega arith
 definitions_low (next_definition (defined v) c ds) h = let x = value_low v (pass (pass h)) in let g = comma_goes c x.1.1.1 in max_both _ _ (omega (arith, x.0)) (definitions_low ds g.2)
 
-package_goes : {k : ℕ} {c : Option (List ℕ)} {ws ts us : Words} → SpellsPackage c ts us → Runs k ws (0 ∷ []) ts → Goes k (0 ∷ []) us
-package_goes no_clause h = (_, h)
-package_goes (clause e c) h = let g = comma_goes c (pass (pass h)) in (g.0, g.2)
+file_name_low : {k n : ℕ} {x : NameTree} {ws ts r : Words} {ns : OpenLevels} → SpellsFileName x ts r → begins_colon ws ≡ false → Runs k ws (n ∷ ns) ts → Fits k (inside x.value) (n ∷ ns) × Leaves k ns r
+file_name_low {n = n} {ns = ns} (field_name is v) f h = let b = value_begins bare_label regular h in value_low v (counted_runs (n ∷ ns) f b.2)
+file_name_low (local_name v) f h = let b = scope_value underscored h in value_low v b.2
+file_name_low {n = n} (bound_name l e) f h = let x = expr_low e (pass (pass (pass h))) in (x.0, (n, x.1))
 
--- words that nest so deep spell no file with more values inside one another: a body, and one for each bracket and each short colon
+wide_file_low : {k : ℕ} {ds : List DefinitionTree} {ns : List NameTree} {ws ts r : Words} → SpellsWideFile ds ns ts r → begins_colon ws ≡ false → Runs k ws (0 ∷ []) ts → (inside_definitions ds ≤ suc k) × (inside_names ns ≤ suc k)
+wide_file_low no_line f h = (omega arith, omega arith)
+wide_file_low (definition_line (defined v) c ls) f h =
+    let x = value_low v (pass (pass h)) in
+    let g = comma_goes c x.1.1.1 in
+    let y = wide_file_low ls g.1 g.2 in
+    (max_both _ _ (omega (arith, x.0)) y.0, y.1)
+wide_file_low (name_line s c ls) f h =
+    let x = file_name_low s f h in
+    let g = comma_goes c x.1.1.1 in
+    let y = wide_file_low ls g.1 g.2 in
+    (y.0, max_both _ _ (omega (arith, x.0)) y.1)
+
+package_goes : {k : ℕ} {c : Option (List ℕ)} {ws ts us : Words} → SpellsPackage c ts us → begins_colon ws ≡ false → Runs k ws (0 ∷ []) ts → Fresh k [] us
+package_goes no_clause f h = (_, f, h)
+package_goes (clause e c) f h = comma_goes c (pass (pass h))
+
+-- words that nest so deep spell no file with more values inside one another: a value of a definition or name, and one for each bracket and each short
+-- colon
 pub inside_low : {k : ℕ} {f : FileTree} {ts : Words} → SpellsFile f ts → nesting ts ≤ k → inside_file f ≤ suc k
-inside_low (spelled c ds) h = let g = package_goes c (record { low = h }) in definitions_low ds g.1
+inside_low (spelled c ds) h = let g = package_goes c refl (record { low = h }) in max_both _ _ (definitions_low ds g.2) (omega arith)
+inside_low (wide_spelled c ls) h = let g = package_goes c refl (record { low = h }) in let x = wide_file_low ls g.1 g.2 in max_both _ _ x.0 x.1

@@ -17,12 +17,13 @@ use Rattle.cs_grammar.specs.Cut.{Lexeme, lexeme, comma_if, blank, new_line, comm
 use Rattle.cs_grammar.specs.CutIn.{CutIn}
 use Rattle.cs_grammar.specs.Stuck.{StuckIn, no_token, too_large, past_blank, past_line, past_comment, past_attribute, past_token}
 use Rattle.cs_grammar.specs.Words as W
+use Rattle.std.proofs.lemmas.Bool.{and_parts}
 use Rattle.std.specs.Prelude.{◌&&◌, ◌||◌, not, cond}
-use Rattle.cs_grammar.specs.Words.{Word, Words, start, name, quoted, definition_name, numeral, top_mark, bottom_mark, open_paren, open_call, open_struct, open_wide, open_list, relation, unequal, minus, equal}
-use Rattle.cs_grammar.specs.Tree.{Condition, Tree, atom, not_integer, DefinitionTree, FileTree, file}
+use Rattle.cs_grammar.specs.Words.{Word, Words, start, name, quoted, definition_name, numeral, top_mark, bottom_mark, open_paren, open_call, open_struct, open_wide, open_list, relation, unequal, minus, equal, local}
+use Rattle.cs_grammar.specs.Tree.{Selector, Condition, Tree, atom, not_integer, DefinitionTree, NameTree, FileTree, file}
 use Rattle.cs_grammar.specs.Spells.{is_reserved, is_null, is_braced, literal_of, start_at}
 use Rattle.cs_grammar.specs.TokenWords.{words}
-use Rattle.cs_syntax.specs.Reading.{◌>>=◌, Read, word_kind, begins_with, begins_comma, fault_at, behind_if, after, after_comma, or_fault, beyond, comma_at, close_at, paren_end, expected, signed, number_or, number_at, name_or, null_or, bound_at, unequal_at, integer_at, unbracketed_at, or_more, many, another_field, another_element, opening, opening_if, opening_at, rest_behind, may_end, label_at, mark_if, mark_at, begins_string, string_at, every_key_at, head_if, head_at, field_with, fields_with, struct_if, struct_with, scalar_or, scalar_at, compared_if, compared_at, related_at, test_at, names_no_field, asked_or, asked_at, condition_if, condition_at, begins_if, after_if, conditions_at, conditional_or, conditional_with, begins_conditional, declaration_if, declaration_with, declarations_with, wide_struct_if, wide_struct_with, rest_if, rest_with, end_if, end_with, elements_with, list_if, list_with, paren_with, uncalled_with, operand_if, operand_with, begins_shut, amps_with, conj_with, branch_if, branch_with, bars_with, expr_with, value_if, begins_field, inner, definition_at, line_at, before_end, definitions_at, is_clause, clause_at, package_if, package_at, whole, file_with, file_at}
+use Rattle.cs_syntax.specs.Reading.{◌>>=◌, Read, word_kind, begins_with, begins_comma, fault_at, behind_if, after, after_comma, or_fault, beyond, comma_at, close_at, paren_end, expected, signed, number_or, number_at, name_or, null_or, bound_at, unequal_at, integer_at, unbracketed_at, or_more, many, another_field, another_element, opening, opening_if, opening_at, rest_behind, may_end, label_at, mark_if, mark_at, begins_string, string_at, every_key_at, head_if, head_at, field_with, fields_with, struct_if, struct_with, scalar_or, scalar_at, compared_if, compared_at, related_at, test_at, names_no_field, asked_or, asked_at, condition_if, condition_at, begins_if, after_if, conditions_at, conditional_or, conditional_with, begins_conditional, ends_label, name_at, selector_at, selectors_at, begins_selected, selected_at, leaf_if, leaf_at, begins_let, begins_binding, begins_scoped, bound_name_at, name_head_if, name_head_at, scoped_with, declaration_if, declaration_or, declaration_with, declarations_with, wide_struct_if, wide_struct_with, rest_if, rest_with, end_if, end_with, elements_with, list_if, list_with, paren_with, uncalled_with, operand_if, operand_with, begins_shut, amps_with, conj_with, branch_if, branch_with, bars_with, expr_with, value_if, begins_field, inner, definition_at, line_at, begins_file_name, file_name_at, name_line_at, any_line_if, any_line_at, begins_end, before_end, lines_at, is_clause, clause_at, package_if, package_at, whole, ends_wide, end_kind, file_with, file_at}
 use Rattle.cs_syntax.specs.Place.{is_left_out, fault_if, Ends, same, past, IsFaultIn}
 use Rattle.cs_lexer.specs.Lexed.{IsRefusalIn}
 use Rattle.cs_syntax.proofs.Calls.{Shut, is_shut, shut_of}
@@ -32,6 +33,7 @@ use Rattle.cs_syntax.specs.Refusal.{IsFileRefusalIn}
 
 pub data WellEnded : Words → Type 0 where
   last : {p : ℕ} → WellEnded (W.finish p ∷ [])
+  wide_last : {p : ℕ} → WellEnded (W.wide_finish p ∷ [])
   before : {w : Word} {ts : Words} → WellEnded ts → WellEnded (w ∷ ts)
 
 -- in either profile
@@ -46,7 +48,7 @@ comma_ended p Minus o ks h = h
 
 end_last : (p : Profile) (o : ℕ) → WellEnded (words (taken p (lexeme sorts.End [] o ∷ [])))
 end_last profiles.Default o = last
-end_last profiles.Wide o = last
+end_last profiles.Wide o = wide_last
 
 pub cut_ended : (p : Profile) {bs : List ℕ} {o : ℕ} {l : LineState} {ks : List Lexeme} → CutIn p bs o l ks → WellEnded (words (taken p ks))
 cut_ended p (blank h k) = cut_ended p k
@@ -103,8 +105,13 @@ then_to ts (Err e) f g k = g
 
 -- ---- marks
 
-after_goes : (k : Kind) → sameb the_type kinds.End k ≡ false → (ts : Words) → WellEnded ts → GoesBehind ts (after k ts)
-after_goes k z (W.finish p ∷ []) last = rw z tt
+-- a kind other than the ends
+abbrev NoEnd : Kind → Type 0
+NoEnd k = (sameb the_type kinds.End k ≡ false) × (sameb the_type kinds.WideEnd k ≡ false)
+
+after_goes : (k : Kind) → NoEnd k → (ts : Words) → WellEnded ts → GoesBehind ts (after k ts)
+after_goes k z (W.finish p ∷ []) last = rw z.0 tt
+after_goes k z (W.wide_finish p ∷ []) wide_last = rw z.1 tt
 after_goes k z (w ∷ ts) (before e) = by (sameb the_type (word_kind w) k)
   where
     by : (b : Bool) → GoesBehind (w ∷ ts) (cond b (Some ts) None)
@@ -112,40 +119,41 @@ after_goes k z (w ∷ ts) (before e) = by (sameb the_type (word_kind w) k)
     by false = tt
 after_goes k z [] e = elim e [ ]
 
-behind_goes : (c : Words → Bool) → ((p : ℕ) → c (W.finish p ∷ []) ≡ false) → (ts : Words) → WellEnded ts → GoesBehind ts (behind_if (c ts) ts)
-behind_goes c z (W.finish p ∷ []) last = rw (z p) tt
-behind_goes c z (w ∷ ts) (before e) = by (c (w ∷ ts))
+behind_goes : (c : Words → Bool) → ((p : ℕ) → c (W.finish p ∷ []) ≡ false) → ((p : ℕ) → c (W.wide_finish p ∷ []) ≡ false) → (ts : Words) → WellEnded ts → GoesBehind ts (behind_if (c ts) ts)
+behind_goes c z y (W.finish p ∷ []) last = rw (z p) tt
+behind_goes c z y (W.wide_finish p ∷ []) wide_last = rw (y p) tt
+behind_goes c z y (w ∷ ts) (before e) = by (c (w ∷ ts))
   where
     by : (b : Bool) → GoesBehind (w ∷ ts) (behind_if b (w ∷ ts))
     by true = (past same, e)
     by false = tt
-behind_goes c z [] e = elim e [ ]
+behind_goes c z y [] e = elim e [ ]
 
 or_fault_goes : (ts : Words) (o : Option Words) → WellEnded ts → GoesBehind ts o → GoesTo ts (or_fault ts o)
 or_fault_goes ts None e g = fault_here ts e
 or_fault_goes ts (Some us) e g = g
 
-expected_goes : (k : Kind) → sameb the_type kinds.End k ≡ false → (ts : Words) → WellEnded ts → GoesTo ts (expected k ts)
+expected_goes : (k : Kind) → NoEnd k → (ts : Words) → WellEnded ts → GoesTo ts (expected k ts)
 expected_goes k z ts e = or_fault_goes ts (after k ts) e (after_goes k z ts e)
 
 comma_goes : (ts : Words) → WellEnded ts → GoesTo ts (comma_at ts)
-comma_goes ts e = or_fault_goes ts (after_comma ts) e (behind_goes begins_comma (λ p. refl) ts e)
+comma_goes ts e = or_fault_goes ts (after_comma ts) e (behind_goes begins_comma (λ p. refl) (λ p. refl) ts e)
 
-beyond_goes : (k : Kind) → sameb the_type kinds.End k ≡ false → (ts : Words) (o : Option Words) → WellEnded ts → GoesBehind ts o → GoesTo ts (expected k (beyond ts o))
+beyond_goes : (k : Kind) → NoEnd k → (ts : Words) (o : Option Words) → WellEnded ts → GoesBehind ts o → GoesTo ts (expected k (beyond ts o))
 beyond_goes k z ts None e g = expected_goes k z ts e
 beyond_goes k z ts (Some us) e g = moved_to ts us (expected k us) g.0 (expected_goes k z us g.1)
 
 list_end_goes : (ts : Words) → WellEnded ts → GoesTo ts (close_at kinds.CloseList ts)
-list_end_goes ts e = beyond_goes kinds.CloseList refl ts (after_comma ts) e (behind_goes begins_comma (λ p. refl) ts e)
+list_end_goes ts e = beyond_goes kinds.CloseList (refl, refl) ts (after_comma ts) e (behind_goes begins_comma (λ p. refl) (λ p. refl) ts e)
 
 struct_end_goes : (ts : Words) → WellEnded ts → GoesTo ts (close_at kinds.CloseStruct ts)
-struct_end_goes ts e = beyond_goes kinds.CloseStruct refl ts (after_comma ts) e (behind_goes begins_comma (λ p. refl) ts e)
+struct_end_goes ts e = beyond_goes kinds.CloseStruct (refl, refl) ts (after_comma ts) e (behind_goes begins_comma (λ p. refl) (λ p. refl) ts e)
 
 paren_end_goes : (ts : Words) → WellEnded ts → GoesTo ts (paren_end ts)
-paren_end_goes ts e = beyond_goes kinds.CloseParen refl ts (after kinds.Inserted ts) e (after_goes kinds.Inserted refl ts e)
+paren_end_goes ts e = beyond_goes kinds.CloseParen (refl, refl) ts (after kinds.Inserted ts) e (after_goes kinds.Inserted (refl, refl) ts e)
 
 mark_goes : (ts : Words) → WellEnded ts → Ends ts (mark_at ts).1 × WellEnded (mark_at ts).1
-mark_goes ts e = by (after kinds.Question ts) (after kinds.Bang ts) (after_goes kinds.Question refl ts e) (after_goes kinds.Bang refl ts e)
+mark_goes ts e = by (after kinds.Question ts) (after kinds.Bang ts) (after_goes kinds.Question (refl, refl) ts e) (after_goes kinds.Bang (refl, refl) ts e)
   where
     by : (o q : Option Words) → GoesBehind ts o → GoesBehind ts q → Ends ts (mark_if ts o q).1 × WellEnded (mark_if ts o q).1
     by (Some us) q g h = g
@@ -193,6 +201,7 @@ plain_goes (top_mark p ∷ ts) (before e) = (past same, e)
 plain_goes (bottom_mark p ∷ ts) (before e) = (past same, e)
 plain_goes (definition_name s p ∷ ts) (before e) = (past same, e)
 plain_goes (name s p ∷ ts) (before e) = name_or_goes (is_reserved s) (literal_of s) s p ts e
+plain_goes (local s p ∷ ts) (before e) = (past same, e)
 plain_goes (quoted s p ∷ ts) (before e) = (past same, e)
 plain_goes (relation b p ∷ ts) (before e) = moved (relation b p ∷ ts) ts (bound_at b ts) (past same) (then ts (number_at ts) _ (number_goes ts e) (λ x h. (same, h)))
 plain_goes (unequal p ∷ ts) (before e) = moved (unequal p ∷ ts) ts (unequal_at ts) (past same) (unequal_goes ts e)
@@ -229,7 +238,7 @@ scalar_goes ts e = scalar_number_goes ts e
 
 compared_goes : (b : Bool) → IsGoing (compared_at b)
 unfolding compared_at
-compared_goes b ts e = by (after kinds.Bottom ts) (after_goes kinds.Bottom refl ts e)
+compared_goes b ts e = by (after kinds.Bottom ts) (after_goes kinds.Bottom (refl, refl) ts e)
   where
     by : (o : Option Words) → GoesBehind ts o → Goes ts (compared_if b ts o)
     by (Some us) g = g
@@ -257,14 +266,14 @@ asked_goes ts e = fault_here ts e
 
 condition_goes : IsGoing condition_at
 unfolding condition_at
-condition_goes ts e = by (after kinds.Bang ts) (after_goes kinds.Bang refl ts e)
+condition_goes ts e = by (after kinds.Bang ts) (after_goes kinds.Bang (refl, refl) ts e)
   where
     by : (o : Option Words) → GoesBehind ts o → Goes ts (condition_if ts o)
     by (Some us) g = moved ts us (condition_if ts (Some us)) g.0 (then us (asked_at us) _ (asked_goes us g.1) (λ x k. (same, k)))
     by None g = then ts (asked_at ts) _ (asked_goes ts e) (λ x k. then x.1 (test_at x.1) _ (test_goes x.1 k) (λ y l. (same, l)))
 
 condition_skips : (ts : Words) → WellEnded ts → GoesBehind ts (after_if ts)
-condition_skips ts e = behind_goes begins_if (λ p. refl) ts e
+condition_skips ts e = behind_goes begins_if (λ p. refl) (λ p. refl) ts e
 
 conditions_go : (n : ℕ) → IsGoing (conditions_at n)
 conditions_go n = many_goes after_if condition_skips condition_at condition_goes n
@@ -278,6 +287,62 @@ braced_goes ts w o cs (Ok x) g = by (is_braced x.0)
     by true = g
     by false = fault_here ts w
 
+-- ---- names and selectors
+
+name_goes : IsGoing name_at
+unfolding name_at
+name_goes (name s p ∷ ts) (before e) = (past same, e)
+name_goes (definition_name s p ∷ ts) (before e) = (past same, e)
+name_goes (local s p ∷ ts) (before e) = (past same, e)
+name_goes ts e = fault_here ts e
+
+named_selector_goes : IsGoing {A = Selector} (λ ts. name_at ts >>= λ s. Ok (record { text = s.0; quotes = false; at = start_at ts }, s.1))
+named_selector_goes ts e = then ts (name_at ts) _ (name_goes ts e) (λ x k. (same, k))
+
+selector_goes : IsGoing selector_at
+unfolding selector_at
+selector_goes (quoted s p ∷ ts) (before e) = (past same, e)
+selector_goes ts e = named_selector_goes ts e
+
+selectors_go : (n : ℕ) → IsGoing (selectors_at n)
+selectors_go n = many_goes (after kinds.Dot) (after_goes kinds.Dot (refl, refl)) selector_at selector_goes n
+
+selected_goes : IsGoing selected_at
+unfolding selected_at
+selected_goes ts e = then ts (name_at ts) _ (name_goes ts e) (λ s k. then_to s.1 (expected kinds.Dot s.1) _ (expected_goes kinds.Dot (refl, refl) s.1 k) (λ us l. then us (selector_at us) _ (selector_goes us l) (λ x m. then x.1 (selectors_at (length x.1) x.1) _ (selectors_go (length x.1) x.1 m) (λ y n. (same, n)))))
+
+leaf_goes : IsGoing leaf_at
+unfolding leaf_at
+leaf_goes ts e = by (begins_selected ts)
+  where
+    by : (b : Bool) → Goes ts (leaf_if b ts)
+    by true = selected_goes ts e
+    by false = plain_goes ts e
+
+bound_name_goes : IsGoing bound_name_at
+unfolding bound_name_at
+bound_name_goes (name s p ∷ ts) (before e) = (past same, e)
+bound_name_goes ts e = fault_here ts e
+
+-- behind `let`
+record PastLet (ts : Words) : Type 0 where
+  ends : Ends ts (drop 1 ts)
+  ended : WellEnded (drop 1 ts)
+
+let_goes : (ts : Words) → begins_let ts ≡ true → WellEnded ts → PastLet ts
+let_goes (name s p ∷ ts) h (before e) = record { ends = past same; ended = e }
+let_goes ts h e = absurd cc
+
+name_head_goes : IsGoing name_head_at
+unfolding name_head_at
+name_head_goes ts e = by (begins_binding ts) refl
+  where
+    by : (b : Bool) → begins_binding ts ≡ b → Goes ts (name_head_if b ts)
+    by true k =
+        let g = let_goes ts (and_parts (begins_let ts) (not (ends_label (drop 1 ts))) k).0 e in
+        moved ts (drop 1 ts) (name_head_if true ts) g.ends (then (drop 1 ts) (bound_name_at (drop 1 ts)) _ (bound_name_goes (drop 1 ts) g.ended) (λ s l. then_to s.1 (expected kinds.Assign s.1) _ (expected_goes kinds.Assign (refl, refl) s.1 l) (λ us m. (same, m))))
+    by false k = then ts (name_at ts) _ (name_goes ts e) (λ s l. then_to s.1 (expected kinds.Colon s.1) _ (expected_goes kinds.Colon (refl, refl) s.1 l) (λ us m. (same, m)))
+
 -- ---- fields, lists and expressions
 
 label_goes : IsGoing label_at
@@ -287,32 +352,32 @@ label_goes (quoted s p ∷ ts) (before e) = (past same, e)
 label_goes ts e = fault_here ts e
 
 string_goes : (ts : Words) → WellEnded ts → GoesTo ts (string_at ts)
-string_goes ts e = or_fault_goes ts (behind_if (begins_string ts) ts) e (behind_goes begins_string (λ p. refl) ts e)
+string_goes ts e = or_fault_goes ts (behind_if (begins_string ts) ts) e (behind_goes begins_string (λ p. refl) (λ p. refl) ts e)
 
 every_key_goes : IsGoing every_key_at
 unfolding every_key_at
-every_key_goes ts e = then_to ts (string_at ts) _ (string_goes ts e) (λ us k. then_to us (expected kinds.CloseList us) _ (expected_goes kinds.CloseList refl us k) (λ vs l. (same, l)))
+every_key_goes ts e = then_to ts (string_at ts) _ (string_goes ts e) (λ us k. then_to us (expected kinds.CloseList us) _ (expected_goes kinds.CloseList (refl, refl) us k) (λ vs l. (same, l)))
 
 head_goes : IsGoing head_at
 unfolding head_at
-head_goes ts e = by (after kinds.OpenList ts) (after_goes kinds.OpenList refl ts e)
+head_goes ts e = by (after kinds.OpenList ts) (after_goes kinds.OpenList (refl, refl) ts e)
   where
     by : (o : Option Words) → GoesBehind ts o → Goes ts (head_if ts o)
     by (Some us) g = moved ts us (every_key_at us) g.0 (every_key_goes us g.1)
     by None g = then ts (label_at ts) _ (label_goes ts e) (λ l k. mark_goes l.1 k)
 
 opening_goes : IsGoing opening_at
-opening_goes ts e = by (opening ts) (behind_goes (λ us. begins_comma us && begins_with kinds.Dots (drop 1 us)) (λ p. refl) ts e)
+opening_goes ts e = by (opening ts) (behind_goes (λ us. begins_comma us && begins_with kinds.Dots (drop 1 us)) (λ p. refl) (λ p. refl) ts e)
   where
     by : (o : Option Words) → GoesBehind ts o → Goes ts (opening_if ts o)
     by None g = then_to ts (close_at kinds.CloseStruct ts) _ (struct_end_goes ts e) (λ us h. (same, h))
-    by (Some us) g = moved ts us (opening_if ts (Some us)) g.0 (then_to us (expected kinds.Dots us) _ (expected_goes kinds.Dots refl us g.1) (λ vs h. then_to vs (close_at kinds.CloseStruct vs) _ (struct_end_goes vs h) (λ ws k. (same, k))))
+    by (Some us) g = moved ts us (opening_if ts (Some us)) g.0 (then_to us (expected kinds.Dots us) _ (expected_goes kinds.Dots (refl, refl) us g.1) (λ vs h. then_to vs (close_at kinds.CloseStruct vs) _ (struct_end_goes vs h) (λ ws k. (same, k))))
 
 field_skips : (ts : Words) → WellEnded ts → GoesBehind ts (another_field ts)
-field_skips ts e = behind_goes (λ us. begins_comma us && not (begins_with kinds.CloseStruct (drop 1 us) || begins_with kinds.Dots (drop 1 us))) (λ p. refl) ts e
+field_skips ts e = behind_goes (λ us. begins_comma us && not (begins_with kinds.CloseStruct (drop 1 us) || begins_with kinds.Dots (drop 1 us))) (λ p. refl) (λ p. refl) ts e
 
 element_skips : (ts : Words) → WellEnded ts → GoesBehind ts (another_element ts)
-element_skips ts e = behind_goes (λ us. begins_with kinds.Comma us && not (begins_with kinds.CloseList (drop 1 us) || begins_with kinds.Dots (drop 1 us))) (λ p. refl) ts e
+element_skips ts e = behind_goes (λ us. begins_with kinds.Comma us && not (begins_with kinds.CloseList (drop 1 us) || begins_with kinds.Dots (drop 1 us))) (λ p. refl) (λ p. refl) ts e
 
 shut_goes : {ts us : Words} → Shut ts us → WellEnded ts → Ends ts us × WellEnded us
 shut_goes (is_shut h) (before (before e)) = (past (past same), e)
@@ -320,11 +385,11 @@ shut_goes (is_shut h) (before (before e)) = (past (past same), e)
 module _ (r : Bool → Read Tree) (h : (b : Bool) → IsGoing (r b)) where
   field_goes : IsGoing (field_with r)
   unfolding field_with
-  field_goes ts e = then ts (head_at ts) _ (head_goes ts e) (λ x k. then_to x.1 (expected kinds.Colon x.1) _ (expected_goes kinds.Colon refl x.1 k) (λ us n. then us (r true us) _ (h true us n) (λ y o. (same, o))))
+  field_goes ts e = then ts (head_at ts) _ (head_goes ts e) (λ x k. then_to x.1 (expected kinds.Colon x.1) _ (expected_goes kinds.Colon (refl, refl) x.1 k) (λ us n. then us (r true us) _ (h true us n) (λ y o. (same, o))))
 
   struct_goes : IsGoing (struct_with r)
   unfolding struct_with
-  struct_goes ts e = by (after kinds.CloseStruct ts) (after kinds.Dots ts) (after_goes kinds.CloseStruct refl ts e) (after_goes kinds.Dots refl ts e)
+  struct_goes ts e = by (after kinds.CloseStruct ts) (after kinds.Dots ts) (after_goes kinds.CloseStruct (refl, refl) ts e) (after_goes kinds.Dots (refl, refl) ts e)
     where
       by : (o d : Option Words) → GoesBehind ts o → GoesBehind ts d → Goes ts (struct_if r ts o d)
       by (Some us) d g k = g
@@ -335,18 +400,29 @@ module _ (r : Bool → Read Tree) (h : (b : Bool) → IsGoing (r b)) where
   unfolding conditional_with
   conditional_goes ts e = then ts (conditions_at (length ts) ts) _ (conditions_go (length ts) ts e) (λ cs k. braced_goes cs.1 k (start_at ts) cs.0 (r false cs.1) (h false cs.1 k))
 
-  declaration_goes : IsGoing (declaration_with r)
-  unfolding declaration_with
-  declaration_goes ts e = by (begins_conditional ts) (begins_field ts)
+  unnamed_goes : IsGoing (λ ts. declaration_if r (begins_conditional ts) (begins_field ts) ts)
+  unnamed_goes ts e = by (begins_conditional ts) (begins_field ts)
     where
       by : (c b : Bool) → Goes ts (declaration_if r c b ts)
       by true b = conditional_goes ts e
       by false true = then ts (field_with r ts) _ (field_goes ts e) (λ x k. (same, k))
       by false false = then ts (r false ts) _ (h false ts e) (λ x k. (same, k))
 
+  scoped_goes : IsGoing (scoped_with r)
+  unfolding scoped_with
+  scoped_goes ts e = then ts (name_head_at ts) _ (name_head_goes ts e) (λ x k. then x.1 (r (not x.0.1) x.1) _ (h (not x.0.1) x.1 k) (λ y l. (same, l)))
+
+  declaration_goes : IsGoing (declaration_with r)
+  unfolding declaration_with
+  declaration_goes ts e = named (begins_scoped ts)
+    where
+      named : (b : Bool) → Goes ts (declaration_or r b ts)
+      named true = then ts (scoped_with r ts) _ (scoped_goes ts e) (λ x k. (same, k))
+      named false = unnamed_goes ts e
+
   wide_struct_goes : IsGoing (wide_struct_with r)
   unfolding wide_struct_with
-  wide_struct_goes ts e = by (after kinds.CloseStruct ts) (after kinds.Dots ts) (after_goes kinds.CloseStruct refl ts e) (after_goes kinds.Dots refl ts e)
+  wide_struct_goes ts e = by (after kinds.CloseStruct ts) (after kinds.Dots ts) (after_goes kinds.CloseStruct (refl, refl) ts e) (after_goes kinds.Dots (refl, refl) ts e)
     where
       by : (o d : Option Words) → GoesBehind ts o → GoesBehind ts d → Goes ts (wide_struct_if r ts o d)
       by (Some us) d g k = g
@@ -363,15 +439,15 @@ module _ (r : Bool → Read Tree) (h : (b : Bool) → IsGoing (r b)) where
 
   end_goes : IsGoing (end_with r)
   unfolding end_with
-  end_goes ts e = by (rest_behind ts) (behind_goes (λ us. begins_with kinds.Comma us && begins_with kinds.Dots (drop 1 us)) (λ p. refl) ts e)
+  end_goes ts e = by (rest_behind ts) (behind_goes (λ us. begins_with kinds.Comma us && begins_with kinds.Dots (drop 1 us)) (λ p. refl) (λ p. refl) ts e)
     where
       by : (o : Option Words) → GoesBehind ts o → Goes ts (end_if r ts o)
       by None g = then_to ts (close_at kinds.CloseList ts) _ (list_end_goes ts e) (λ us k. (same, k))
-      by (Some us) g = moved ts us (end_if r ts (Some us)) g.0 (then_to us (expected kinds.Dots us) _ (expected_goes kinds.Dots refl us g.1) (λ vs k. rest_goes vs k))
+      by (Some us) g = moved ts us (end_if r ts (Some us)) g.0 (then_to us (expected kinds.Dots us) _ (expected_goes kinds.Dots (refl, refl) us g.1) (λ vs k. rest_goes vs k))
 
   list_goes : IsGoing (list_with r)
   unfolding list_with
-  list_goes ts e = by (after kinds.CloseList ts) (after kinds.Dots ts) (after_goes kinds.CloseList refl ts e) (after_goes kinds.Dots refl ts e)
+  list_goes ts e = by (after kinds.CloseList ts) (after kinds.Dots ts) (after_goes kinds.CloseList (refl, refl) ts e) (after_goes kinds.Dots (refl, refl) ts e)
     where
       by : (o d : Option Words) → GoesBehind ts o → GoesBehind ts d → Goes ts (list_if r ts o d)
       by (Some us) d g k = g
@@ -389,7 +465,7 @@ module _ (r : Bool → Read Tree) (h : (b : Bool) → IsGoing (r b)) where
   uncalled_goes (open_struct o ∷ ts) (before e) = moved (open_struct o ∷ ts) ts (uncalled_with r (open_struct o ∷ ts)) (past same) (then ts (struct_with r ts) _ (struct_goes ts e) (λ x k. (same, k)))
   uncalled_goes (open_wide o ∷ ts) (before e) = moved (open_wide o ∷ ts) ts (uncalled_with r (open_wide o ∷ ts)) (past same) (then ts (wide_struct_with r ts) _ (wide_struct_goes ts e) (λ x k. (same, k)))
   uncalled_goes (open_list o ∷ ts) (before e) = moved (open_list o ∷ ts) ts (uncalled_with r (open_list o ∷ ts)) (past same) (then ts (list_with r ts) _ (list_goes ts e) (λ x k. (same, k)))
-  uncalled_goes ts e = plain_goes ts e
+  uncalled_goes ts e = leaf_goes ts e
 
   operand_goes : IsGoing (operand_with r)
   unfolding operand_with
@@ -401,11 +477,11 @@ module _ (r : Bool → Read Tree) (h : (b : Bool) → IsGoing (r b)) where
 
   conj_goes : IsGoing (conj_with r)
   unfolding conj_with
-  conj_goes ts e = then ts (operand_with r ts) _ (operand_goes ts e) (λ x k. then x.1 (amps_with r (length x.1) x.1) _ (many_goes (after kinds.Amp) (after_goes kinds.Amp refl) (operand_with r) operand_goes (length x.1) x.1 k) (λ y l. (same, l)))
+  conj_goes ts e = then ts (operand_with r ts) _ (operand_goes ts e) (λ x k. then x.1 (amps_with r (length x.1) x.1) _ (many_goes (after kinds.Amp) (after_goes kinds.Amp (refl, refl)) (operand_with r) operand_goes (length x.1) x.1 k) (λ y l. (same, l)))
 
   branch_goes : IsGoing (branch_with r)
   unfolding branch_with
-  branch_goes ts e = by (after kinds.Star ts) (after_goes kinds.Star refl ts e)
+  branch_goes ts e = by (after kinds.Star ts) (after_goes kinds.Star (refl, refl) ts e)
     where
       by : (o : Option Words) → GoesBehind ts o → Goes ts (branch_if r ts o)
       by None g = conj_goes ts e
@@ -413,7 +489,7 @@ module _ (r : Bool → Read Tree) (h : (b : Bool) → IsGoing (r b)) where
 
   expr_goes : IsGoing (expr_with r)
   unfolding expr_with
-  expr_goes ts e = then ts (branch_with r ts) _ (branch_goes ts e) (λ x k. then x.1 (bars_with r (length x.1) x.1) _ (many_goes (after kinds.Bar) (after_goes kinds.Bar refl) (branch_with r) branch_goes (length x.1) x.1 k) (λ y l. (same, l)))
+  expr_goes ts e = then ts (branch_with r ts) _ (branch_goes ts e) (λ x k. then x.1 (bars_with r (length x.1) x.1) _ (many_goes (after kinds.Bar) (after_goes kinds.Bar (refl, refl)) (branch_with r) branch_goes (length x.1) x.1 k) (λ y l. (same, l)))
 
   value_goes : (b : Bool) → IsGoing (value_if r b)
   value_goes true ts e = then ts (field_with r ts) _ (field_goes ts e) (λ x k. (same, k))
@@ -428,19 +504,39 @@ inner_goes (suc d) b ts e = value_goes (inner d) (inner_goes d) (b && begins_fie
 
 definition_goes : (d : ℕ) → IsGoing (definition_at d)
 unfolding definition_at
-definition_goes d (definition_name s p ∷ ts) (before e) = moved (definition_name s p ∷ ts) ts (definition_at d (definition_name s p ∷ ts)) (past same) (then_to ts (expected kinds.Colon ts) _ (expected_goes kinds.Colon refl ts e) (λ us k. then us (inner d true us) _ (inner_goes d true us k) (λ x l. (same, l))))
+definition_goes d (definition_name s p ∷ ts) (before e) = moved (definition_name s p ∷ ts) ts (definition_at d (definition_name s p ∷ ts)) (past same) (then_to ts (expected kinds.Colon ts) _ (expected_goes kinds.Colon (refl, refl) ts e) (λ us k. then us (inner d true us) _ (inner_goes d true us k) (λ x l. (same, l))))
 definition_goes d ts e = fault_here ts e
 
 line_goes : (d : ℕ) → IsGoing (line_at d)
 unfolding line_at
 line_goes d ts e = then ts (definition_at d ts) _ (definition_goes d ts e) (λ x k. then_to x.1 (comma_at x.1) _ (comma_goes x.1 k) (λ us l. (same, l)))
 
+file_name_goes : (d : ℕ) → IsGoing (file_name_at d)
+unfolding file_name_at
+file_name_goes d ts e = then ts (name_head_at ts) _ (name_head_goes ts e) (λ x k. then x.1 (inner d (not x.0.1) x.1) _ (inner_goes d (not x.0.1) x.1 k) (λ y l. (same, l)))
+
+name_line_goes : (d : ℕ) → IsGoing (name_line_at d)
+unfolding name_line_at
+name_line_goes d ts e = then ts (file_name_at d ts) _ (file_name_goes d ts e) (λ x k. then_to x.1 (comma_at x.1) _ (comma_goes x.1 k) (λ us l. (same, l)))
+
+any_line_goes : (w : Bool) (d : ℕ) → IsGoing (any_line_at w d)
+unfolding any_line_at
+any_line_goes w d ts e = by (w && begins_file_name ts)
+  where
+    by : (b : Bool) → Goes ts (any_line_if d b ts)
+    by true = then ts (name_line_at d ts) _ (name_line_goes d ts e) (λ x k. (same, k))
+    by false = then ts (line_at d ts) _ (line_goes d ts e) (λ x k. (same, k))
+
 line_skips : (ts : Words) → WellEnded ts → GoesBehind ts (before_end ts)
-line_skips ts e = by (begins_with kinds.End ts)
+line_skips ts e = by (begins_end ts)
   where
     by : (b : Bool) → GoesBehind ts (cond b None (Some ts))
     by true = tt
     by false = (same, e)
+
+lines_go : (w : Bool) (d n : ℕ) → IsGoing (lines_at w d n)
+unfolding lines_at
+lines_go w d n ts e = then ts (many before_end (any_line_at w d) n ts) _ (many_goes before_end line_skips (any_line_at w d) (any_line_goes w d) n ts e) (λ ls k. (same, k))
 
 clause_goes : IsGoing clause_at
 unfolding clause_at
@@ -449,7 +545,7 @@ clause_goes ts e = fault_here ts e
 
 package_goes : IsGoing package_at
 unfolding package_at
-package_goes ts e = by (behind_if (is_clause ts) ts) (behind_goes is_clause (λ p. refl) ts e)
+package_goes ts e = by (behind_if (is_clause ts) ts) (behind_goes is_clause (λ p. refl) (λ p. refl) ts e)
   where
     by : (o : Option Words) → GoesBehind ts o → Goes ts (package_if ts o)
     by None g = (same, e)
@@ -461,23 +557,30 @@ fault_is : (us : Words) (f : SyntaxFault) → WellEnded us → f ≡ fault_at us
 fault_is (w ∷ us) f e h = (w, us, same, h)
 fault_is [] f e h = elim e [ ]
 
-rest_fault : (us : Words) → WellEnded us → (x : FileTree) (f : SyntaxFault) → (expected kinds.End us >>= λ ws. whole x ws) ≡ Err f → IsFaultIn f us
-rest_fault (W.finish q ∷ []) e x f is = absurd cc
-rest_fault (W.finish q ∷ w ∷ us) e x f is = (w, us, past same, cc)
-rest_fault (relation atoms.less p ∷ us) e x f is = fault_is (relation atoms.less p ∷ us) f e cc
-rest_fault us e x f is = fault_is us f e cc
+rest_fault : (w : Bool) (us : Words) → WellEnded us → (x : FileTree) (f : SyntaxFault) → (expected (end_kind w) us >>= λ ws. whole x ws) ≡ Err f → IsFaultIn f us
+rest_fault false (W.finish q ∷ []) e x f is = absurd cc
+rest_fault false (W.finish q ∷ v ∷ us) e x f is = (v, us, past same, cc)
+rest_fault false (relation atoms.less p ∷ us) e x f is = fault_is (relation atoms.less p ∷ us) f e cc
+rest_fault false us e x f is = fault_is us f e cc
+rest_fault true (W.wide_finish q ∷ []) e x f is = absurd cc
+rest_fault true (W.wide_finish q ∷ v ∷ us) e x f is = (v, us, past same, cc)
+rest_fault true (relation atoms.less p ∷ us) e x f is = fault_is (relation atoms.less p ∷ us) f e cc
+rest_fault true us e x f is = fault_is us f e cc
 
-pub file_fault : (ts : Words) → WellEnded ts → (f : SyntaxFault) → file_at ts ≡ Err f → IsFaultIn f ts
+read_fault : (w : Bool) (ts : Words) → WellEnded ts → (f : SyntaxFault) → file_with w 29 ts ≡ Err f → IsFaultIn f ts
 unfolding file_with
-file_fault ts e f is = packaged (package_at ts) (package_goes ts e) is
+read_fault w ts e f is = packaged (package_at ts) (package_goes ts e) is
   where
-    packaged : (m : Result (Option (List ℕ) × Words) SyntaxFault) → Goes ts m → (m >>= λ c. definitions_at 29 (length c.1) c.1 >>= λ ds. expected kinds.End ds.1 >>= λ us. whole (file c.0 ds.0) us) ≡ Err f → IsFaultIn f ts
-    packaged (Ok x) g k = fault_moved ts x.1 f g.0 (lined (definitions_at 29 (length x.1) x.1) (many_goes before_end line_skips (line_at 29) (line_goes 29) (length x.1) x.1 g.1) k)
+    packaged : (m : Result (Option (List ℕ) × Words) SyntaxFault) → Goes ts m → (m >>= λ c. lines_at w 29 (length c.1) c.1 >>= λ ls. expected (end_kind w) ls.1 >>= λ us. whole (file c.0 ls.0.0 ls.0.1) us) ≡ Err f → IsFaultIn f ts
+    packaged (Ok x) g k = fault_moved ts x.1 f g.0 (lined (lines_at w 29 (length x.1) x.1) (lines_go w 29 (length x.1) x.1 g.1) k)
       where
-        lined : (m : Result (List DefinitionTree × Words) SyntaxFault) → Goes x.1 m → (m >>= λ ds. expected kinds.End ds.1 >>= λ us. whole (file x.0 ds.0) us) ≡ Err f → IsFaultIn f x.1
-        lined (Ok y) g k = fault_moved x.1 y.1 f g.0 (rest_fault y.1 g.1 (file x.0 y.0) f k)
+        lined : (m : Result ((List DefinitionTree × List NameTree) × Words) SyntaxFault) → Goes x.1 m → (m >>= λ ls. expected (end_kind w) ls.1 >>= λ us. whole (file x.0 ls.0.0 ls.0.1) us) ≡ Err f → IsFaultIn f x.1
+        lined (Ok y) g k = fault_moved x.1 y.1 f g.0 (rest_fault w y.1 g.1 (file x.0 y.0.0 y.0.1) f k)
         lined (Err h) g k = (g.0, g.1, g.2, let same_fault : f ≡ h = cc in same_fault ∙ g.3)
     packaged (Err h) g k = (g.0, g.1, g.2, let same_fault : f ≡ h = cc in same_fault ∙ g.3)
+
+pub file_fault : (ts : Words) → WellEnded ts → (f : SyntaxFault) → file_at ts ≡ Err f → IsFaultIn f ts
+file_fault ts e f is = read_fault (ends_wide ts) ts e f is
 
 -- ---- why a source is refused
 

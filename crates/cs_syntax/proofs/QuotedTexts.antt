@@ -14,7 +14,7 @@ use Rattle.cs_grammar.specs.declared.kind.Kind.TheVariants as kinds
 use Rattle.cs_grammar.specs.Spelling.{is_letter, is_digit, is_name_byte, is_integer, is_definition_rest, used_marks, left_out_marks, mark_sort, sort_if, underscore_sort, sort_of}
 use Rattle.cs_grammar.specs.declared.profile.Profile.{Profile}
 use Rattle.cs_grammar.specs.declared.profile.Profile.TheVariants as profiles
-use Rattle.cs_grammar.specs.Taken.{wide_sort, taken}
+use Rattle.cs_grammar.specs.Taken.{wide_marks, wide_sort, taken}
 use Rattle.cs_grammar.specs.Cut.{Lexeme, lexeme, comma_if, CutBy, blank, new_line, comment, attribute, token, finish}
 use Rattle.cs_grammar.specs.View.{lexemes_view}
 use Rattle.cs_grammar.specs.TokenWords.{mark_kind, wide_kind, kind_of}
@@ -87,12 +87,11 @@ cut_quoted (finish {l}) = comma_quoted l _ _ refl
 
 -- in the wide profile, too
 wide_quoted : (s : Sort) (t : List ℕ) → is_quoted s t ≡ true → is_quoted (wide_sort s t) t ≡ true
-wide_quoted sorts.LeftOut t h = by (bytes_eq t (codes "*")) (bytes_eq t (codes "=="))
+wide_quoted sorts.LeftOut t h = by (list_any (bytes_eq t) wide_marks)
   where
-    by : (a b : Bool) → is_quoted (cond a sorts.Mark (cond b sorts.Mark sorts.LeftOut)) t ≡ true
-    by true b = refl
-    by false true = refl
-    by false false = refl
+    by : (a : Bool) → is_quoted (cond a sorts.Mark sorts.LeftOut) t ≡ true
+    by true = refl
+    by false = refl
 wide_quoted sorts.Mark t h = by (bytes_eq t (codes "{")) (bytes_eq t (codes "("))
   where
     by : (a b : Bool) → is_quoted (cond a sorts.Wide (cond b sorts.Wide sorts.Mark)) t ≡ true
@@ -144,10 +143,13 @@ mark_no_text t =
     unless (bytes_eq t (codes "-")) kinds.Minus refl (
     unless (bytes_eq t (codes "*")) kinds.Star refl (
     unless (bytes_eq t (codes "==")) kinds.Equal refl (
-    record { is = refl })))))))))))))))))))))
+    unless (bytes_eq t (codes ".")) kinds.Dot refl (
+    unless (bytes_eq t (codes "=")) kinds.Assign refl (
+    record { is = refl })))))))))))))))))))))))
 
 wide_no_text : (t : List ℕ) → OtherKind (wide_kind t)
-wide_no_text t = unless (bytes_eq t (codes "{")) kinds.OpenWide refl (unless (bytes_eq t (codes "(")) kinds.OpenCall refl (record { is = refl }))
+wide_no_text [] = record { is = refl }
+wide_no_text (x ∷ xs) = unless (x == 123) kinds.OpenWide refl (unless (x == 40) kinds.OpenCall refl (unless (x == 95) kinds.Local refl (record { is = refl })))
 
 text_quoted : (s : Sort) (t : List ℕ) → kind_of s t ≡ kinds.Text → is_quoted s t ≡ true → begins_quote t ≡ true
 text_quoted sorts.Text t k h = h

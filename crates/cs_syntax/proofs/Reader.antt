@@ -1,12 +1,15 @@
 -- Reading one after the other, as a loop does.
-use Rattle.std.proofs.Common.{◌≡◌, ℕ, zero, suc, ◌<◌, List, [], ◌∷◌, ◌++◌, map, Option, Some, None, Result, Ok, Err, refl, ap, subst, length, arith}
+use Rattle.std.proofs.Common.{◌≡◌, ℕ, zero, suc, ◌<◌, Bool, true, false, ◌&&◌, List, [], ◌∷◌, ◌++◌, map, Option, Some, None, Result, Ok, Err, refl, ap, ap₂, subst, length, arith}
 use Rattle.cs_grammar.specs.declared.fault.SyntaxFault.{SyntaxFault}
 use Rattle.cs_grammar.specs.declared.fault.SyntaxFault.TheVariants as faults
+use Rattle.cs_grammar.specs.declared.ast.Definition.{Definition}
 use Rattle.cs_grammar.specs.declared.ast.Expr.{Expr}
+use Rattle.cs_grammar.specs.declared.ast.Name.{Name}
 use Rattle.cs_grammar.specs.Words.{Words}
-use Rattle.cs_grammar.specs.Tree.{Tree, conjunction, disjunction, more}
-use Rattle.cs_grammar.specs.View.{expr_view, exprs_view}
-use Rattle.cs_syntax.specs.Reading.{◌>>=◌, Fails, Read, many, conjunction_of, disjunction_of}
+use Rattle.cs_grammar.specs.Tree.{Tree, conjunction, disjunction, more, DefinitionTree, NameTree}
+use Rattle.cs_grammar.specs.View.{expr_view, exprs_view, definition_view, name_view}
+use Rattle.cs_syntax.specs.Reading.{◌>>=◌, Fails, Read, many, conjunction_of, disjunction_of, begins_end, before_end, begins_file_name, line_at, name_line_at, any_line_at, SeenLine, definition_seen, name_seen, definitions_seen, names_seen}
+use Rattle.cs_syntax.proofs.WordKinds.{stops, proceeds}
 
 -- ---- faults
 
@@ -62,6 +65,72 @@ module _ {X A : Type 0} (view : X → A) where
     pub breaks : (f : SyntaxFault) (k n : ℕ) (ts us : Words) → k ≡ suc n → skip ts ≡ Some us → Fails f (p us) → Fails f (with_front xs (many skip p k ts))
     unfolding many
     breaks f k n ts us is s h = rw (is, s) (fails-bind f (p us >>= λ y. many skip p n y.1 >>= λ z. Ok (y.0 ∷ z.0, z.1)) (λ y. Ok (viewed_before xs y.0, y.1)) (fails-bind f (p us) (λ y. many skip p n y.1 >>= λ z. Ok (y.0 ∷ z.0, z.1)) h))
+
+-- ---- the lines of a file
+
+-- what was read before, and what is still read
+abbrev pub with_lines : List Definition → List Name → Result (List SeenLine × Words) SyntaxFault → Result ((List DefinitionTree × List NameTree) × Words) SyntaxFault
+with_lines ds ns read = read >>= λ y. Ok ((viewed_before definition_view ds (definitions_seen y.0), viewed_before name_view ns (names_seen y.0)), y.1)
+
+definition_push : (ds : List Definition) (ns : List Name) (x : Definition) (read : Result (List SeenLine × Words) SyntaxFault) → with_lines (ds ++ x ∷ []) ns read ≡ with_lines ds ns (read >>= λ y. Ok (definition_seen (definition_view x) ∷ y.0, y.1))
+definition_push ds ns x (Ok y) = ap (λ xs. Ok ((xs, viewed_before name_view ns (names_seen y.0)), y.1)) (before-push definition_view ds x (definitions_seen y.0))
+definition_push ds ns x (Err f) = refl
+
+name_push : (ds : List Definition) (ns : List Name) (x : Name) (read : Result (List SeenLine × Words) SyntaxFault) → with_lines ds (ns ++ x ∷ []) read ≡ with_lines ds ns (read >>= λ y. Ok (name_seen (name_view x) ∷ y.0, y.1))
+name_push ds ns x (Ok y) = ap (λ xs. Ok ((viewed_before definition_view ds (definitions_seen y.0), xs), y.1)) (before-push name_view ns x (names_seen y.0))
+name_push ds ns x (Err f) = refl
+
+-- a line that is no name where such may stand, and one that is
+module _ (w : Bool) (d : ℕ) (ts : Words) where
+  line_is : {x : DefinitionTree} {vs : Words} → w && begins_file_name ts ≡ false → line_at d ts ≡ Ok (x, vs) → any_line_at w d ts ≡ Ok (definition_seen x, vs)
+  unfolding any_line_at
+  line_is c r = rw (c, r) refl
+
+  name_is : {x : NameTree} {vs : Words} → w && begins_file_name ts ≡ true → name_line_at d ts ≡ Ok (x, vs) → any_line_at w d ts ≡ Ok (name_seen x, vs)
+  unfolding any_line_at
+  name_is c r = rw (c, r) refl
+
+  line_fails : (f : SyntaxFault) → w && begins_file_name ts ≡ false → Fails f (line_at d ts) → Fails f (any_line_at w d ts)
+  unfolding any_line_at
+  line_fails f c h = rw c (fails-bind f (line_at d ts) (λ x. Ok (definition_seen x.0, x.1)) h)
+
+  name_fails : (f : SyntaxFault) → w && begins_file_name ts ≡ true → Fails f (name_line_at d ts) → Fails f (any_line_at w d ts)
+  unfolding any_line_at
+  name_fails f c h = rw c (fails-bind f (name_line_at d ts) (λ x. Ok (name_seen x.0, x.1)) h)
+
+module _ (w : Bool) (d : ℕ) (ds : List Definition) (ns : List Name) where
+  abbrev rest_of : ℕ → Words → Result (List SeenLine × Words) SyntaxFault
+  rest_of = many before_end (any_line_at w d)
+
+  pub definition_added : (x : Definition) (k n : ℕ) (ts vs : Words) → k ≡ suc n → begins_end ts ≡ false → w && begins_file_name ts ≡ false → line_at d ts ≡ Ok (definition_view x, vs) → with_lines (ds ++ x ∷ []) ns (rest_of n vs) ≡ with_lines ds ns (rest_of k ts)
+  unfolding many
+  definition_added x k n ts vs is e c r = rw (is, proceeds ts e, line_is w d ts c r) (definition_push ds ns x (rest_of n vs))
+
+  pub name_added : (x : Name) (k n : ℕ) (ts vs : Words) → k ≡ suc n → begins_end ts ≡ false → w && begins_file_name ts ≡ true → name_line_at d ts ≡ Ok (name_view x, vs) → with_lines ds (ns ++ x ∷ []) (rest_of n vs) ≡ with_lines ds ns (rest_of k ts)
+  unfolding many
+  name_added x k n ts vs is e c r = rw (is, proceeds ts e, name_is w d ts c r) (name_push ds ns x (rest_of n vs))
+
+  line_breaks : (f : SyntaxFault) (k n : ℕ) (ts : Words) → k ≡ suc n → begins_end ts ≡ false → Fails f (any_line_at w d ts) → Fails f (with_lines ds ns (rest_of k ts))
+  unfolding many
+  line_breaks f k n ts is e h = rw (is, proceeds ts e) (fails-bind f (any_line_at w d ts >>= λ y. rest_of n y.1 >>= λ z. Ok (y.0 ∷ z.0, z.1)) (λ y. Ok ((viewed_before definition_view ds (definitions_seen y.0), viewed_before name_view ns (names_seen y.0)), y.1)) (fails-bind f (any_line_at w d ts) (λ y. rest_of n y.1 >>= λ z. Ok (y.0 ∷ z.0, z.1)) h))
+
+  pub definition_breaks : (f : SyntaxFault) (k n : ℕ) (ts : Words) → k ≡ suc n → begins_end ts ≡ false → w && begins_file_name ts ≡ false → Fails f (line_at d ts) → Fails f (with_lines ds ns (rest_of k ts))
+  definition_breaks f k n ts is e c h = line_breaks f k n ts is e (line_fails w d ts f c h)
+
+  pub name_breaks : (f : SyntaxFault) (k n : ℕ) (ts : Words) → k ≡ suc n → begins_end ts ≡ false → w && begins_file_name ts ≡ true → Fails f (name_line_at d ts) → Fails f (with_lines ds ns (rest_of k ts))
+  name_breaks f k n ts is e c h = line_breaks f k n ts is e (name_fails w d ts f c h)
+
+  lines_none : (ts : Words) → with_lines ds ns (Ok ([], ts)) ≡ Ok ((map definition_view ds, map name_view ns), ts)
+  lines_none ts = ap₂ (λ xs ys. Ok ((xs, ys), ts)) (before-none definition_view ds) (before-none name_view ns)
+
+  pub lines_end : (k : ℕ) (ts : Words) → begins_end ts ≡ true → with_lines ds ns (rest_of k ts) ≡ Ok ((map definition_view ds, map name_view ns), ts)
+  unfolding many
+  lines_end zero ts e = lines_none ts
+  lines_end (suc n) ts e = rw (stops ts e) (lines_none ts)
+
+  pub lines_out : (k : ℕ) (ts : Words) → k ≡ 0 → with_lines ds ns (rest_of k ts) ≡ Ok ((map definition_view ds, map name_view ns), ts)
+  unfolding many
+  lines_out k ts is = rw is (lines_none ts)
 
 -- ---- two or more operands make one tree
 

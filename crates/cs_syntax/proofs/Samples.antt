@@ -91,10 +91,10 @@ other_levels = refl
 
 -- words of each sort, in the order of their definition
 abbrev pub sorts : Words
-sorts = a ∷ W.definition_name (codes "A") 0 ∷ W.hidden 0 ∷ W.top_mark 0 ∷ W.bottom_mark 0 ∷ one_word ∷ q ∷ W.open_struct 0 ∷ W.open_wide 0 ∷ W.close_struct 0 ∷ W.open_list 0 ∷ W.close_list 0 ∷ W.open_paren 0 ∷ W.close_paren 0 ∷ W.comma 0 ∷ W.nl 0 ∷ W.colon 0 ∷ W.question 0 ∷ W.bang 0 ∷ W.amp 0 ∷ W.bar 0 ∷ W.dots 0 ∷ W.relation atoms.less 0 ∷ W.unequal 0 ∷ W.minus 0 ∷ W.star 0 ∷ W.left_out 0 ∷ W.finish 0 ∷ []
+sorts = a ∷ W.definition_name (codes "A") 0 ∷ W.hidden 0 ∷ W.top_mark 0 ∷ W.bottom_mark 0 ∷ one_word ∷ q ∷ W.open_struct 0 ∷ W.open_wide 0 ∷ W.close_struct 0 ∷ W.open_list 0 ∷ W.close_list 0 ∷ W.open_paren 0 ∷ W.close_paren 0 ∷ W.comma 0 ∷ W.nl 0 ∷ W.colon 0 ∷ W.question 0 ∷ W.bang 0 ∷ W.amp 0 ∷ W.bar 0 ∷ W.dots 0 ∷ W.relation atoms.less 0 ∷ W.unequal 0 ∷ W.minus 0 ∷ W.star 0 ∷ W.equal 0 ∷ W.local (codes "_a") 0 ∷ W.dot 0 ∷ W.assign 0 ∷ W.left_out 0 ∷ W.finish 0 ∷ W.wide_finish 0 ∷ []
 
 -- the levels behind a word, where a label behind a colon is before it, and 2 and 1 short colons are open
-levels_behind : map (λ w. behind (a ∷ W.colon 0 ∷ []) w (2 ∷ 1 ∷ [])) sorts ≡ replicate 7 (2 ∷ 1 ∷ []) ++ (0 ∷ 2 ∷ 1 ∷ []) ∷ (0 ∷ 2 ∷ 1 ∷ []) ∷ (1 ∷ []) ∷ (0 ∷ 2 ∷ 1 ∷ []) ∷ (1 ∷ []) ∷ (0 ∷ 2 ∷ 1 ∷ []) ∷ (1 ∷ []) ∷ (0 ∷ 1 ∷ []) ∷ (0 ∷ 1 ∷ []) ∷ (3 ∷ 1 ∷ []) ∷ replicate 11 (2 ∷ 1 ∷ [])
+levels_behind : map (λ w. behind (a ∷ W.colon 0 ∷ []) w (2 ∷ 1 ∷ [])) sorts ≡ replicate 7 (2 ∷ 1 ∷ []) ++ (0 ∷ 2 ∷ 1 ∷ []) ∷ (0 ∷ 2 ∷ 1 ∷ []) ∷ (1 ∷ []) ∷ (0 ∷ 2 ∷ 1 ∷ []) ∷ (1 ∷ []) ∷ (0 ∷ 2 ∷ 1 ∷ []) ∷ (1 ∷ []) ∷ (0 ∷ 1 ∷ []) ∷ (0 ∷ 1 ∷ []) ∷ (3 ∷ 1 ∷ []) ∷ replicate 16 (2 ∷ 1 ∷ [])
 levels_behind = refl
 
 -- 28 and 29 parentheses, and as many short colons
@@ -110,10 +110,10 @@ deep = refl
 left_out_names : map is_left_out_name (codes "import" ∷ codes "let" ∷ codes "for" ∷ codes "if" ∷ codes "package" ∷ codes "imports" ∷ codes "in" ∷ [] ∷ []) ≡ true ∷ true ∷ true ∷ true ∷ false ∷ false ∷ false ∷ false ∷ []
 left_out_names = refl
 
-left_out : map is_left_out sorts ≡ false ∷ false ∷ true ∷ replicate 22 false ++ true ∷ true ∷ false ∷ []
+left_out : map is_left_out sorts ≡ false ∷ false ∷ true ∷ replicate 22 false ++ replicate 6 true ++ false ∷ false ∷ []
 left_out = refl
 
-faults : map fault_of (W.name (codes "let") 5 ∷ W.name (codes "int") 5 ∷ W.hidden 5 ∷ W.left_out 5 ∷ W.finish 9 ∷ []) ≡ LeftOut 5 ∷ Syntax 5 ∷ LeftOut 5 ∷ LeftOut 5 ∷ Syntax 9 ∷ []
+faults : map fault_of (W.name (codes "let") 5 ∷ W.name (codes "int") 5 ∷ W.hidden 5 ∷ W.left_out 5 ∷ W.local (codes "_a") 5 ∷ W.dot 5 ∷ W.assign 5 ∷ W.finish 9 ∷ W.wide_finish 9 ∷ []) ≡ LeftOut 5 ∷ Syntax 5 ∷ replicate 5 (LeftOut 5) ++ Syntax 9 ∷ Syntax 9 ∷ []
 faults = refl
 
 -- the second word's fault, as in `: *`

@@ -1,5 +1,5 @@
 -- What is read is spelled so.
-use Rattle.std.proofs.Common.{◌≡◌, ℕ, zero, suc, Bool, true, false, cond, List, [], ◌∷◌, length, drop, Option, Some, None, Result, Ok, Err, refl, subst}
+use Rattle.std.proofs.Common.{◌≡◌, ℕ, zero, suc, Bool, true, false, cond, List, [], ◌∷◌, length, drop, Option, Some, None, Result, Ok, Err, refl, sym, ap, ◌∙◌, subst}
 use Rattle.std.proofs.lemmas.Bool.{and_parts}
 use Rattle.std.specs.Prelude.{◌&&◌, ◌||◌, not}
 use Rattle.cs_grammar.specs.declared.fault.SyntaxFault.{SyntaxFault}
@@ -7,23 +7,14 @@ use Rattle.cs_grammar.specs.declared.kind.Kind.TheVariants as kinds
 use Rattle.cs_grammar.specs.declared.ast.FieldMark.{FieldMark}
 use Rattle.cs_grammar.specs.declared.ast.FieldMark.TheVariants.{Every}
 use Rattle.cs_grammar.specs.Atom as atoms
-use Rattle.cs_grammar.specs.Words.{Words, name, quoted, definition_name, top_mark, bottom_mark, numeral, open_paren, open_call, open_struct, open_wide, open_list, close_paren, close_struct, close_list, comma, nl, colon, question, bang, amp, bar, dots, relation, unequal, minus, star, finish}
-use Rattle.cs_grammar.specs.Tree.{Label, Condition, Tree, atom, wide, shut, not_integer, End, DefinitionTree, FileTree, file}
+use Rattle.cs_grammar.specs.Words.{Words, name, quoted, definition_name, top_mark, bottom_mark, numeral, open_paren, open_call, open_struct, open_wide, open_list, close_paren, close_struct, close_list, comma, nl, colon, question, bang, amp, bar, dots, relation, unequal, minus, star, local, finish, wide_finish}
+use Rattle.cs_grammar.specs.Tree.{Label, Condition, Tree, atom, wide, shut, not_integer, End, DefinitionTree, NameTree, FileTree, file}
 use Rattle.cs_grammar.specs.View.{trees_of, fields_of, Seen, declarations_of, SeenDeclaration, field_seen, embedding_seen, conditional_seen}
-use Rattle.cs_grammar.specs.Spells.{is_reserved, is_null, is_package, is_string, is_braced, every_label, start_at, literal_of, Comma, explicit, inserted, ClosesParen, paren_here, paren_after, ClosesList, list_here, list_after, ClosesStruct, struct_here, struct_after, SpellsNumber, SpellsBound, limit_is, other_number, other_text, other_null, SpellsLabel, bare_label, quoted_label, SpellsMark, regular, optional, required, SpellsOpening, unopened, opened, SpellsConditions, SpellsValue, long, short, SpellsField, labelled, every_key, SpellsExpr, one_branch, disjunction_is, SpellsBars, no_bar, a_bar, SpellsBranch, unmarked, marked_is, SpellsConj, one_operand, conjunction_is, SpellsAmps, no_amp, an_amp, SpellsOperand, top_is, bottom_is, reference_is, name_is, number_is, text_is, bound_is, paren_is, struct_is, list_is, call_paren_is, shut_is, wide_struct_is, SpellsWideStruct, no_declarations, wide_dots_alone, some_declarations, SpellsDeclarations, a_field, an_embedding, a_conditional, SpellsMore, no_more, next_declaration, SpellsStruct, no_fields, dots_alone, fields, SpellsFields, no_more_fields, next_field, SpellsList, no_elements, rest_alone, elements, SpellsElements, no_more_elements, next_element, SpellsEnd, closed_is, rest_is, SpellsRest, any_is, each_is, SpellsDefinition, defined, SpellsDefinitions, no_definition, next_definition, SpellsPackage, no_clause, clause, SpellsFile, spelled}
-use Rattle.cs_syntax.specs.Reading.{◌>>=◌, Read, expected, begins_with, behind_if, begins_comma, comma_at, close_at, paren_end, another_field, another_element, opening, opening_if, opening_at, rest_behind, may_end, number_at, name_or, null_or, bound_at, unequal_at, integer_at, unbracketed_at, or_fault, or_more, many, label_at, mark_at, string_at, every_key_at, head_at, field_with, fields_with, struct_with, begins_if, ends_label, begins_conditional, conditions_at, conditional_or, conditional_with, declaration_if, declaration_with, declarations_with, wide_struct_with, rest_if, rest_with, end_if, end_with, elements_with, list_with, paren_with, uncalled_with, operand_if, operand_with, begins_shut, amps_with, conjunction_of, conj_with, branch_with, bars_with, disjunction_of, expr_with, value_if, begins_field, inner, definition_at, line_at, before_end, definitions_at, clause_at, package_if, package_at, whole, file_with, file_at}
+use Rattle.cs_grammar.specs.Spells.{is_reserved, is_null, is_package, is_string, is_braced, every_label, start_at, literal_of, Comma, explicit, inserted, ClosesParen, paren_here, paren_after, ClosesList, list_here, list_after, ClosesStruct, struct_here, struct_after, SpellsNumber, SpellsBound, limit_is, other_number, other_text, other_null, SpellsLabel, bare_label, quoted_label, SpellsMark, regular, optional, required, SpellsOpening, unopened, opened, SpellsConditions, SpellsValue, long, short, SpellsField, labelled, every_key, SpellsExpr, one_branch, disjunction_is, SpellsBars, no_bar, a_bar, SpellsBranch, unmarked, marked_is, SpellsConj, one_operand, conjunction_is, SpellsAmps, no_amp, an_amp, SpellsOperand, top_is, bottom_is, reference_is, name_is, number_is, text_is, bound_is, paren_is, struct_is, list_is, call_paren_is, shut_is, local_is, wide_struct_is, SpellsWideStruct, no_declarations, wide_dots_alone, some_declarations, SpellsDeclarations, a_field, an_embedding, a_conditional, SpellsMore, no_more, next_declaration, SpellsStruct, no_fields, dots_alone, fields, SpellsFields, no_more_fields, next_field, SpellsList, no_elements, rest_alone, elements, SpellsElements, no_more_elements, next_element, SpellsEnd, closed_is, rest_is, SpellsRest, any_is, each_is, SpellsDefinition, defined, SpellsDefinitions, no_definition, next_definition, SpellsFileName, bound_name, SpellsWideFile, no_line, definition_line, name_line, SpellsPackage, no_clause, clause, SpellsFile, spelled, wide_spelled}
+use Rattle.cs_syntax.specs.Reading.{◌>>=◌, Read, expected, begins_with, behind_if, begins_comma, comma_at, close_at, paren_end, another_field, another_element, opening, opening_if, opening_at, rest_behind, may_end, number_at, name_or, null_or, bound_at, unequal_at, integer_at, unbracketed_at, or_fault, or_more, many, label_at, mark_at, string_at, every_key_at, head_at, field_with, fields_with, struct_with, begins_if, ends_label, begins_conditional, conditions_at, conditional_or, conditional_with, begins_selected, selected_at, leaf_if, leaf_at, begins_scoped, name_head_at, scoped_with, declaration_if, declaration_or, declaration_with, declarations_with, wide_struct_with, rest_if, rest_with, end_if, end_with, elements_with, list_with, paren_with, uncalled_with, operand_if, operand_with, begins_shut, amps_with, conjunction_of, conj_with, branch_with, bars_with, disjunction_of, expr_with, value_if, begins_field, inner, definition_at, line_at, begins_file_name, file_name_at, name_line_at, SeenLine, definition_seen, name_seen, definitions_seen, names_seen, any_line_if, any_line_at, begins_end, before_end, lines_at, clause_at, package_if, package_at, whole, ends_wide, end_kind, file_with, file_at}
 use Rattle.cs_syntax.proofs.Calls.{Shut, is_shut, shut_of}
-use Rattle.cs_syntax.proofs.ConditionsFound.{IfRead, if_bind, number_of, conditions_of}
-
--- P of what is left
-abbrev IfLeft : (Words → Type 0) → Result Words SyntaxFault → Type 0
-IfLeft P (Ok us) = P us
-IfLeft P (Err f) = Unit {0}
-
-if_left : {B : Type 0} (P : Words → Type 0) (Q : B → Words → Type 0) (m : Result Words SyntaxFault) (f : Words → Result (B × Words) SyntaxFault)
-    → IfLeft P m → ((us : Words) → P us → IfRead Q (f us)) → IfRead Q (m >>= f)
-if_left P Q (Ok us) f h k = k us h
-if_left P Q (Err e) f h k = tt
+use Rattle.cs_syntax.proofs.ConditionsFound.{IfRead, if_bind, IfLeft, if_left, number_of, conditions_of}
+use Rattle.cs_syntax.proofs.NamesFound.{selected_of, NameHead, bound_head, plain_head, name_head_of, FieldDeclared, scoped, bound_declared, plain_declared, file_name_made}
 
 -- P of what is passed over to
 abbrev IfBehind : (Words → Type 0) → Option Words → Type 0
@@ -214,12 +205,21 @@ plain_of (top_mark p ∷ ts) = top_is
 plain_of (bottom_mark p ∷ ts) = bottom_is
 plain_of (definition_name s p ∷ ts) = reference_is
 plain_of (name s p ∷ ts) = name_of s p ts (is_reserved s) refl
+plain_of (local s p ∷ ts) = local_is
 plain_of (quoted s p ∷ ts) = text_is
 plain_of (relation b p ∷ ts) = if_bind (λ z r. SpellsNumber z ts r) (λ e r. SpellsOperand e (relation b p ∷ ts) r) (number_at ts) _ (number_of ts) (λ z us n. bound_is (limit_is n))
 plain_of (unequal p ∷ ts) = bounded (unequal p ∷ ts) (unequal_at ts) (unequal_of p ts)
 plain_of (numeral n p ∷ ts) = integer_of (numeral n p ∷ ts)
 plain_of (minus p ∷ ts) = integer_of (minus p ∷ ts)
 plain_of ts = tt
+
+leaf_of : (ts : Words) → IfRead (λ e r. SpellsOperand e ts r) (leaf_at ts)
+unfolding leaf_at
+leaf_of ts = by (begins_selected ts) refl
+  where
+    by : (b : Bool) → begins_selected ts ≡ b → IfRead (λ e r. SpellsOperand e ts r) (leaf_if b ts)
+    by true k = selected_of ts k
+    by false k = plain_of ts
 
 -- ---- what reads inside, and what is read by it
 
@@ -282,9 +282,9 @@ module _ (r : Bool → Read Tree) (h : IsSound r) where
   struct_of (relation atoms.less p ∷ ts) = first_field_of (relation atoms.less p ∷ ts)
   struct_of ts = first_field_of ts
 
-  -- a field, or an embedding or a literal under conditions with where it begins
+  -- a field or a name, or an embedding or a literal under conditions with where it begins
   abbrev DeclarationOf : Words → SeenDeclaration → Words → Type 0
-  DeclarationOf ts (field_seen f) us = FieldOf ts f us
+  DeclarationOf ts (field_seen f) us = FieldDeclared ts f us
   DeclarationOf ts (embedding_seen o e) us = (o ≡ start_at ts) × SpellsExpr e ts us
   DeclarationOf ts (conditional_seen o cs e) us = ConditionalOf ts o cs e us
 
@@ -296,20 +296,36 @@ module _ (r : Bool → Read Tree) (h : IsSound r) where
   unfolding conditional_with
   conditional_of ts k = if_bind (λ cs us. SpellsConditions cs ts us) (DeclarationOf ts) (conditions_at (length ts) ts) _ (conditions_of ts (and_parts (begins_if ts) (not (ends_label (drop 1 ts))) k).0) (λ cs us s. if_bind (λ e vs. SpellsExpr e us vs) (DeclarationOf ts) (r false us) _ (h.exprs us) (λ e vs t. braced_of ts us cs e vs s t (is_braced e) refl))
 
-  declaration_of : (ts : Words) → IfRead (DeclarationOf ts) (declaration_with r ts)
-  unfolding declaration_with
-  declaration_of ts = by (begins_conditional ts) (begins_field ts) refl
+  -- the value of a name that a literal declares
+  named_of : {ts us : Words} {x : List ℕ × Bool} → begins_scoped ts ≡ true → NameHead ts x us → IfRead (FieldDeclared ts) (r (not x.1) us >>= λ e. Ok (scoped ts x.0 e.0, e.1))
+  named_of {ts} {us} k (bound_head l) = if_bind (λ e vs. SpellsExpr e us vs) (FieldDeclared ts) (r false us) _ (h.exprs us) (λ e vs s. bound_declared l s)
+  named_of {ts} {us} k (plain_head b n) = if_bind (λ e vs. SpellsValue e us vs) (FieldDeclared ts) (r true us) _ (h.values us) (λ e vs v. plain_declared k b n v)
+
+  scoped_of : (ts : Words) → begins_scoped ts ≡ true → IfRead (FieldDeclared ts) (scoped_with r ts)
+  unfolding scoped_with
+  scoped_of ts k = if_bind (NameHead ts) (FieldDeclared ts) (name_head_at ts) _ (name_head_of ts) (λ x us n. named_of k n)
+
+  unscoped_of : (ts : Words) → IfRead (DeclarationOf ts) (declaration_if r (begins_conditional ts) (begins_field ts) ts)
+  unscoped_of ts = by (begins_conditional ts) (begins_field ts) refl
     where
       by : (c b : Bool) → begins_conditional ts ≡ c → IfRead (DeclarationOf ts) (declaration_if r c b ts)
       by true b k = conditional_of ts k
-      by false true k = if_bind (FieldOf ts) (DeclarationOf ts) (field_with r ts) _ (field_of ts) (λ f us s. s)
+      by false true k = if_bind (FieldOf ts) (DeclarationOf ts) (field_with r ts) _ (field_of ts) (λ f us s. record { goes_on = λ m. a_field s m })
       by false false k = if_bind (λ e us. SpellsExpr e ts us) (DeclarationOf ts) (r false ts) _ (h.exprs ts) (λ e us s. (refl, s))
+
+  declaration_of : (ts : Words) → IfRead (DeclarationOf ts) (declaration_with r ts)
+  unfolding declaration_with
+  declaration_of ts = by (begins_scoped ts) refl
+    where
+      by : (b : Bool) → begins_scoped ts ≡ b → IfRead (DeclarationOf ts) (declaration_or r b ts)
+      by true k = if_bind (FieldDeclared ts) (DeclarationOf ts) (scoped_with r ts) _ (scoped_of ts k) (λ f us s. s)
+      by false k = unscoped_of ts
 
   abbrev MoreOf : Words → List SeenDeclaration → Words → Type 0
   MoreOf ts ds us = SpellsMore (declarations_of ds) ts us
 
   declared_by : {ts us ws : Words} (d : SeenDeclaration) (ds : List SeenDeclaration) → DeclarationOf ts d us → MoreOf us ds ws → SpellsDeclarations (declarations_of (d ∷ ds)) ts ws
-  declared_by (field_seen f) ds s m = a_field s m
+  declared_by (field_seen f) ds s m = s.goes_on m
   declared_by (embedding_seen o e) ds s m = an_embedding s.0 s.1 m
   declared_by (conditional_seen o cs e) ds s m = a_conditional s.begins s.asked s.braced s.spelled m
 
@@ -397,7 +413,7 @@ module _ (r : Bool → Read Tree) (h : IsSound r) where
   uncalled_of (open_struct p ∷ ts) = if_bind (StructOf ts) (λ e us. SpellsOperand e (open_struct p ∷ ts) us) (struct_with r ts) _ (struct_of ts) (λ x us s. struct_is s)
   uncalled_of (open_wide p ∷ ts) = if_bind (WideStructOf ts) (λ e us. SpellsOperand e (open_wide p ∷ ts) us) (wide_struct_with r ts) _ (wide_struct_of ts) (λ x us s. wide_struct_is refl s)
   uncalled_of (open_list p ∷ ts) = if_bind (ListOf ts) (λ e us. SpellsOperand e (open_list p ∷ ts) us) (list_with r ts) _ (list_of ts) (λ x us s. list_is s)
-  uncalled_of ts = plain_of ts
+  uncalled_of ts = leaf_of ts
 
   operand_of : (ts : Words) → IfRead (λ e us. SpellsOperand e ts us) (operand_with r ts)
   unfolding operand_with
@@ -483,24 +499,73 @@ line_of : (d : ℕ) (ts : Words) → IfRead (LineOf ts) (line_at d ts)
 unfolding line_at
 line_of d ts = if_bind (λ x us. SpellsDefinition x ts us) (LineOf ts) (definition_at d ts) _ (definition_of d ts) (λ x us s. if_left (Comma us) (LineOf ts) (comma_at us) _ (comma_of us) (λ vs c. (us, s, c)))
 
+-- another name of a file
+file_name_of : (d : ℕ) (ts : Words) → begins_file_name ts ≡ true → IfRead (λ n us. SpellsFileName n ts us) (file_name_at d ts)
+unfolding file_name_at
+file_name_of d ts k = if_bind (NameHead ts) (λ n us. SpellsFileName n ts us) (name_head_at ts) _ (name_head_of ts) (λ x us n. by k n)
+  where
+    by : {ts us : Words} {x : List ℕ × Bool} → begins_file_name ts ≡ true → NameHead ts x us → IfRead (λ n vs. SpellsFileName n ts vs) (inner d (not x.1) us >>= λ e. Ok (record { name = x.0; is_bound = x.1; at = start_at ts; value = e.0 }, e.1))
+    by {ts} {us} k (bound_head l) = if_bind (λ e vs. SpellsExpr e us vs) (λ n vs. SpellsFileName n ts vs) (inner d false us) _ ((inner_of d).exprs us) (λ e vs s. bound_name l s)
+    by {ts} {us} k (plain_head b n) = if_bind (λ e vs. SpellsValue e us vs) (λ n vs. SpellsFileName n ts vs) (inner d true us) _ ((inner_of d).values us) (λ e vs v. file_name_made k b n v)
+
+-- the same and its comma
+abbrev NameLineOf : Words → NameTree → Words → Type 0
+NameLineOf ts n us = (vs : Words) × SpellsFileName n ts vs × Comma vs us
+
+name_line_of : (d : ℕ) (ts : Words) → begins_file_name ts ≡ true → IfRead (NameLineOf ts) (name_line_at d ts)
+unfolding name_line_at
+name_line_of d ts k = if_bind (λ n us. SpellsFileName n ts us) (NameLineOf ts) (file_name_at d ts) _ (file_name_of d ts k) (λ n us s. if_left (Comma us) (NameLineOf ts) (comma_at us) _ (comma_of us) (λ vs c. (us, s, c)))
+
+-- a line of a file, which may be another name where w says so
+abbrev AnyLineOf : Bool → Words → SeenLine → Words → Type 0
+AnyLineOf w ts (definition_seen x) us = LineOf ts x us
+AnyLineOf w ts (name_seen n) us = (w ≡ true) × NameLineOf ts n us
+
+any_line_of : (w : Bool) (d : ℕ) (ts : Words) → IfRead (AnyLineOf w ts) (any_line_at w d ts)
+unfolding any_line_at
+any_line_of w d ts = by (w && begins_file_name ts) refl
+  where
+    by : (b : Bool) → w && begins_file_name ts ≡ b → IfRead (AnyLineOf w ts) (any_line_if d b ts)
+    by true k = let both = and_parts w (begins_file_name ts) k in if_bind (NameLineOf ts) (AnyLineOf w ts) (name_line_at d ts) _ (name_line_of d ts both.1) (λ n us s. (both.0, s))
+    by false k = if_bind (LineOf ts) (AnyLineOf w ts) (line_at d ts) _ (line_of d ts) (λ x us s. s)
+
 before_end_of : (ts : Words) → IfBehind (λ us. ts ≡ us) (before_end ts)
-before_end_of ts = by (begins_with kinds.End ts)
+before_end_of ts = by (begins_end ts)
   where
     by : (b : Bool) → IfBehind (λ us. ts ≡ us) (cond b None (Some ts))
     by true = tt
     by false = refl
 
-abbrev DefinitionsOf : Words → List DefinitionTree → Words → Type 0
-DefinitionsOf ts ds us = SpellsDefinitions ds ts us
+-- the lines of a file in either profile
+abbrev LinesOf : Bool → Words → List DefinitionTree × List NameTree → Words → Type 0
+LinesOf true ts x us = SpellsWideFile x.0 x.1 ts us
+LinesOf false ts x us = SpellsDefinitions x.0 ts us × (x.1 ≡ [])
 
-definitions_of : (d n : ℕ) (ts : Words) → IfRead (DefinitionsOf ts) (definitions_at d n ts)
+abbrev SeenLinesOf : Bool → Words → List SeenLine → Words → Type 0
+SeenLinesOf w ts ls us = LinesOf w ts (definitions_seen ls, names_seen ls) us
+
+none_spelled : (w : Bool) (ts : Words) → SeenLinesOf w ts [] ts
+none_spelled true ts = no_line
+none_spelled false ts = (no_definition, refl)
+
+line_added : (w : Bool) (ts us vs : Words) (l : SeenLine) (ls : List SeenLine) → AnyLineOf w ts l us → SeenLinesOf w us ls vs → SeenLinesOf w ts (l ∷ ls) vs
+line_added true ts us vs (definition_seen x) ls s t = definition_line s.1 s.2 t
+line_added true ts us vs (name_seen n) ls s t = name_line s.1.1 s.1.2 t
+line_added false ts us vs (definition_seen x) ls s t = (next_definition s.1 s.2 t.0, t.1)
+line_added false ts us vs (name_seen n) ls s t = let never : false ≡ true = s.0 in absurd cc
+
+many_lines_of : (w : Bool) (d n : ℕ) (ts : Words) → IfRead (SeenLinesOf w ts) (many before_end (any_line_at w d) n ts)
 unfolding many
-definitions_of d zero ts = no_definition
-definitions_of d (suc n) ts = by (definitions_of d n) (before_end ts) (before_end_of ts)
+many_lines_of w d zero ts = none_spelled w ts
+many_lines_of w d (suc n) ts = by (many_lines_of w d n) (before_end ts) (before_end_of ts)
   where
-    by : ((us : Words) → IfRead (DefinitionsOf us) (definitions_at d n us)) → (o : Option Words) → IfBehind (λ us. ts ≡ us) o → IfRead (DefinitionsOf ts) (or_more (line_at d) (definitions_at d n) ts o)
-    by again None k = no_definition
-    by again (Some us) k = rw k (if_bind (LineOf us) (DefinitionsOf us) (line_at d us) _ (line_of d us) (λ x vs s. if_bind (DefinitionsOf vs) (DefinitionsOf us) (definitions_at d n vs) _ (again vs) (λ ds ws t. next_definition s.1 s.2 t)))
+    by : ((us : Words) → IfRead (SeenLinesOf w us) (many before_end (any_line_at w d) n us)) → (o : Option Words) → IfBehind (λ us. ts ≡ us) o → IfRead (SeenLinesOf w ts) (or_more (any_line_at w d) (many before_end (any_line_at w d) n) ts o)
+    by again None k = none_spelled w ts
+    by again (Some us) k = rw k (if_bind (AnyLineOf w us) (SeenLinesOf w us) (any_line_at w d us) _ (any_line_of w d us) (λ l vs s. if_bind (SeenLinesOf w vs) (SeenLinesOf w us) (many before_end (any_line_at w d) n vs) _ (again vs) (λ ls ws t. line_added w us vs ws l ls s t)))
+
+lines_of : (w : Bool) (d n : ℕ) (ts : Words) → IfRead (LinesOf w ts) (lines_at w d n ts)
+unfolding lines_at
+lines_of w d n ts = if_bind (SeenLinesOf w ts) (LinesOf w ts) (many before_end (any_line_at w d) n ts) _ (many_lines_of w d n ts) (λ ls us s. s)
 
 data NamedLine : List ℕ → Words → Words → Type 0 where
   named_line : {s : List ℕ} {p : ℕ} {ts r : Words} → Comma ts r → NamedLine s (name s p ∷ ts) r
@@ -525,21 +590,28 @@ package_of ts = no_clause
 ok_is : (x y : FileTree) → ◌≡◌ {A = Result FileTree SyntaxFault} (Ok x) (Ok y) → x ≡ y
 ok_is x y e = cc
 
--- what is behind the definitions of a file
-end_file : (ts us vs : Words) (c : Option (List ℕ)) (ds : List DefinitionTree) (f : FileTree) → SpellsPackage c ts us → SpellsDefinitions ds us vs → (expected kinds.End vs >>= λ ws. whole (file c ds) ws) ≡ Ok f → SpellsFile f ts
-end_file ts us (finish q ∷ []) c ds f s t e = subst (λ x. SpellsFile x ts) (ok_is (file c ds) f e) (spelled s t)
-end_file ts us (finish q ∷ w ∷ vs) c ds f s t e = absurd cc
-end_file ts us (relation atoms.less p ∷ vs) c ds f s t e = absurd cc
-end_file ts us vs c ds f s t e = absurd cc
+-- what is behind the lines of a file
+end_file : (w : Bool) (ts us vs : Words) (c : Option (List ℕ)) (x : List DefinitionTree × List NameTree) (f : FileTree) → SpellsPackage c ts us → LinesOf w us x vs → (expected (end_kind w) vs >>= λ ws. whole (file c x.0 x.1) ws) ≡ Ok f → SpellsFile f ts
+end_file false ts us (finish q ∷ []) c x f s t e = subst (λ y. SpellsFile y ts) (ap (file c x.0) (sym t.1) ∙ ok_is (file c x.0 x.1) f e) (spelled s t.0)
+end_file false ts us (finish q ∷ w ∷ vs) c x f s t e = absurd cc
+end_file false ts us (relation atoms.less p ∷ vs) c x f s t e = absurd cc
+end_file false ts us vs c x f s t e = absurd cc
+end_file true ts us (wide_finish q ∷ []) c x f s t e = subst (λ y. SpellsFile y ts) (ok_is (file c x.0 x.1) f e) (wide_spelled s t)
+end_file true ts us (wide_finish q ∷ w ∷ vs) c x f s t e = absurd cc
+end_file true ts us (relation atoms.less p ∷ vs) c x f s t e = absurd cc
+end_file true ts us vs c x f s t e = absurd cc
 
-pub file_found : (ts : Words) (f : FileTree) → file_at ts ≡ Ok f → SpellsFile f ts
+read_file : (w : Bool) (ts : Words) (f : FileTree) → file_with w 29 ts ≡ Ok f → SpellsFile f ts
 unfolding file_with
-file_found ts f is = packaged (package_at ts) (package_of ts) is
+read_file w ts f is = packaged (package_at ts) (package_of ts) is
   where
-    packaged : (m : Result (Option (List ℕ) × Words) SyntaxFault) → IfRead (λ c r. SpellsPackage c ts r) m → (m >>= λ c. definitions_at 29 (length c.1) c.1 >>= λ ds. expected kinds.End ds.1 >>= λ us. whole (file c.0 ds.0) us) ≡ Ok f → SpellsFile f ts
-    packaged (Ok x) s is = lined (definitions_at 29 (length x.1) x.1) (definitions_of 29 (length x.1) x.1) is
+    packaged : (m : Result (Option (List ℕ) × Words) SyntaxFault) → IfRead (λ c r. SpellsPackage c ts r) m → (m >>= λ c. lines_at w 29 (length c.1) c.1 >>= λ ls. expected (end_kind w) ls.1 >>= λ us. whole (file c.0 ls.0.0 ls.0.1) us) ≡ Ok f → SpellsFile f ts
+    packaged (Ok x) s is = lined (lines_at w 29 (length x.1) x.1) (lines_of w 29 (length x.1) x.1) is
       where
-        lined : (m : Result (List DefinitionTree × Words) SyntaxFault) → IfRead (λ ds r. SpellsDefinitions ds x.1 r) m → (m >>= λ ds. expected kinds.End ds.1 >>= λ us. whole (file x.0 ds.0) us) ≡ Ok f → SpellsFile f ts
-        lined (Ok y) t is = end_file ts x.1 y.1 x.0 y.0 f s t is
+        lined : (m : Result ((List DefinitionTree × List NameTree) × Words) SyntaxFault) → IfRead (LinesOf w x.1) m → (m >>= λ ls. expected (end_kind w) ls.1 >>= λ us. whole (file x.0 ls.0.0 ls.0.1) us) ≡ Ok f → SpellsFile f ts
+        lined (Ok y) t is = end_file w ts x.1 y.1 x.0 y.0 f s t is
         lined (Err e) t is = absurd cc
     packaged (Err e) s is = absurd cc
+
+pub file_found : (ts : Words) (f : FileTree) → file_at ts ≡ Ok f → SpellsFile f ts
+file_found ts f is = read_file (ends_wide ts) ts f is

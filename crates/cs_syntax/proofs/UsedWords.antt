@@ -1,19 +1,25 @@
 -- Words that spell a file have none of a form that is left out, so the wide profile takes them one by one, and they spell the same file.
-use Rattle.std.proofs.Common.{◌≡◌, ℕ, ◌≤◌, ℤ, Bool, false, List, [], ◌∷◌, map, Option, refl, sym, subst}
+use Rattle.std.proofs.Common.{◌≡◌, ℕ, ◌≤◌, ℤ, Bool, true, false, List, [], ◌∷◌, map, Option, Some, refl, sym, ap, ◌∙◌, subst}
 use Rattle.cs_grammar.specs.declared.ast.FieldMark.{FieldMark}
 use Rattle.cs_grammar.specs.declared.profile.Profile.TheVariants as profiles
-use Rattle.cs_grammar.specs.Cut.{Lexeme}
-use Rattle.cs_grammar.specs.Spells.{Comma, explicit, inserted, ClosesParen, paren_here, paren_after, ClosesList, list_here, list_after, ClosesStruct, struct_here, struct_after, SpellsNumber, positive, negative, SpellsBound, limit_is, other_number, other_text, other_null, SpellsLabel, bare_label, quoted_label, SpellsMark, regular, optional, required, SpellsOpening, unopened, opened, SpellsScalar, scalar_name, scalar_number, scalar_text, SpellsTest, is_true, equal_to, unequal_to, is_absent, is_present, related, SpellsCondition, asked_is, denied_is, SpellsConditions, last_condition, next_condition, SpellsValue, long, short, SpellsField, labelled, every_key, SpellsExpr, one_branch, disjunction_is, SpellsBars, no_bar, a_bar, SpellsBranch, unmarked, marked_is, SpellsConj, one_operand, conjunction_is, SpellsAmps, no_amp, an_amp, SpellsOperand, top_is, bottom_is, reference_is, name_is, number_is, text_is, bound_is, paren_is, struct_is, list_is, call_paren_is, shut_is, wide_struct_is, SpellsWideStruct, no_declarations, wide_dots_alone, some_declarations, SpellsDeclarations, a_field, an_embedding, a_conditional, SpellsMore, no_more, next_declaration, SpellsStruct, no_fields, dots_alone, fields, SpellsFields, no_more_fields, next_field, SpellsList, no_elements, rest_alone, elements, SpellsElements, no_more_elements, next_element, SpellsEnd, closed_is, rest_is, SpellsRest, any_is, each_is, SpellsDefinition, defined, SpellsDefinitions, no_definition, next_definition, SpellsPackage, no_clause, clause, SpellsFile, spelled}
+use Rattle.cs_grammar.specs.declared.line.LineState.{LineState}
+use Rattle.cs_grammar.specs.declared.line.LineState.TheVariants.{Plain, WantsComma, Minus}
+use Rattle.cs_grammar.specs.declared.token.Sort.{Sort}
+use Rattle.cs_grammar.specs.declared.token.Sort.TheVariants as sorts
+use Rattle.cs_grammar.specs.Cut.{Lexeme, lexeme, comma_if, Cut, blank, new_line, comment, attribute, token, finish}
+use Rattle.cs_grammar.specs.Spelling.{sort_of}
+use Rattle.cs_grammar.specs.Spells.{Comma, explicit, inserted, ClosesParen, paren_here, paren_after, ClosesList, list_here, list_after, ClosesStruct, struct_here, struct_after, SpellsNumber, positive, negative, SpellsBound, limit_is, other_number, other_text, other_null, SpellsName, hashed, underscored, SpellsBase, name_base, field_base, SpellsSelector, by_name, by_label, by_text, SpellsSelectors, last_selector, next_selector, SpellsLabel, bare_label, quoted_label, SpellsMark, regular, optional, required, SpellsOpening, unopened, opened, SpellsScalar, scalar_name, scalar_number, scalar_text, SpellsTest, is_true, equal_to, unequal_to, is_absent, is_present, related, SpellsCondition, asked_is, denied_is, SpellsConditions, last_condition, next_condition, SpellsValue, long, short, SpellsField, labelled, every_key, SpellsExpr, one_branch, disjunction_is, SpellsBars, no_bar, a_bar, SpellsBranch, unmarked, marked_is, SpellsConj, one_operand, conjunction_is, SpellsAmps, no_amp, an_amp, SpellsOperand, top_is, bottom_is, reference_is, name_is, number_is, text_is, bound_is, paren_is, struct_is, list_is, call_paren_is, shut_is, local_is, selected_is, wide_struct_is, SpellsWideStruct, no_declarations, wide_dots_alone, some_declarations, SpellsDeclarations, a_field, an_embedding, a_name, a_let, a_conditional, SpellsMore, no_more, next_declaration, SpellsStruct, no_fields, dots_alone, fields, SpellsFields, no_more_fields, next_field, SpellsList, no_elements, rest_alone, elements, SpellsElements, no_more_elements, next_element, SpellsEnd, closed_is, rest_is, SpellsRest, any_is, each_is, SpellsDefinition, defined, SpellsDefinitions, no_definition, next_definition, SpellsFileName, field_name, local_name, bound_name, SpellsWideFile, no_line, definition_line, name_line, SpellsPackage, no_clause, clause, SpellsFile, spelled, wide_spelled}
 use Rattle.cs_grammar.specs.Taken.{wide_lexeme}
 use Rattle.cs_grammar.specs.TokenWords.{words}
 use Rattle.cs_grammar.specs.Atom.{Atom}
-use Rattle.cs_grammar.specs.Tree.{Label, Test, Condition, Tree, Trees, Fields, Declarations, End, DefinitionTree, FileTree}
+use Rattle.cs_grammar.specs.Tree.{Label, Selector, Test, Condition, Tree, Trees, Fields, Declarations, End, DefinitionTree, NameTree, FileTree}
 use Rattle.cs_grammar.specs.Words.{Words}
 use Rattle.cs_lexer.proofs.CutWide.{cut_wide}
+use Rattle.cs_syntax.proofs.DefaultWords.{is_wide_sort, OtherSort, sort_other}
 use Rattle.cs_syntax.specs.Answer.{IsSpelled}
 use Rattle.cs_syntax.specs.AnswerIn.{IsSpelledIn}
 use Rattle.cs_syntax.specs.Nesting.{nesting, most_nested}
-use Rattle.cs_syntax.proofs.WideWords.{all_widened, is_left_out, lexeme_widened, file_widened, nesting_widened}
+use Rattle.cs_syntax.proofs.WideWords.{all_widened, is_left_out, IsBare, lexeme_widened, file_widened, nesting_widened}
 
 -- each of the words is one of the grammar
 abbrev Used : Words → Type 0
@@ -84,6 +90,25 @@ of_conditions : {cs : List Condition} {ts r : Words} → SpellsConditions cs ts 
 of_conditions (last_condition is c) h = (refl, of_condition c h)
 of_conditions (next_condition is c cs) h = (refl, of_condition c (of_conditions cs h))
 
+-- ---- names and selectors
+
+of_scope_name : {s : List ℕ} {ts r : Words} → SpellsName s ts r → Used r → Used ts
+of_scope_name hashed h = (refl, h)
+of_scope_name underscored h = (refl, h)
+
+of_base : {s : List ℕ} {ts r : Words} → SpellsBase s ts r → Used r → Used ts
+of_base (name_base n) h = of_scope_name n h
+of_base (field_base is) h = (refl, h)
+
+of_selector : {l : Selector} {ts r : Words} → SpellsSelector l ts r → Used r → Used ts
+of_selector (by_name o n) h = (refl, of_scope_name n h)
+of_selector by_label h = (refl, (refl, h))
+of_selector by_text h = (refl, (refl, h))
+
+of_selectors : {ls : List Selector} {ts r : Words} → SpellsSelectors ls ts r → Used r → Used ts
+of_selectors (last_selector l) h = of_selector l h
+of_selectors (next_selector l ls) h = of_selector l (of_selectors ls h)
+
 -- ---- values
 
 mutual
@@ -128,6 +153,8 @@ mutual
   of_operand (list_is s) h = (refl, of_list s h)
   of_operand (call_paren_is e c) h = (refl, of_expr e (of_paren_end c h))
   of_operand (shut_is s e c) h = (refl, (refl, of_expr e (of_paren_end c h)))
+  of_operand local_is h = (refl, h)
+  of_operand (selected_is o b l) h = of_base b (of_selectors l h)
   of_operand (wide_struct_is e s) h = (refl, of_wide_struct s h)
 
   of_wide_struct : {ds : Declarations} {b : Bool} {ts r : Words} → SpellsWideStruct ds b ts r → Used r → Used ts
@@ -138,6 +165,8 @@ mutual
   of_declarations : {ds : Declarations} {ts r : Words} → SpellsDeclarations ds ts r → Used r → Used ts
   of_declarations (a_field f m) h = of_field f (of_more m h)
   of_declarations (an_embedding o e m) h = of_expr e (of_more m h)
+  of_declarations (a_name o n v m) h = of_scope_name n (refl, of_value v (of_more m h))
+  of_declarations (a_let l e m) h = (refl, (refl, (refl, of_expr e (of_more m h))))
   of_declarations (a_conditional o cs b e m) h = of_conditions cs (of_expr e (of_more m h))
 
   of_more : {ds : Declarations} {ts r : Words} → SpellsMore ds ts r → Used r → Used ts
@@ -179,22 +208,55 @@ of_definitions : {ds : List DefinitionTree} {ts r : Words} → SpellsDefinitions
 of_definitions no_definition h = h
 of_definitions (next_definition d c ds) h = of_definition d (of_comma c (of_definitions ds h))
 
+of_file_name : {n : NameTree} {ts r : Words} → SpellsFileName n ts r → Used r → Used ts
+of_file_name (field_name k v) h = (refl, (refl, of_value v h))
+of_file_name (local_name v) h = (refl, (refl, of_value v h))
+of_file_name (bound_name l e) h = (refl, (refl, (refl, of_expr e h)))
+
+of_lines : {ds : List DefinitionTree} {ns : List NameTree} {ts r : Words} → SpellsWideFile ds ns ts r → Used r → Used ts
+of_lines no_line h = h
+of_lines (definition_line d c ls) h = of_definition d (of_comma c (of_lines ls h))
+of_lines (name_line n c ls) h = of_file_name n (of_comma c (of_lines ls h))
+
 of_package : {c : Option (List ℕ)} {ts r : Words} → SpellsPackage c ts r → Used r → Used ts
 of_package no_clause h = h
 of_package (clause is c) h = (refl, (refl, of_comma c h))
 
 of_file : {f : FileTree} {ts : Words} → SpellsFile f ts → Used ts
 of_file (spelled p ds) = of_package p (of_definitions ds (refl, tt))
+of_file (wide_spelled p ls) = of_package p (of_lines ls (refl, tt))
 
 -- ---- the tokens of the wide profile
 
-words_widened : (ks : List Lexeme) → Used (words ks) → words (map wide_lexeme ks) ≡ all_widened (words ks)
-words_widened [] h = refl
-words_widened (k ∷ ks) h = rw (lexeme_widened k h.0, words_widened ks h.1) refl
+-- the end has no text
+abbrev AreBare : List Lexeme → Type 0
+AreBare [] = Unit {0}
+AreBare (k ∷ ks) = IsBare k × AreBare ks
+
+token_bare : (s : Sort) (t : List ℕ) (o : ℕ) → sort_of t ≡ Some s → IsBare (lexeme s t o)
+token_bare sorts.End t o h = let never : true ≡ false = sym (ap is_wide_sort h) ∙ (sort_other t).is in absurd cc
+token_bare s t o h = tt
+
+comma_bare : (l : LineState) (o : ℕ) (ks : List Lexeme) → AreBare ks → AreBare (comma_if l o ks)
+comma_bare WantsComma o ks h = (tt, h)
+comma_bare Plain o ks h = h
+comma_bare Minus o ks h = h
+
+cut_bare : {bs : List ℕ} {o : ℕ} {l : LineState} {ks : List Lexeme} → Cut bs o l ks → AreBare ks
+cut_bare (blank h k) = cut_bare k
+cut_bare (new_line {o = o} {l = l} {ks = ks} h k) = comma_bare l o ks (cut_bare k)
+cut_bare (comment {o = o} {l = l} {ks = ks} h k) = comma_bare l o ks (cut_bare k)
+cut_bare (attribute h k) = absurd cc
+cut_bare (token h k) = (token_bare _ _ _ h.token.spelled, cut_bare k)
+cut_bare (finish {o} {l}) = comma_bare l o _ (refl, tt)
+
+words_widened : (ks : List Lexeme) → Used (words ks) → AreBare ks → words (map wide_lexeme ks) ≡ all_widened (words ks)
+words_widened [] h b = refl
+words_widened (k ∷ ks) h b = rw (lexeme_widened k h.0 b.0, words_widened ks h.1 b.1) refl
 
 pub spelled_wide : (source : List ℕ) (f : FileTree) → IsSpelled source f → IsSpelledIn profiles.Wide source f
 spelled_wide source f h =
-    let same = sym (words_widened h.tokens (of_file h.spelled)) in
+    let same = sym (words_widened h.tokens (of_file h.spelled) (cut_bare h.cut)) in
     record {
       tokens = h.tokens;
       cut = cut_wide h.cut;

@@ -1,25 +1,26 @@
 -- The words of a source of the default profile, as the wide one takes them: they spell the same file and nest as deep.
 use Rattle.std.proofs.Common.{◌≡◌, ℕ, ℤ, max, Bool, true, false, ◌||◌, cond, List, [], ◌∷◌, map, Option, Some, refl, sym, ap, ap₂, ◌∙◌}
 use Rattle.std.proofs.lemmas.Slice.Eq.{bytes_eq-Decides}
-use Rattle.std.specs.Prelude.{codes}
+use Rattle.std.specs.Prelude.{◌==◌, codes}
 use Rattle.std.specs.Str.{bytes_eq}
 use Rattle.cs_grammar.specs.declared.ast.FieldMark.{FieldMark}
 use Rattle.cs_grammar.specs.declared.kind.Kind.{Kind}
 use Rattle.cs_grammar.specs.declared.kind.Kind.TheVariants as kinds
 use Rattle.cs_grammar.specs.declared.token.Sort.TheVariants as sorts
 use Rattle.cs_grammar.specs.Cut.{Lexeme, lexeme}
-use Rattle.cs_grammar.specs.Spells.{start_at, fields_alone, literal, Comma, explicit, inserted, ClosesParen, paren_here, paren_after, ClosesList, list_here, list_after, ClosesStruct, struct_here, struct_after, SpellsNumber, positive, negative, SpellsBound, limit_is, other_number, other_text, other_null, SpellsLabel, bare_label, quoted_label, SpellsMark, regular, optional, required, SpellsOpening, unopened, opened, SpellsScalar, scalar_name, scalar_number, scalar_text, SpellsTest, is_true, equal_to, unequal_to, is_absent, is_present, related, SpellsCondition, asked_is, denied_is, SpellsConditions, last_condition, next_condition, SpellsValue, long, short, SpellsField, labelled, every_key, SpellsExpr, one_branch, disjunction_is, SpellsBars, no_bar, a_bar, SpellsBranch, unmarked, marked_is, SpellsConj, one_operand, conjunction_is, SpellsAmps, no_amp, an_amp, SpellsOperand, top_is, bottom_is, reference_is, name_is, number_is, text_is, bound_is, paren_is, struct_is, list_is, call_paren_is, shut_is, wide_struct_is, SpellsWideStruct, no_declarations, wide_dots_alone, some_declarations, SpellsDeclarations, a_field, an_embedding, a_conditional, SpellsMore, no_more, next_declaration, SpellsStruct, no_fields, dots_alone, fields, SpellsFields, no_more_fields, next_field, SpellsList, no_elements, rest_alone, elements, SpellsElements, no_more_elements, next_element, SpellsEnd, closed_is, rest_is, SpellsRest, any_is, each_is, SpellsDefinition, defined, SpellsDefinitions, no_definition, next_definition, SpellsPackage, no_clause, clause, SpellsFile, spelled}
+use Rattle.cs_grammar.specs.Spells.{start_at, fields_alone, literal, Comma, explicit, inserted, ClosesParen, paren_here, paren_after, ClosesList, list_here, list_after, ClosesStruct, struct_here, struct_after, SpellsNumber, positive, negative, SpellsBound, limit_is, other_number, other_text, other_null, SpellsName, hashed, underscored, SpellsBase, name_base, field_base, SpellsSelector, by_name, by_label, by_text, SpellsSelectors, last_selector, next_selector, SpellsLabel, bare_label, quoted_label, SpellsMark, regular, optional, required, SpellsOpening, unopened, opened, SpellsScalar, scalar_name, scalar_number, scalar_text, SpellsTest, is_true, equal_to, unequal_to, is_absent, is_present, related, SpellsCondition, asked_is, denied_is, SpellsConditions, last_condition, next_condition, SpellsValue, long, short, SpellsField, labelled, every_key, SpellsExpr, one_branch, disjunction_is, SpellsBars, no_bar, a_bar, SpellsBranch, unmarked, marked_is, SpellsConj, one_operand, conjunction_is, SpellsAmps, no_amp, an_amp, SpellsOperand, top_is, bottom_is, reference_is, name_is, number_is, text_is, bound_is, paren_is, struct_is, list_is, call_paren_is, shut_is, local_is, selected_is, wide_struct_is, SpellsWideStruct, no_declarations, wide_dots_alone, some_declarations, SpellsDeclarations, a_field, an_embedding, a_name, a_let, a_conditional, SpellsMore, no_more, next_declaration, SpellsStruct, no_fields, dots_alone, fields, SpellsFields, no_more_fields, next_field, SpellsList, no_elements, rest_alone, elements, SpellsElements, no_more_elements, next_element, SpellsEnd, closed_is, rest_is, SpellsRest, any_is, each_is, SpellsDefinition, defined, SpellsDefinitions, no_definition, next_definition, SpellsFileName, field_name, local_name, bound_name, SpellsWideFile, no_line, definition_line, name_line, SpellsPackage, no_clause, clause, SpellsFile, spelled, wide_spelled}
 use Rattle.cs_grammar.specs.Taken.{wide_lexeme}
 use Rattle.cs_grammar.specs.TokenWords.{mark_kind, word_of, word}
 use Rattle.cs_grammar.specs.Atom.{Atom}
-use Rattle.cs_grammar.specs.Tree.{Label, Test, Condition, Tree, struct, Trees, Fields, no_field, field, Declarations, no_declaration, declared, End, DefinitionTree, FileTree}
-use Rattle.cs_grammar.specs.Words.{Word, Words, name, quoted, open_struct, open_wide, open_paren, open_call, open_list, close_list, colon, question, bang, left_out}
+use Rattle.cs_grammar.specs.Tree.{Label, Selector, Test, Condition, Tree, struct, Trees, Fields, no_field, field, Declarations, no_declaration, declared, End, DefinitionTree, NameTree, FileTree}
+use Rattle.cs_grammar.specs.Words.{Word, Words, name, quoted, open_struct, open_wide, open_paren, open_call, open_list, close_list, colon, question, bang, hidden, left_out, finish, wide_finish}
 use Rattle.cs_syntax.specs.Nesting.{OpenLevels, ends_with_chained_label, ends_with_chained_string, is_short, counted_if, behind, nesting_at, nesting_from, nesting}
 
 -- a word as the wide profile takes it
 abbrev pub widened : Word → Word
 widened (open_struct o) = open_wide o
 widened (open_paren o) = open_call o
+widened (finish o) = wide_finish o
 widened w = w
 
 abbrev pub all_widened : Words → Words
@@ -29,6 +30,7 @@ start_same : (ts : Words) → start_at (all_widened ts) ≡ start_at ts
 start_same [] = refl
 start_same (open_struct o ∷ ts) = refl
 start_same (open_paren o ∷ ts) = refl
+start_same (finish o ∷ ts) = refl
 start_same (w ∷ ts) = refl
 
 -- ---- fields as declarations
@@ -108,6 +110,25 @@ wide_conditions : {cs : List Condition} {ts r : Words} → SpellsConditions cs t
 wide_conditions (last_condition is c) = last_condition is (wide_condition c)
 wide_conditions (next_condition is c cs) = next_condition is (wide_condition c) (wide_conditions cs)
 
+-- ---- names and selectors
+
+wide_scope_name : {s : List ℕ} {ts r : Words} → SpellsName s ts r → SpellsName s (all_widened ts) (all_widened r)
+wide_scope_name hashed = hashed
+wide_scope_name underscored = underscored
+
+wide_base : {s : List ℕ} {ts r : Words} → SpellsBase s ts r → SpellsBase s (all_widened ts) (all_widened r)
+wide_base (name_base n) = name_base (wide_scope_name n)
+wide_base (field_base h) = field_base h
+
+wide_selector : {l : Selector} {ts r : Words} → SpellsSelector l ts r → SpellsSelector l (all_widened ts) (all_widened r)
+wide_selector (by_name {ts = ts} o n) = by_name (o ∙ sym (start_same ts)) (wide_scope_name n)
+wide_selector by_label = by_label
+wide_selector by_text = by_text
+
+wide_selectors : {ls : List Selector} {ts r : Words} → SpellsSelectors ls ts r → SpellsSelectors ls (all_widened ts) (all_widened r)
+wide_selectors (last_selector l) = last_selector (wide_selector l)
+wide_selectors (next_selector l ls) = next_selector (wide_selector l) (wide_selectors ls)
+
 -- ---- values
 
 mutual
@@ -152,6 +173,8 @@ mutual
   wide_operand (shut_is s e c) = shut_is s (wide_expr e) (wide_paren_end c)
   wide_operand (struct_is {p} {fs} {b} s) = wide_struct_is (literal_from p fs b) (wide_struct s)
   wide_operand (list_is s) = list_is (wide_list s)
+  wide_operand local_is = local_is
+  wide_operand (selected_is {ts = ts} o b l) = selected_is (o ∙ sym (start_same ts)) (wide_base b) (wide_selectors l)
   wide_operand (wide_struct_is e s) = wide_struct_is e (wide_wide_struct s)
 
   wide_struct : {fs : Fields} {b : Bool} {ts r : Words} → SpellsStruct fs b ts r → SpellsWideStruct (declarations_from fs) b (all_widened ts) (all_widened r)
@@ -171,6 +194,8 @@ mutual
   wide_declarations : {ds : Declarations} {ts r : Words} → SpellsDeclarations ds ts r → SpellsDeclarations ds (all_widened ts) (all_widened r)
   wide_declarations (a_field f m) = a_field (wide_field f) (wide_more m)
   wide_declarations (an_embedding {ts = ts} o e m) = an_embedding (o ∙ sym (start_same ts)) (wide_expr e) (wide_more m)
+  wide_declarations (a_name {ts = ts} o n v m) = a_name (o ∙ sym (start_same ts)) (wide_scope_name n) (wide_value v) (wide_more m)
+  wide_declarations (a_let l e m) = a_let l (wide_expr e) (wide_more m)
   wide_declarations (a_conditional {ts = ts} o cs b e m) = a_conditional (o ∙ sym (start_same ts)) (wide_conditions cs) b (wide_expr e) (wide_more m)
 
   wide_more : {ds : Declarations} {ts r : Words} → SpellsMore ds ts r → SpellsMore ds (all_widened ts) (all_widened r)
@@ -199,9 +224,19 @@ mutual
 wide_definition : {d : DefinitionTree} {ts r : Words} → SpellsDefinition d ts r → SpellsDefinition d (all_widened ts) (all_widened r)
 wide_definition (defined v) = defined (wide_value v)
 
-wide_definitions : {ds : List DefinitionTree} {ts r : Words} → SpellsDefinitions ds ts r → SpellsDefinitions ds (all_widened ts) (all_widened r)
-wide_definitions no_definition = no_definition
-wide_definitions (next_definition d c ds) = next_definition (wide_definition d) (wide_comma c) (wide_definitions ds)
+wide_definitions : {ds : List DefinitionTree} {ts r : Words} → SpellsDefinitions ds ts r → SpellsWideFile ds [] (all_widened ts) (all_widened r)
+wide_definitions no_definition = no_line
+wide_definitions (next_definition d c ds) = definition_line (wide_definition d) (wide_comma c) (wide_definitions ds)
+
+wide_file_name : {n : NameTree} {ts r : Words} → SpellsFileName n ts r → SpellsFileName n (all_widened ts) (all_widened r)
+wide_file_name (field_name k v) = field_name k (wide_value v)
+wide_file_name (local_name v) = local_name (wide_value v)
+wide_file_name (bound_name l e) = bound_name l (wide_expr e)
+
+wide_lines : {ds : List DefinitionTree} {ns : List NameTree} {ts r : Words} → SpellsWideFile ds ns ts r → SpellsWideFile ds ns (all_widened ts) (all_widened r)
+wide_lines no_line = no_line
+wide_lines (definition_line d c ls) = definition_line (wide_definition d) (wide_comma c) (wide_lines ls)
+wide_lines (name_line n c ls) = name_line (wide_file_name n) (wide_comma c) (wide_lines ls)
 
 wide_package : {c : Option (List ℕ)} {ts r : Words} → SpellsPackage c ts r → SpellsPackage c (all_widened ts) (all_widened r)
 wide_package no_clause = no_clause
@@ -209,7 +244,8 @@ wide_package (clause is c) = clause is (wide_comma c)
 
 -- they spell what they spelled
 pub file_widened : {f : FileTree} {ts : Words} → SpellsFile f ts → SpellsFile f (all_widened ts)
-file_widened (spelled p ds) = spelled (wide_package p) (wide_definitions ds)
+file_widened (spelled p ds) = wide_spelled (wide_package p) (wide_definitions ds)
+file_widened (wide_spelled p ls) = wide_spelled (wide_package p) (wide_lines ls)
 
 -- ---- nesting
 
@@ -222,6 +258,9 @@ label_same (open_struct o ∷ ws) = refl
 label_same (name s o ∷ open_paren p ∷ ws) = refl
 label_same (quoted s o ∷ open_paren p ∷ ws) = refl
 label_same (open_paren o ∷ ws) = refl
+label_same (name s o ∷ finish p ∷ ws) = refl
+label_same (quoted s o ∷ finish p ∷ ws) = refl
+label_same (finish o ∷ ws) = refl
 label_same ws = refl
 
 string_same : (ws : Words) → ends_with_chained_string (all_widened ws) ≡ ends_with_chained_string ws
@@ -234,6 +273,10 @@ string_same (close_list o ∷ name s p ∷ open_list q ∷ open_paren r ∷ ws) 
 string_same (close_list o ∷ name s p ∷ open_paren q ∷ ws) = refl
 string_same (close_list o ∷ open_paren p ∷ ws) = refl
 string_same (open_paren o ∷ ws) = refl
+string_same (close_list o ∷ name s p ∷ open_list q ∷ finish r ∷ ws) = refl
+string_same (close_list o ∷ name s p ∷ finish q ∷ ws) = refl
+string_same (close_list o ∷ finish p ∷ ws) = refl
+string_same (finish o ∷ ws) = refl
 string_same ws = refl
 
 short_same : (ws : Words) → is_short (all_widened ws) ≡ is_short ws
@@ -242,12 +285,14 @@ short_same (bang o ∷ ws) = label_same ws
 short_same [] = refl
 short_same (open_struct o ∷ ws) = refl
 short_same (open_paren o ∷ ws) = refl
+short_same (finish o ∷ ws) = refl
 short_same (w ∷ ws) = ap₂ (λ a b. a || b) (label_same (w ∷ ws)) (string_same (w ∷ ws))
 
 behind_same : (ws : Words) (w : Word) (ns : OpenLevels) → behind (all_widened ws) (widened w) ns ≡ behind ws w ns
 behind_same ws (colon o) ns = ap (λ b. counted_if b ns) (short_same ws)
 behind_same ws (open_struct o) ns = refl
 behind_same ws (open_paren o) ns = refl
+behind_same ws (finish o) ns = refl
 behind_same ws w ns = refl
 
 nesting_from_same : (ws : Words) (ns : OpenLevels) (ts : Words) → nesting_from (all_widened ws) ns (all_widened ts) ≡ nesting_from ws ns ts
@@ -260,9 +305,11 @@ nesting_widened ts = nesting_from_same [] (0 ∷ []) ts
 
 -- ---- the words of tokens
 
+-- what the wide profile takes in its own way
 abbrev opens : Kind → Bool
 opens kinds.OpenStruct = true
 opens kinds.OpenParen = true
+opens kinds.End = true
 opens _ = false
 
 record Other (k : Kind) : Type 0 where
@@ -294,33 +341,52 @@ mark_other t h j = rw (h, j) (
     unless (bytes_eq t (codes "-")) kinds.Minus refl (
     unless (bytes_eq t (codes "*")) kinds.Star refl (
     unless (bytes_eq t (codes "==")) kinds.Equal refl (
-    record { is = refl }))))))))))))))))))))
+    unless (bytes_eq t (codes ".")) kinds.Dot refl (
+    unless (bytes_eq t (codes "=")) kinds.Assign refl (
+    record { is = refl }))))))))))))))))))))))
 
 word_same : (k : Kind) (t : List ℕ) (o : ℕ) → opens k ≡ false → word_of k t o ≡ widened (word_of k t o)
 word_same kinds.OpenStruct t o h = absurd cc
 word_same kinds.OpenParen t o h = absurd cc
+word_same kinds.End t o h = absurd cc
 word_same k t o h = refl
 
 mark_widened : (t : List ℕ) (o : ℕ) → word (wide_lexeme (lexeme sorts.Mark t o)) ≡ widened (word (lexeme sorts.Mark t o))
 mark_widened t o = by (bytes_eq t (codes "{")) (bytes_eq t (codes "(")) refl refl
   where
     by : (a b : Bool) → bytes_eq t (codes "{") ≡ a → bytes_eq t (codes "(") ≡ b → word (lexeme (cond a sorts.Wide (cond b sorts.Wide sorts.Mark)) t o) ≡ widened (word (lexeme sorts.Mark t o))
-    by true b e f = rw e refl
+    by true b e f = let same : t ≡ codes "{" = (bytes_eq-Decides t (codes "{")).0 e in rw same refl
     by false true e f = let same : t ≡ codes "(" = (bytes_eq-Decides t (codes "(")).0 f in rw same refl
     by false false e f = word_same (mark_kind t) t o (mark_other t e f).is
 
 -- a word of a form that is left out
 abbrev pub is_left_out : Word → Bool
+is_left_out (hidden o) = true
 is_left_out (left_out o) = true
 is_left_out _ = false
 
-pub lexeme_widened : (k : Lexeme) → is_left_out (word k) ≡ false → word (wide_lexeme k) ≡ widened (word k)
-lexeme_widened (lexeme sorts.LeftOut t o) h = let never : true ≡ false = h in absurd cc
-lexeme_widened (lexeme sorts.Mark t o) h = mark_widened t o
-lexeme_widened (lexeme sorts.Wide t o) h = by (bytes_eq t (codes "{")) (bytes_eq t (codes "("))
+-- the end has no text
+abbrev pub IsBare : Lexeme → Type 0
+IsBare (lexeme sorts.End t o) = t ≡ []
+IsBare k = Unit {0}
+
+end_widened : (t : List ℕ) (o : ℕ) → t ≡ [] → word (wide_lexeme (lexeme sorts.End t o)) ≡ widened (word (lexeme sorts.End t o))
+end_widened t o h = rw h refl
+
+wide_same : (t : List ℕ) (o : ℕ) → word (lexeme sorts.Wide t o) ≡ widened (word (lexeme sorts.Wide t o))
+wide_same [] o = refl
+wide_same (x ∷ xs) o = by (x == 123) (x == 40) (x == 95)
   where
-    by : (a b : Bool) → word_of (cond a kinds.OpenWide (cond b kinds.OpenCall kinds.LeftOut)) t o ≡ widened (word_of (cond a kinds.OpenWide (cond b kinds.OpenCall kinds.LeftOut)) t o)
-    by true b = refl
-    by false true = refl
-    by false false = refl
-lexeme_widened (lexeme s t o) h = refl
+    by : (a b c : Bool) → word_of (cond a kinds.OpenWide (cond b kinds.OpenCall (cond c kinds.Local kinds.LeftOut))) (x ∷ xs) o ≡ widened (word_of (cond a kinds.OpenWide (cond b kinds.OpenCall (cond c kinds.Local kinds.LeftOut))) (x ∷ xs) o)
+    by true b c = refl
+    by false true c = refl
+    by false false true = refl
+    by false false false = refl
+
+pub lexeme_widened : (k : Lexeme) → is_left_out (word k) ≡ false → IsBare k → word (wide_lexeme k) ≡ widened (word k)
+lexeme_widened (lexeme sorts.LeftOut t o) h b = let never : true ≡ false = h in absurd cc
+lexeme_widened (lexeme sorts.Hidden t o) h b = let never : true ≡ false = h in absurd cc
+lexeme_widened (lexeme sorts.Mark t o) h b = mark_widened t o
+lexeme_widened (lexeme sorts.Wide t o) h b = wide_same t o
+lexeme_widened (lexeme sorts.End t o) h b = end_widened t o b
+lexeme_widened (lexeme s t o) h b = refl

@@ -10,7 +10,7 @@ use Rattle.cs_grammar.specs.View.{lexemes_view}
 use Rattle.cs_grammar.specs.TokenWords.{word_of, words}
 pub use Rattle.cs_grammar.proofs.Views.{start_word_of}
 use Rattle.cs_syntax.specs.Place.{fault_of}
-use Rattle.cs_syntax.specs.Reading.{Fails, Read, fault_at, unsigned_at, unequal_at, scalar_at, unbracketed_at, uncalled_with, number_at, begins_with, before_end}
+use Rattle.cs_syntax.specs.Reading.{Fails, Read, fault_at, unsigned_at, unequal_at, scalar_at, unbracketed_at, uncalled_with, number_at, name_at, selector_at, leaf_at, begins_end, before_end}
 
 -- a word that is no integer begins no number
 pub unsigned_other : (b : Bool) (k : Kind) (t : List ℕ) (o : ℕ) (ts : Words) → (k ≡ kinds.Integer → ⊥) → unsigned_at b (word_of k t o ∷ ts) ≡ Err (fault_of (word_of k t o))
@@ -31,13 +31,17 @@ unfolding scalar_at number_at
 scalar_end = refl
 
 pub uncalled_end : (r : Bool → Read Tree) → uncalled_with r [] ≡ Err (fault_at [])
-unfolding uncalled_with unbracketed_at
+unfolding uncalled_with leaf_at unbracketed_at
 uncalled_end r = refl
+
+pub selector_end : selector_at [] ≡ Err (fault_at [])
+unfolding selector_at name_at
+selector_end = refl
 
 -- ---- before the end of a file
 
-pub stops : (ts : Words) → begins_with kinds.End ts ≡ true → before_end ts ≡ None
+pub stops : (ts : Words) → begins_end ts ≡ true → before_end ts ≡ None
 stops ts e = rw e refl
 
-pub proceeds : (ts : Words) → begins_with kinds.End ts ≡ false → before_end ts ≡ Some ts
+pub proceeds : (ts : Words) → begins_end ts ≡ false → before_end ts ≡ Some ts
 proceeds ts e = rw e refl

@@ -1,16 +1,18 @@
 -- What the parser's calls answer and leave.
-use Rattle.std.specs.Prelude.{◌≡◌, ℕ, ◌+◌, Bool, true, false, List, [], ◌∷◌, drop, reverse, Option, Some, None, Result, Ok, Err, String, string_bytes}
+use Rattle.std.specs.Prelude.{◌≡◌, ℕ, ◌+◌, Bool, true, false, List, [], ◌∷◌, drop, reverse, map, Option, Some, None, Result, Ok, Err, String, string_bytes, Vec}
 use Rattle.std.specs.declared.alloc.Global.{Global}
 use Rattle.cs_grammar.specs.declared.fault.SyntaxFault.{SyntaxFault}
 use Rattle.cs_syntax.specs.declared.parser.place.Parser.{Parser}
+use Rattle.cs_grammar.specs.declared.ast.Definition.{Definition}
 use Rattle.cs_grammar.specs.declared.ast.FieldMark.{FieldMark}
+use Rattle.cs_grammar.specs.declared.ast.Name.{Name}
 use Rattle.cs_grammar.specs.declared.ast.Test as tests
 use Rattle.cs_grammar.specs.declared.token.Token.{Token}
 use Rattle.cs_syntax.specs.declared.parser.nesting.NestingState as rust
 use Rattle.cs_syntax.specs.Counting.{NestingState}
 use Rattle.cs_grammar.specs.Words.{Words}
-use Rattle.cs_grammar.specs.Tree.{Label, Test}
-use Rattle.cs_grammar.specs.View.{lexemes_view, label_of, test_view, Seen, SeenDeclaration, field_seen, embedding_seen, conditional_seen}
+use Rattle.cs_grammar.specs.Tree.{Label, Test, DefinitionTree, NameTree}
+use Rattle.cs_grammar.specs.View.{lexemes_view, label_of, test_view, definition_view, name_view, Seen, SeenDeclaration, field_seen, embedding_seen, conditional_seen}
 use Rattle.cs_grammar.specs.TokenWords.{words}
 use Rattle.cs_syntax.specs.Reading.{Fails}
 
@@ -42,6 +44,14 @@ label_view x = label_of (string_bytes x.0) x.1
 
 abbrev pub head_view : String Global × Bool × FieldMark → Label × FieldMark
 head_view x = (label_of (string_bytes x.0) x.1, x.2)
+
+-- what is before the value of a name that is declared: the name, and whether `let` binds it
+abbrev pub name_head_view : String Global × Bool → List ℕ × Bool
+name_head_view x = (string_bytes x.0, x.1)
+
+-- the lines of a file
+abbrev pub lines_view : Vec Definition Global × Vec Name Global → List DefinitionTree × List NameTree
+lines_view x = (map definition_view x.0.items, map name_view x.1.items)
 
 -- the field that a condition asks: its name and its offset; and what is asked, with whether that has to be met
 abbrev pub asked_view : String Global × ℕ → List ℕ × ℕ

@@ -1,7 +1,7 @@
 -- How deep words nest, whatever they spell (own rule): at a word, the brackets that are open, and on each open level the short colons since that level's last comma.
 use Rattle.std.specs.Prelude.{ℕ, suc, ◌+◌, ◌-◌, max, Bool, true, false, ◌||◌, List, [], ◌∷◌, length}
 use Rattle.std.specs.List.{sum}
-use Rattle.cs_grammar.specs.Words.{Word, Words, name, definition_name, hidden, top_mark, bottom_mark, numeral, quoted, open_struct, open_wide, close_struct, open_list, close_list, open_paren, open_call, close_paren, comma, nl, colon, question, bang, amp, bar, dots, relation, unequal, minus, star, equal, left_out, finish}
+use Rattle.cs_grammar.specs.Words.{Word, Words, name, definition_name, hidden, top_mark, bottom_mark, numeral, quoted, open_struct, open_wide, close_struct, open_list, close_list, open_paren, open_call, close_paren, comma, nl, colon, question, bang, amp, bar, dots, relation, unequal, minus, star, equal, local, dot, assign, left_out, finish, wide_finish}
 use Rattle.cs_grammar.specs.Spells.{is_string}
 
 -- These words, the newest first, end with a name or a text that is directly behind a colon.
@@ -73,8 +73,12 @@ behind before (unequal o) ns = ns
 behind before (minus o) ns = ns
 behind before (star o) ns = ns
 behind before (equal o) ns = ns
+behind before (local s o) ns = ns
+behind before (dot o) ns = ns
+behind before (assign o) ns = ns
 behind before (left_out o) ns = ns
 behind before (finish o) ns = ns
+behind before (wide_finish o) ns = ns
 
 -- the levels above the bottom one, and all their short colons
 abbrev pub nesting_at : OpenLevels → ℕ

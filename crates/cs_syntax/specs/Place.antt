@@ -4,7 +4,7 @@ use Rattle.std.specs.List.{list_any}
 use Rattle.std.specs.Str.{bytes_eq}
 use Rattle.cs_grammar.specs.declared.fault.SyntaxFault.{SyntaxFault}
 use Rattle.cs_grammar.specs.declared.fault.SyntaxFault.TheVariants.{Syntax, LeftOut}
-use Rattle.cs_grammar.specs.Words.{Word, Words, start, name, definition_name, hidden, top_mark, bottom_mark, numeral, quoted, open_struct, open_wide, close_struct, open_list, close_list, open_paren, open_call, close_paren, comma, nl, colon, question, bang, amp, bar, dots, relation, unequal, minus, star, equal, left_out, finish}
+use Rattle.cs_grammar.specs.Words.{Word, Words, start, name, definition_name, hidden, top_mark, bottom_mark, numeral, quoted, open_struct, open_wide, close_struct, open_list, close_list, open_paren, open_call, close_paren, comma, nl, colon, question, bang, amp, bar, dots, relation, unequal, minus, star, equal, local, dot, assign, left_out, finish, wide_finish}
 
 -- the names that begin a form which the profile leaves out: imports (CUE, import declarations), let clauses and comprehensions (CUE, let clauses; comprehensions)
 abbrev pub left_out_names : List (List ℕ)
@@ -43,8 +43,12 @@ is_left_out (unequal o) = false
 is_left_out (minus o) = false
 is_left_out (star o) = true
 is_left_out (equal o) = true
+is_left_out (local s o) = true
+is_left_out (dot o) = true
+is_left_out (assign o) = true
 is_left_out (left_out o) = true
 is_left_out (finish o) = false
+is_left_out (wide_finish o) = false
 
 abbrev pub fault_if : Bool → ℕ → SyntaxFault
 fault_if true o = LeftOut o

@@ -1,4 +1,5 @@
--- Reading from left to right with one word of look-ahead, and three behind a bracket that may begin a label or an `if` that may be one.
+-- Reading from left to right with one word of look-ahead, and three behind a bracket that may begin a label or an `if` or `let` that may be one. Only
+-- the last word says whether a file may declare names that are no definitions.
 use Rattle.std.specs.Prelude.{◌≡◌, ℕ, ℤ, pos, neg_ℤ, zero, suc, ◌+◌, ◌^◌, [], ◌∷◌, List, length, drop, Bool, true, false, ◌&&◌, ◌||◌, not, is_some, nat_lt, nat_le, if◌then◌else◌, Option, Some, None, Result, Ok, Err}
 use Rattle.std.specs.Option.{unwrap_or}
 use denote.Enum.Bare.{sameb}
@@ -9,12 +10,12 @@ use Rattle.cs_grammar.specs.Atom as atoms
 use Rattle.cs_grammar.specs.Atom.{Atom, Relation, top, bottom, integer, text, bound, not_integer, not_text, not_null}
 use Rattle.cs_grammar.specs.declared.fault.SyntaxFault.{SyntaxFault}
 use Rattle.cs_grammar.specs.declared.fault.SyntaxFault.TheVariants as faults
-use Rattle.cs_grammar.specs.Words.{Word, Words, name, definition_name, hidden, top_mark, bottom_mark, numeral, quoted, open_struct, open_wide, close_struct, open_list, close_list, open_paren, open_call, close_paren, comma, nl, colon, question, bang, amp, bar, dots, relation, unequal, minus, star, equal, left_out, finish}
+use Rattle.cs_grammar.specs.Words.{Word, Words, name, definition_name, hidden, top_mark, bottom_mark, numeral, quoted, open_struct, open_wide, close_struct, open_list, close_list, open_paren, open_call, close_paren, comma, nl, colon, question, bang, amp, bar, dots, relation, unequal, minus, star, equal, local, dot, assign, left_out, finish, wide_finish}
 use Rattle.cs_grammar.specs.declared.ast.FieldMark.{FieldMark}
 use Rattle.cs_grammar.specs.declared.ast.FieldMark.TheVariants.{Regular, Optional, Required, Every}
-use Rattle.cs_grammar.specs.Tree.{Label, written_label, Test, present, truth, equals, compares, Condition, Tree, atom, named, reference, conjunction, disjunction, paren, struct, list, wide, marked, shut, End, closed, any, each, DefinitionTree, definition, FileTree, file}
+use Rattle.cs_grammar.specs.Tree.{Label, written_label, scoped_label, Selector, Test, present, truth, equals, compares, Condition, Tree, atom, named, reference, conjunction, disjunction, paren, struct, list, wide, marked, shut, selected, End, closed, any, each, DefinitionTree, definition, NameTree, FileTree, file}
 use Rattle.cs_grammar.specs.View.{trees_of, fields_of, Seen, declarations_of, SeenDeclaration, field_seen, embedding_seen, conditional_seen}
-use Rattle.cs_grammar.specs.Spells.{is_reserved, is_null, is_package, is_string, is_close, is_if, is_braced, every_label, literal_of, literal, start_at}
+use Rattle.cs_grammar.specs.Spells.{is_reserved, is_null, is_package, is_string, is_close, is_if, is_let, with_hash, is_braced, every_label, literal_of, literal, start_at}
 use Rattle.cs_syntax.specs.Place.{fault_of}
 use Rattle.cs_syntax.specs.Nesting.{most_nested}
 
@@ -76,8 +77,12 @@ word_kind (unequal o) = kinds.Unequal
 word_kind (minus o) = kinds.Minus
 word_kind (star o) = kinds.Star
 word_kind (equal o) = kinds.Equal
+word_kind (local s o) = kinds.Local
+word_kind (dot o) = kinds.Dot
+word_kind (assign o) = kinds.Assign
 word_kind (left_out o) = kinds.LeftOut
 word_kind (finish o) = kinds.End
+word_kind (wide_finish o) = kinds.WideEnd
 
 -- the words behind one of that kind, where it is there
 abbrev pub after : Kind → Words → Option Words
@@ -277,6 +282,7 @@ unbracketed_at (top_mark p ∷ ts) = Ok (atom top, ts)
 unbracketed_at (bottom_mark p ∷ ts) = Ok (atom bottom, ts)
 unbracketed_at (definition_name s p ∷ ts) = Ok (reference s p, ts)
 unbracketed_at (name s p ∷ ts) = name_or (is_reserved s) (literal_of s) s p ts
+unbracketed_at (local s p ∷ ts) = Ok (named s p, ts)
 unbracketed_at (quoted s p ∷ ts) = Ok (atom (text s), ts)
 unbracketed_at (relation b p ∷ ts) = bound_at b ts
 unbracketed_at (unequal p ∷ ts) = unequal_at ts
@@ -443,6 +449,100 @@ conditional_with r ts = do
   e ← r false cs.1
   conditional_or (is_braced e.0) (start_at ts) cs.0 cs.1 e.0 e.1
 
+-- ---- names and selectors of the wide profile
+
+-- a name of any kind, as it is written
+unfoldable pub name_at : Read (List ℕ)
+name_at (name s p ∷ ts) = Ok (s, ts)
+name_at (definition_name s p ∷ ts) = Ok (with_hash s, ts)
+name_at (local s p ∷ ts) = Ok (s, ts)
+name_at ts = Err (fault_at ts)
+
+-- a text or a name of any kind, behind `.`
+unfoldable pub selector_at : Read Selector
+selector_at (quoted s p ∷ ts) = Ok (record { text = s; quotes = true; at = p }, ts)
+selector_at ts = do
+  s ← name_at ts
+  Ok (record { text = s.0; quotes = false; at = start_at ts }, s.1)
+
+-- { `.` Selector }
+abbrev pub selectors_at : ℕ → Read (List Selector)
+selectors_at = many (after kinds.Dot) selector_at
+
+-- a name that is an operand, and no literal
+abbrev pub begins_base : Words → Bool
+begins_base (name s p ∷ ts) = not (names_no_field s)
+begins_base (definition_name s p ∷ ts) = true
+begins_base (local s p ∷ ts) = true
+begins_base ts = false
+
+abbrev pub begins_selected : Words → Bool
+begins_selected ts = begins_base ts && begins_with kinds.Dot (drop 1 ts)
+
+-- a name and the selectors behind it
+unfoldable pub selected_at : Read Tree
+selected_at ts = do
+  s ← name_at ts
+  us ← expected kinds.Dot s.1
+  l ← selector_at us
+  ls ← selectors_at (length l.1) l.1
+  Ok (wide (selected (start_at ts) s.0 (l.0 ∷ ls.0)), ls.1)
+
+abbrev pub leaf_if : Bool → Read Tree
+leaf_if true ts = selected_at ts
+leaf_if false ts = unbracketed_at ts
+
+-- an operand without brackets, with the selectors behind it
+unfoldable pub leaf_at : Read Tree
+leaf_at ts = leaf_if (begins_selected ts) ts
+
+-- the name `let`
+abbrev pub names_let : Word → Bool
+names_let (name s p) = is_let s
+names_let w = false
+
+abbrev pub begins_let : Words → Bool
+begins_let [] = false
+begins_let (w ∷ ts) = names_let w
+
+-- a `let` that is no label
+abbrev pub begins_binding : Words → Bool
+begins_binding ts = begins_let ts && not (ends_label (drop 1 ts))
+
+-- a name that begins with `#` or `_`, and a colon
+abbrev pub begins_declared : Words → Bool
+begins_declared ts = (begins_with kinds.Definition ts || begins_with kinds.Local ts) && begins_with kinds.Colon (drop 1 ts)
+
+-- a name that a literal declares
+abbrev pub begins_scoped : Words → Bool
+begins_scoped ts = begins_binding ts || begins_declared ts
+
+-- the name that `let` binds
+unfoldable pub bound_name_at : Read (List ℕ)
+bound_name_at (name s p ∷ ts) = Ok (s, ts)
+bound_name_at ts = Err (fault_at ts)
+
+abbrev pub name_head_if : Bool → Read (List ℕ × Bool)
+name_head_if true ts = do
+  s ← bound_name_at (drop 1 ts)
+  us ← expected kinds.Assign s.1
+  Ok ((s.0, true), us)
+name_head_if false ts = do
+  s ← name_at ts
+  us ← expected kinds.Colon s.1
+  Ok ((s.0, false), us)
+
+-- what is before the value of a name that is declared: the name, and whether `let` binds it
+unfoldable pub name_head_at : Read (List ℕ × Bool)
+name_head_at ts = name_head_if (begins_binding ts) ts
+
+-- a name that a literal declares, and its value
+unfoldable pub scoped_with : (Bool → Read Tree) → Read Seen
+scoped_with r ts = do
+  x ← name_head_at ts
+  e ← r (not x.0.1) x.1
+  Ok (record { label = scoped_label x.0.0 (start_at ts); mark = Regular; value = e.0 }, e.1)
+
 -- ---- literals of the wide profile
 
 abbrev pub declaration_if : (Bool → Read Tree) → Bool → Bool → Read SeenDeclaration
@@ -454,9 +554,15 @@ declaration_if r false false ts = do
   e ← r false ts
   Ok (embedding_seen (start_at ts) e.0, e.1)
 
--- a literal under conditions or a field where one begins, and else an expression that is embedded
+abbrev pub declaration_or : (Bool → Read Tree) → Bool → Read SeenDeclaration
+declaration_or r true ts = do
+  f ← scoped_with r ts
+  Ok (field_seen f.0, f.1)
+declaration_or r false ts = declaration_if r (begins_conditional ts) (begins_field ts) ts
+
+-- a name, a literal under conditions or a field where one begins, and else an expression that is embedded
 unfoldable pub declaration_with : (Bool → Read Tree) → Read SeenDeclaration
-declaration_with r ts = declaration_if r (begins_conditional ts) (begins_field ts) ts
+declaration_with r ts = declaration_or r (begins_scoped ts) ts
 
 -- { comma Declaration }
 abbrev pub declarations_with : (Bool → Read Tree) → ℕ → Read (List SeenDeclaration)
@@ -549,7 +655,7 @@ uncalled_with r (open_wide p ∷ ts) = do
 uncalled_with r (open_list p ∷ ts) = do
   x ← list_with r ts
   Ok (list (trees_of x.0.0) x.0.1, x.1)
-uncalled_with r ts = unbracketed_at ts
+uncalled_with r ts = leaf_at ts
 
 abbrev pub operand_if : (Bool → Read Tree) → Bool → Read Tree
 operand_if r true ts = do
@@ -626,13 +732,70 @@ line_at d ts = do
   us ← comma_at x.1
   Ok (x.0, us)
 
+-- a name and a colon, where it doesn't begin a definition or the package clause
+abbrev pub begins_other_name : Words → Bool
+begins_other_name (name s p ∷ ts) = not (is_package s) && begins_with kinds.Colon ts
+begins_other_name (local s p ∷ ts) = begins_with kinds.Colon ts
+begins_other_name ts = false
+
+-- a name of a file that is no definition
+abbrev pub begins_file_name : Words → Bool
+begins_file_name ts = begins_binding ts || begins_other_name ts
+
+-- such a name and its value
+unfoldable pub file_name_at : ℕ → Read NameTree
+file_name_at d ts = do
+  x ← name_head_at ts
+  e ← inner d (not x.0.1) x.1
+  Ok (record { name = x.0.0; is_bound = x.0.1; at = start_at ts; value = e.0 }, e.1)
+
+-- the same and a comma
+unfoldable pub name_line_at : ℕ → Read NameTree
+name_line_at d ts = do
+  x ← file_name_at d ts
+  us ← comma_at x.1
+  Ok (x.0, us)
+
+-- a definition or another name
+pub data SeenLine : Type 0 where
+  definition_seen : DefinitionTree → SeenLine
+  name_seen : NameTree → SeenLine
+
+abbrev pub definitions_seen : List SeenLine → List DefinitionTree
+definitions_seen [] = []
+definitions_seen (definition_seen d ∷ ls) = d ∷ definitions_seen ls
+definitions_seen (name_seen n ∷ ls) = definitions_seen ls
+
+abbrev pub names_seen : List SeenLine → List NameTree
+names_seen [] = []
+names_seen (definition_seen d ∷ ls) = names_seen ls
+names_seen (name_seen n ∷ ls) = n ∷ names_seen ls
+
+abbrev pub any_line_if : ℕ → Bool → Read SeenLine
+any_line_if d true ts = do
+  x ← name_line_at d ts
+  Ok (name_seen x.0, x.1)
+any_line_if d false ts = do
+  x ← line_at d ts
+  Ok (definition_seen x.0, x.1)
+
+-- a line of a file, which may be another name where w says so
+unfoldable pub any_line_at : Bool → ℕ → Read SeenLine
+any_line_at w d ts = any_line_if d (w && begins_file_name ts) ts
+
+-- the end of a file
+abbrev pub begins_end : Words → Bool
+begins_end ts = begins_with kinds.End ts || begins_with kinds.WideEnd ts
+
 -- all but the end
 abbrev pub before_end : Words → Option Words
-before_end ts = if begins_with kinds.End ts then None else Some ts
+before_end ts = if begins_end ts then None else Some ts
 
--- { Definition comma }
-abbrev pub definitions_at : ℕ → ℕ → Read (List DefinitionTree)
-definitions_at d = many before_end (line_at d)
+-- the lines of a file: its definitions, and its other names
+unfoldable pub lines_at : Bool → ℕ → ℕ → Read (List DefinitionTree × List NameTree)
+lines_at w d n ts = do
+  ls ← many before_end (any_line_at w d) n ts
+  Ok ((definitions_seen ls.0, names_seen ls.0), ls.1)
 
 abbrev pub is_clause : Words → Bool
 is_clause (name s p ∷ ts) = is_package s
@@ -659,13 +822,23 @@ abbrev pub whole : {A : Type 0} → A → Words → Result A SyntaxFault
 whole x [] = Ok x
 whole x (w ∷ ts) = Err (fault_of w)
 
--- a file, with values so deep at most
-unfoldable pub file_with : ℕ → Words → Result FileTree SyntaxFault
-file_with d ts = do
+-- whether the last word is the end of the wide profile
+abbrev pub ends_wide : Words → Bool
+ends_wide [] = false
+ends_wide (w ∷ []) = begins_with kinds.WideEnd (w ∷ [])
+ends_wide (w ∷ v ∷ ts) = ends_wide (v ∷ ts)
+
+abbrev pub end_kind : Bool → Kind
+end_kind true = kinds.WideEnd
+end_kind false = kinds.End
+
+-- a file, with other names than definitions where w says so, and with values so deep at most
+unfoldable pub file_with : Bool → ℕ → Words → Result FileTree SyntaxFault
+file_with w d ts = do
   c ← package_at ts
-  ds ← definitions_at d (length c.1) c.1
-  us ← expected kinds.End ds.1
-  whole (file c.0 ds.0) us
+  ls ← lines_at w d (length c.1) c.1
+  us ← expected (end_kind w) ls.1
+  whole (file c.0 ls.0.0 ls.0.1) us
 
 -- how deep values are in a file whose words nest no deeper than they may: the body is one value, and so many stand
 -- inside it
@@ -674,4 +847,4 @@ most_depth = most_nested + 1
 
 -- a file whose words nest no deeper
 abbrev pub file_at : Words → Result FileTree SyntaxFault
-file_at ts = file_with most_depth ts
+file_at ts = file_with (ends_wide ts) most_depth ts

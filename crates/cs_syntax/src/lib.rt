@@ -4,8 +4,8 @@
 mod parser;
 
 pub use cs_grammar::{
-    Condition, Declaration, Definition, Expr, Field, FieldMark, File, ListEnd, Profile, Relation,
-    Scalar, Sort, SyntaxFault, Test, Token, Wide,
+    Condition, Declaration, Definition, Expr, Field, FieldMark, File, ListEnd, Name, Profile,
+    Relation, Scalar, Selector, Sort, SyntaxFault, Test, Token, Wide,
 };
 pub use cs_lexer::{lex, lex_in};
 pub use parser::file::{one_file, parse_file, parse_file_in};

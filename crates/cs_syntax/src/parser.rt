@@ -1,5 +1,5 @@
 // From tokens to a tree, by recursive descent with one token of look-ahead, and three behind a
-// bracket that may begin a label or an `if` that may be one (CUE, expressions).
+// bracket that may begin a label or an `if` or `let` that may be one (CUE, expressions).
 
 mod condition;
 mod expression;
@@ -9,6 +9,7 @@ mod height;
 mod kind;
 mod literal;
 mod name;
+mod names;
 mod nesting;
 mod number;
 mod operand;

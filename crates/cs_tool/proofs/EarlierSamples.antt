@@ -86,7 +86,7 @@ abbrev every_source : List ℕ
 every_source = codes "#T: {[string]: int}"
 
 abbrev every_file : FileTree
-every_file = file None (definition (codes "T") 0 (T.struct 4 (T.field every_label (Every 6) (T.named (codes "int") 15) T.no_field) false) ∷ [])
+every_file = file None (definition (codes "T") 0 (T.struct 4 (T.field every_label (Every 6) (T.named (codes "int") 15) T.no_field) false) ∷ []) []
 
 abbrev every_tokens : List Lexeme
 every_tokens =

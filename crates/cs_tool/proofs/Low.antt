@@ -109,7 +109,7 @@ low_spelled : (ss : List (List ℕ)) (fs : List FileTree) → AreFiles ss fs →
 low_spelled [] [] h = omega arith
 low_spelled [] (f ∷ fs) h = absurd h
 low_spelled (s ∷ ss) [] h = absurd h
-low_spelled (s ∷ ss) (f ∷ fs) h = both_low (definitions f) (flat_map definitions fs) h.0.low (low_spelled ss fs h.1)
+low_spelled (s ∷ ss) (f ∷ fs) h = let low = h.0.low in both_low (definitions f) (flat_map definitions fs) (omega arith) (low_spelled ss fs h.1)
 
 -- what spelled files declare is low
 pub low_files : (rs : Refinements) (ss : List (List ℕ)) (fs : List FileTree) → AreFiles ss fs → IsLow (environment_of_files rs fs)

@@ -4,6 +4,7 @@ use Rattle.std.specs.List.{AllByRecursion}
 use Rattle.cs_grammar.specs.declared.profile.Profile.TheVariants as profiles
 use Rattle.cs_grammar.specs.DefaultForms.{IsDefaultFile}
 use Rattle.cs_grammar.specs.Tree.{FileTree}
+use Rattle.cs_grammar.specs.Written.{IsWrittenFile}
 use Rattle.cs_syntax.specs.Answer.{IsSpelled}
 use Rattle.cs_syntax.specs.AnswerIn.{IsSpelledIn}
 use Rattle.cs_package.specs.Environment.{Environment}
@@ -12,6 +13,8 @@ use Rattle.cs_print.specs.Printed.{IsReadAs}
 use Rattle.cs_conditions.specs.Conditions.{AreChosen}
 use Rattle.cs_conditions.specs.Having.{have_conditions}
 use Rattle.cs_defaults.specs.Widened.{IsUnmarked}
+use Rattle.cs_names.specs.Having.{have_names}
+use Rattle.cs_names.specs.Names.{AreNamed}
 use Rattle.cs_tool.specs.Accepted.{AreFiles, IsAccepted}
 use Rattle.cs_tool.specs.FilesIn.{AreFilesIn}
 use Rattle.cs_widen.specs.Accepted.{IsAcceptedIn}
@@ -23,6 +26,12 @@ use Rattle.cs_widen.proofs.Printed.{HaveDefaultForms, WritesSpelled, all_spelled
 
 abbrev pub Stay : Type 0
 Stay = (fs : List FileTree) → AllByRecursion IsDefaultFile fs → IsUnmarked fs fs
+
+abbrev pub HaveNoNames : Type 0
+HaveNoNames = (fs : List FileTree) → AllByRecursion IsWrittenFile fs → have_names fs ≡ false
+
+abbrev pub StayNamed : Type 0
+StayNamed = (fs : List FileTree) → have_names fs ≡ false → AreNamed fs fs
 
 abbrev pub HaveNoConditions : Type 0
 HaveNoConditions = (fs : List FileTree) → AllByRecursion IsDefaultFile fs → have_conditions fs ≡ false
@@ -43,12 +52,14 @@ all_wide law (s ∷ ss) (f ∷ fs) h = (law s f h.0, all_wide law ss fs h.1)
 abbrev pub StandForThemselves : Type 0
 StandForThemselves = (ss : List (List ℕ)) (fs : List FileTree) (E : Environment) → AreFiles ss fs → IsPackage fs E → AreMeant fs fs
 
-pub themselves : HaveDefaultForms → WritesSpelled → HaveNoConditions → StayChosen → Stay → StandForThemselves
-themselves law writes free stay_chosen stay ss fs E spelled one_package =
+pub themselves : HaveDefaultForms → WritesSpelled → HaveNoNames → StayNamed → HaveNoConditions → StayChosen → Stay → StandForThemselves
+themselves law writes nameless stay_named free stay_chosen stay ss fs E spelled one_package =
     let forms = spelled_default law ss fs spelled in
-    let written = all_spelled writes profiles.Default ss fs spelled in
+    let written = all_spelled writes ss fs spelled in
     let low = spelled_low profiles.Default ss fs spelled in
     record {
+      named = fs;
+      are_named = stay_named fs (nameless fs written);
       chosen = fs;
       are_chosen = stay_chosen fs (free fs forms);
       joined = fs;

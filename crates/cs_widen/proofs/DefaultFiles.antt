@@ -9,7 +9,7 @@ use Rattle.cs_grammar.specs.Limits.{most_height}
 use Rattle.cs_grammar.specs.Written.{Place, by_itself, of_bar, of_amp, IsWritten, AreWritten, AreWrittenFields, IsWrittenEnd, IsWrittenFile}
 use Rattle.cs_grammar.specs.declared.ast.FieldMark.{FieldMark}
 use Rattle.cs_grammar.specs.declared.ast.FieldMark.TheVariants.{Regular, Optional, Required, Every}
-use Rattle.cs_grammar.specs.Tree.{Tree, atom, named, reference, conjunction, disjunction, paren, struct, list, wide, Trees, none, more, Fields, no_field, field, End, closed, any, each, body, definitions, DefinitionTree, definition, FileTree, file}
+use Rattle.cs_grammar.specs.Tree.{Tree, atom, named, reference, conjunction, disjunction, paren, struct, list, wide, Trees, none, more, Fields, no_field, field, End, closed, any, each, body, definitions, DefinitionTree, definition, FileTree, file, names}
 use Rattle.cs_package.specs.Environment.{Environment}
 use Rattle.cs_resolve.specs.Opening.{joined, conjunctions, conjunctions_all, conjunctions_fields, conjunctions_end, named_fields, named_bodies, values_of_each, KeepsRule}
 use Rattle.cs_resolve.specs.Refinement.{Refinements, IsRefinement}
@@ -153,22 +153,26 @@ module _ (ds : List DefinitionTree) where
     inside es = flat_map (λ d. conjunctions rs (body d)) es
 
     -- the conjunctions of files, one definition after the other
-    kept_definitions : (es rest : List DefinitionTree) → IsDefaultFile (file None es) → IsWrittenFile (file None es) → AllByRecursion KeepsRule (inside (es ++ rest))
+    kept_definitions : (es rest : List DefinitionTree) → IsDefaultFile (file None es []) → IsWrittenFile (file None es []) → AllByRecursion KeepsRule (inside (es ++ rest))
         → AllByRecursion IsKeptBody es × AllByRecursion KeepsRule (inside rest)
     kept_definitions [] rest d w h = (tt, h)
     kept_definitions (definition s o e ∷ es) rest d w h =
         let parts = both KeepsRule (conjunctions rs e) (inside (es ++ rest)) h in
-        let later = kept_definitions es rest d.1 (tt, w.1.1) parts.1 in
+        let later = kept_definitions es rest d.1 (tt, w.1.1, refl) parts.1 in
         ((kept by_itself e d.0 w.1.0.1 parts.0, later.0), later.1)
 
     kept_files : (fs : List FileTree) → AllByRecursion IsDefaultFile fs → AllByRecursion IsWrittenFile fs → AllByRecursion KeepsRule (inside (all_definitions fs))
         → AllByRecursion IsKeptFile fs
     kept_files [] d w h = tt
-    kept_files (file p es ∷ fs) d w h =
-        let parts = kept_definitions es (all_definitions fs) d.0 (tt, w.0.1) h in
+    kept_files (file p es ns ∷ fs) d w h =
+        let parts = kept_definitions es (all_definitions fs) d.0 (tt, w.0.1, refl) h in
         (parts.0, kept_files fs d.1 w.1 parts.1)
 
 -- ---- such files stand for themselves
+
+-- a file declares definitions alone
+abbrev HasNoNames : FileTree → Type 0
+HasNoNames f = names f ≡ []
 
 module _ (ds : List DefinitionTree) where
   apart_parts : (xs ys : List DefinitionTree) → AreApart ds (map as_declared ds) (map as_declared (xs ++ ys))
@@ -302,16 +306,17 @@ module _ (ds : List DefinitionTree) where
       let behind : height_definitions es ≤ most_height = omega arith in
       ap₂ (λ d gs. definition s o d ∷ gs) (value_stays (suc most_height) e h.0 here) (definitions_stay es h.1 behind)
 
-  files_stay : (before : List Brought) (fs : List FileTree) → AllByRecursion (IsKeptFile ds) fs → AreApart ds (map as_declared ds) (map as_declared (all_definitions fs))
+  files_stay : (before : List Brought) (fs : List FileTree) → AllByRecursion HasNoNames fs → AllByRecursion (IsKeptFile ds) fs → AreApart ds (map as_declared ds) (map as_declared (all_definitions fs))
       → height_definitions (all_definitions fs) ≤ most_height → map (joined_left ds) (left_behind ds before fs) ≡ fs
-  files_stay before [] h a low = refl
-  files_stay before (file p es ∷ fs) h a low =
+  files_stay before [] u h a low = refl
+  files_stay before (file p es ns ∷ fs) u h a low =
       let parts = low_parts es (all_definitions fs) most_height low in
       let apart = apart_parts es (all_definitions fs) a in
       let here = map as_declared es in
-      ap₂ (λ gs hs. file p gs ∷ hs)
+      ap₂ (λ gs hs. file p gs [] ∷ hs)
       (ap (map (joined_body ds)) (bodies_left ds here before es apart.0) ∙ definitions_stay es h.0 parts.0)
-      (files_stay (before ++ here) fs h.1 apart.1 parts.1)
+      (files_stay (before ++ here) fs u.1 h.1 apart.1 parts.1)
+      ∙ ap (λ ms. file p es ms ∷ fs) (sym u.0)
 
   no_body_clashes : (es : List DefinitionTree) → AllByRecursion (IsKeptBody ds) es → flat_map (body_clashes ds) (map (alone ds) es) ≡ []
   no_body_clashes [] h = refl
@@ -321,7 +326,7 @@ module _ (ds : List DefinitionTree) where
   no_clashes_from : (i : ℕ) (before : List Brought) (fs : List FileTree) → AllByRecursion (IsKeptFile ds) fs
       → AreApart ds (map as_declared ds) (map as_declared (all_definitions fs)) → clashes_from ds i (left_behind ds before fs) ≡ []
   no_clashes_from i before [] h a = refl
-  no_clashes_from i before (file p es ∷ fs) h a =
+  no_clashes_from i before (file p es ns ∷ fs) h a =
       let apart = apart_parts es (all_definitions fs) a in
       let here = map as_declared es in
       none_of_both (map (λ o. (i, o)) (flat_map (body_clashes ds) (bodies_behind ds here before here))) (clashes_from ds (suc i) (left_behind ds (before ++ here) fs))
@@ -339,15 +344,20 @@ module _ (all : List DefinitionTree) {A : Type 0} (found : Tree → List A) (now
       none_of_both (map (λ x. (i, x)) (flat_map (λ d. found (body d)) (definitions f))) (found_from found (suc i) fs)
       (ap (map {B = ℕ × A} (λ x. (i, x))) (none_in (definitions f) h.0)) (none_from (suc i) fs h.1)
 
-files_stand : (fs : List FileTree) → let ds = all_definitions fs in AllByRecursion (IsKeptFile ds) fs → AreApart ds (map as_declared ds) (map as_declared ds)
+files_stand : (fs : List FileTree) → let ds = all_definitions fs in AllByRecursion HasNoNames fs → AllByRecursion (IsKeptFile ds) fs → AreApart ds (map as_declared ds) (map as_declared ds)
     → height_definitions ds ≤ most_height → IsJoined fs fs
-files_stand fs h a low =
+files_stand fs u h a low =
     let ds = all_definitions fs in
     record {
       flawless = none_from ds (flaws ds) (no_flaw ds) 0 fs h;
       apart = no_clashes_from ds 0 [] fs h a;
-      joined = sym (files_stay ds [] fs h a low);
+      joined = sym (files_stay ds [] fs u h a low);
     }
+
+-- what can be written down has no names but definitions
+all_nameless : (fs : List FileTree) → AllByRecursion IsWrittenFile fs → AllByRecursion HasNoNames fs
+all_nameless [] w = tt
+all_nameless (file p es ns ∷ fs) w = (w.0.2, all_nameless fs w.1)
 
 -- a package of files that can be written down, without forms of the wide profile, and whose bodies aren't too high
 pub package_stands : (fs : List FileTree) (E : Environment) → AllByRecursion IsDefaultFile fs → AllByRecursion IsWrittenFile fs
@@ -356,4 +366,4 @@ package_stands fs E d w low h =
     let ds = all_definitions fs in
     let rs = h.refinements in
     let ruled = both KeepsRule (values_of_each (named_bodies ds)) (inside ds rs (λ es r. (h.are_refinements es).0 r) ds) h.opened in
-    files_stand fs (kept_files ds rs (λ es r. (h.are_refinements es).0 r) fs d w ruled.1) (no_bodies_gathered fs d w ruled.0) low
+    files_stand fs (all_nameless fs w) (kept_files ds rs (λ es r. (h.are_refinements es).0 r) fs d w ruled.1) (no_bodies_gathered fs d w ruled.0) low

@@ -349,22 +349,22 @@ module _ (s : List ℕ) where
   bodies_named ds = values (one s) (named_bodies ds)
 
   -- the bodies of a name are among those of which the rule speaks
-  bodies_among : (es : List DefinitionTree) → IsDefaultFile (file None es) → IsWrittenFile (file None es)
+  bodies_among : (es : List DefinitionTree) → IsDefaultFile (file None es []) → IsWrittenFile (file None es [])
       → AreAmong (values_of (those_of s (map as_declared es))) (bodies_named es)
   bodies_among [] d w = record { default = tt; written = tt; fewer = omega arith; opened = λ o. o }
   bodies_among (definition t o e ∷ es) d w =
-      here s _ _ _ _ d.0 w.1.0.1 refl (bodies_among es d.1 (tt, w.1.1)) (is_plain e) (bytes_eq t s)
+      here s _ _ _ _ d.0 w.1.0.1 refl (bodies_among es d.1 (tt, w.1.1, refl)) (is_plain e) (bytes_eq t s)
 
 -- those of all files
-default_together : (fs : List FileTree) → AllByRecursion IsDefaultFile fs → IsDefaultFile (file None (all_definitions fs))
+default_together : (fs : List FileTree) → AllByRecursion IsDefaultFile fs → IsDefaultFile (file None (all_definitions fs) [])
 default_together [] d = tt
-default_together (file p es ∷ fs) d = together (λ (x : DefinitionTree). IsDefault (body x)) es (all_definitions fs) d.0 (default_together fs d.1)
+default_together (file p es ns ∷ fs) d = together (λ (x : DefinitionTree). IsDefault (body x)) es (all_definitions fs) d.0 (default_together fs d.1)
 
-written_together : (fs : List FileTree) → AllByRecursion IsWrittenFile fs → IsWrittenFile (file None (all_definitions fs))
-written_together [] w = (tt, tt)
-written_together (file p es ∷ fs) w = (tt, together IsWrittenDefinition es (all_definitions fs) w.0.1 (written_together fs w.1).1)
+written_together : (fs : List FileTree) → AllByRecursion IsWrittenFile fs → IsWrittenFile (file None (all_definitions fs) [])
+written_together [] w = (tt, tt, refl)
+written_together (file p es ns ∷ fs) w = (tt, together IsWrittenDefinition es (all_definitions fs) w.0.1 (written_together fs w.1).1, refl)
 
-module _ (ds : List DefinitionTree) (d : IsDefaultFile (file None ds)) (w : IsWrittenFile (file None ds)) where
+module _ (ds : List DefinitionTree) (d : IsDefaultFile (file None ds [])) (w : IsWrittenFile (file None ds [])) where
   name_apart : (s : List ℕ) → KeepsRule (bodies_named s ds) → gathers ds (those_of s (map as_declared ds)) ≡ false
   name_apart s k =
       let among = bodies_among s ds d w in

@@ -10,13 +10,18 @@ mod Default
 mod Refusals
 mod Judged
 pub mod Judgements
--- a literal with defaults, one with embeddings and one without, operands that are plain, and fields that conditions ask for, read as they are written
+-- a literal with defaults, one with embeddings and one without, operands that are plain, fields that conditions ask for, and a literal under conditions, read
+-- as they are written
 mod Direct
 mod AskedLiterals
 mod Asked
 mod GatheredKeys
 mod Embedding
 mod PlainOperands
+mod AlternativeSteps
+mod Alongside
+mod OneMore
+mod Conditional
 -- offsets change nothing of trees, of closed bases, of which names are at fault, of the opening rule, and so of packages
 mod UnplacedTrees
 mod UnplacedBases

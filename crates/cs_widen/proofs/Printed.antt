@@ -4,15 +4,17 @@ use Rattle.std.specs.List.{AllByRecursion, flat_map}
 use Rattle.cs_grammar.specs.declared.profile.Profile.{Profile}
 use Rattle.cs_grammar.specs.declared.profile.Profile.TheVariants as profiles
 use Rattle.cs_grammar.specs.DefaultForms.{IsDefaultFile}
-use Rattle.cs_grammar.specs.Height.{height_definitions, file_height}
+use Rattle.cs_grammar.specs.Height.{height_definitions}
 use Rattle.cs_grammar.specs.Limits.{most_height}
 use Rattle.cs_grammar.specs.Source.{IsSpelledBy, IsSpelledByIn}
 use Rattle.cs_grammar.specs.Tree.{DefinitionTree, FileTree, definitions}
+use Rattle.cs_grammar.specs.Namable.{IsNamableFile}
 use Rattle.cs_grammar.specs.Written.{IsWrittenFile}
 use Rattle.cs_conditions.specs.Conditions.{AreChosen}
 use Rattle.cs_defaults.specs.Unmarked.{unmarked_file}
 use Rattle.cs_defaults.specs.Widened.{IsUnmarked, handing_on}
 use Rattle.cs_embeddings.specs.Without.{IsJoined, IsWithin}
+use Rattle.cs_names.specs.Names.{AreNamed}
 use Rattle.cs_print.specs.Printed.{IsPrinted, IsReadAs}
 use Rattle.cs_tool.specs.Accepted.{AreFiles}
 use Rattle.cs_tool.specs.FilesIn.{AreFilesIn}
@@ -37,10 +39,10 @@ pub spelled_low : (p : Profile) (ss : List (List ℕ)) (fs : List FileTree) → 
 spelled_low p [] [] h = omega arith
 spelled_low p [] (f ∷ fs) h = absurd h
 spelled_low p (s ∷ ss) [] h = absurd h
-spelled_low p (s ∷ ss) (f ∷ fs) h = low_append (definitions f) (flat_map definitions fs) most_height h.0.low (spelled_low p ss fs h.1)
+spelled_low p (s ∷ ss) (f ∷ fs) h = let low = h.0.low in low_append (definitions f) (flat_map definitions fs) most_height (omega arith) (spelled_low p ss fs h.1)
 
 abbrev pub AreNoHigher : Type 0
-AreNoHigher = (has : List ℕ → Bool) (f : FileTree) → file_height (unmarked_file has f) ≤ file_height f
+AreNoHigher = (has : List ℕ → Bool) (f : FileTree) → height_definitions (definitions (unmarked_file has f)) ≤ height_definitions (definitions f)
 
 -- files without their marks are low where they were
 unmarked_low : AreNoHigher → (has : List ℕ → Bool) (fs : List FileTree) → height_definitions (flat_map definitions fs) ≤ most_height
@@ -48,13 +50,20 @@ unmarked_low : AreNoHigher → (has : List ℕ → Bool) (fs : List FileTree) �
 unmarked_low law has [] h = h
 unmarked_low law has (f ∷ fs) h =
     let parts = low_parts (definitions f) (flat_map definitions fs) most_height h in
-    let here : file_height (unmarked_file has f) ≤ most_height = omega (arith, law has f, parts.0) in
+    let here : height_definitions (definitions (unmarked_file has f)) ≤ most_height = omega (arith, law has f, parts.0) in
     low_append (definitions (unmarked_file has f)) (flat_map definitions (map (unmarked_file has) fs)) most_height here (unmarked_low law has fs parts.1)
 
 -- ---- what is spelled can be written down
 
 abbrev pub WritesSpelled : Type 0
-WritesSpelled = (p : Profile) (source : List ℕ) (f : FileTree) → IsSpelledByIn p source f → IsWrittenFile f
+WritesSpelled = (source : List ℕ) (f : FileTree) → IsSpelledBy source f → IsWrittenFile f
+
+-- in every profile, if they are without names
+abbrev pub SpellsNamable : Type 0
+SpellsNamable = (p : Profile) (source : List ℕ) (f : FileTree) → IsSpelledByIn p source f → IsNamableFile f
+
+abbrev pub WritesNamed : Type 0
+WritesNamed = (fs gs : List FileTree) → AreNamed fs gs → AllByRecursion IsNamableFile fs → AllByRecursion IsWrittenFile gs
 
 abbrev pub WritesChosen : Type 0
 WritesChosen = (fs gs : List FileTree) → AreChosen fs gs → AllByRecursion IsWrittenFile fs → AllByRecursion IsWrittenFile gs
@@ -65,13 +74,21 @@ WritesJoined = (fs gs : List FileTree) → AllByRecursion IsWrittenFile fs → I
 abbrev pub WritesUnmarked : Type 0
 WritesUnmarked = (has : List ℕ → Bool) (f : FileTree) → IsWrittenFile f → IsWrittenFile (unmarked_file has f)
 
-pub all_spelled : WritesSpelled → (p : Profile) (ss : List (List ℕ)) (fs : List FileTree) → AreFilesIn p ss fs → AllByRecursion IsWrittenFile fs
-all_spelled law p [] [] h = tt
-all_spelled law p [] (f ∷ fs) h = absurd h
-all_spelled law p (s ∷ ss) [] h = absurd h
-all_spelled law p (s ∷ ss) (f ∷ fs) h =
+pub all_spelled : WritesSpelled → (ss : List (List ℕ)) (fs : List FileTree) → AreFiles ss fs → AllByRecursion IsWrittenFile fs
+all_spelled law [] [] h = tt
+all_spelled law [] (f ∷ fs) h = absurd h
+all_spelled law (s ∷ ss) [] h = absurd h
+all_spelled law (s ∷ ss) (f ∷ fs) h =
+    let spelled : IsSpelledBy s f = record { tokens = h.0.tokens; cut = h.0.cut; spelled = h.0.spelled } in
+    (law s f spelled, all_spelled law ss fs h.1)
+
+all_namable : SpellsNamable → (p : Profile) (ss : List (List ℕ)) (fs : List FileTree) → AreFilesIn p ss fs → AllByRecursion IsNamableFile fs
+all_namable law p [] [] h = tt
+all_namable law p [] (f ∷ fs) h = absurd h
+all_namable law p (s ∷ ss) [] h = absurd h
+all_namable law p (s ∷ ss) (f ∷ fs) h =
     let spelled : IsSpelledByIn p s f = record { tokens = h.0.tokens; cut = h.0.cut; spelled = h.0.spelled } in
-    (law p s f spelled, all_spelled law p ss fs h.1)
+    (law p s f spelled, all_namable law p ss fs h.1)
 
 all_unmarked : WritesUnmarked → (has : List ℕ → Bool) (fs : List FileTree) → AllByRecursion IsWrittenFile fs → AllByRecursion IsWrittenFile (map (unmarked_file has) fs)
 all_unmarked law has [] h = tt
@@ -100,8 +117,10 @@ AreRead = (source : List ℕ) (fs : List FileTree) → IsPrinted source fs → h
 
 -- ---- what the files of sources stand for
 
-pub are_meant : (fs cs js gs : List FileTree) → AreChosen fs cs → IsJoined cs js → IsWithin js → IsUnmarked js gs → AreMeant fs gs
-are_meant fs cs js gs chosen joined within unmarked = record {
+pub are_meant : (fs ns cs js gs : List FileTree) → AreNamed fs ns → AreChosen ns cs → IsJoined cs js → IsWithin js → IsUnmarked js gs → AreMeant fs gs
+are_meant fs ns cs js gs named chosen joined within unmarked = record {
+  named = ns;
+  are_named = named;
   chosen = cs;
   are_chosen = chosen;
   joined = js;
@@ -114,10 +133,11 @@ module _ (fs gs : List FileTree) (stand_for : AreMeant fs gs) where
   abbrev has : List ℕ → Bool
   has = handing_on stand_for.joined
 
-  wide_written : (ss : List (List ℕ)) → AreFilesIn profiles.Wide ss fs → WritesSpelled → WritesChosen → WritesJoined → WritesUnmarked
+  wide_written : (ss : List (List ℕ)) → AreFilesIn profiles.Wide ss fs → SpellsNamable → WritesNamed → WritesChosen → WritesJoined → WritesUnmarked
       → AllByRecursion IsWrittenFile gs
-  wide_written ss spelled law chooses joins keeps =
-      let chosen = chooses fs stand_for.chosen stand_for.are_chosen (all_spelled law profiles.Wide ss fs spelled) in
+  wide_written ss spelled law names chooses joins keeps =
+      let named = names fs stand_for.named stand_for.are_named (all_namable law profiles.Wide ss fs spelled) in
+      let chosen = chooses stand_for.named stand_for.chosen stand_for.are_chosen named in
       let written = joins stand_for.chosen stand_for.joined chosen stand_for.are_joined in
       subst (λ hs. AllByRecursion IsWrittenFile hs) (sym stand_for.unmarked.unmarked) (all_unmarked keeps has stand_for.joined written)
 
@@ -131,11 +151,11 @@ module _ (fs gs : List FileTree) (stand_for : AreMeant fs gs) where
 
 -- the same in a profile: those of the default one are what is spelled
 module _ (fs gs : List FileTree) where
-  pub meant_written : (p : Profile) (ss : List (List ℕ)) → AreFilesIn p ss fs → AreMeantIn p fs gs → WritesSpelled → WritesChosen → WritesJoined
-      → WritesUnmarked → AllByRecursion IsWrittenFile gs
-  meant_written profiles.Default ss spelled same law chooses joins keeps =
-      subst (λ hs. AllByRecursion IsWrittenFile hs) (sym same) (all_spelled law profiles.Default ss fs spelled)
-  meant_written profiles.Wide ss spelled stand_for law chooses joins keeps = wide_written fs gs stand_for ss spelled law chooses joins keeps
+  pub meant_written : (p : Profile) (ss : List (List ℕ)) → AreFilesIn p ss fs → AreMeantIn p fs gs → WritesSpelled → SpellsNamable → WritesNamed
+      → WritesChosen → WritesJoined → WritesUnmarked → AllByRecursion IsWrittenFile gs
+  meant_written profiles.Default ss spelled same law wide names chooses joins keeps =
+      subst (λ hs. AllByRecursion IsWrittenFile hs) (sym same) (all_spelled law ss fs spelled)
+  meant_written profiles.Wide ss spelled stand_for law wide names chooses joins keeps = wide_written fs gs stand_for ss spelled wide names chooses joins keeps
 
   pub meant_default : (p : Profile) (ss : List (List ℕ)) → AreFilesIn p ss fs → AreMeantIn p fs gs → HaveDefaultForms → HaveNoMarks
       → AllByRecursion IsDefaultFile gs

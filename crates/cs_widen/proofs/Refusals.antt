@@ -22,13 +22,17 @@ use Rattle.cs_embeddings.specs.Without as embeddings
 use Rattle.cs_embeddings.specs.Without.{IsJoined}
 use Rattle.cs_embeddings.specs.declared.fault.EmbeddingFault.{EmbeddingFault}
 use Rattle.cs_embeddings.specs.declared.fault.EmbeddingFault.TheVariants as joins
+use Rattle.cs_names.specs.Names as named
+use Rattle.cs_names.specs.Names.{AreNamed}
+use Rattle.cs_names.specs.declared.fault.NameFault.{NameFault}
+use Rattle.cs_names.specs.declared.fault.NameFault.TheVariants as scopes
 use Rattle.cs_tool.specs.Accepted.{AreTexts}
 use Rattle.cs_tool.specs.FilesIn.{AreFilesIn}
 use Rattle.cs_tool.specs.Conversions.{of_resolve, of_guard}
 use Rattle.cs_tool.specs.First.{SpellingRefusal}
 use Rattle.cs_tool.specs.declared.fault.Fault.{Fault}
 use Rattle.cs_tool.specs.declared.fault.Fault.TheVariants.{SourcesTooLong, NotUtf8, NoToken, Syntax, LeftOut, IntegerRange, TooHigh, OutOfMemory}
-use Rattle.cs_widen.specs.Refused.{of_condition, of_embedding, of_mark, IsConditionRefusal, IsEmbeddingRefusal, IsMarkRefusal, IsNoPackageIn, IsUnguardedIn, RefusalIn}
+use Rattle.cs_widen.specs.Refused.{of_name, of_condition, of_embedding, of_mark, IsNameRefusal, IsConditionRefusal, IsEmbeddingRefusal, IsMarkRefusal, IsNoPackageIn, IsUnguardedIn, RefusalIn}
 use Rattle.cs_widen.specs.Stands.{AreMeantBy}
 
 pub by_spelling : (p : Profile) (ss : List (List ℕ)) (e : Fault) → SpellingRefusal p ss e → RefusalIn p ss e
@@ -44,46 +48,70 @@ by_spelling p ss _ h = absurd h
 
 -- the sources spell these files in the wide profile
 module _ (ss : List (List ℕ)) (texts : AreTexts ss) (fs : List FileTree) (spelled : AreFilesIn profiles.Wide ss fs) where
-  condition_refusal : (f : ConditionFault) → conditions.IsRefusal f fs → IsConditionRefusal ss (of_condition f)
-  condition_refusal f h = record { texts = texts; files = fs; spelled = spelled; fault = f; refused = h; told = refl }
+  name_refusal : (f : NameFault) → named.IsRefusal f fs → IsNameRefusal ss (of_name f)
+  name_refusal f h = record { texts = texts; files = fs; spelled = spelled; fault = f; refused = h; told = refl }
 
-  pub by_condition : (f : ConditionFault) → conditions.IsRefusal f fs → RefusalIn profiles.Wide ss (of_condition f)
-  by_condition choices.OutOfMemory h = tt
-  by_condition (choices.LeftOut i o) h = inr (inl (condition_refusal (choices.LeftOut i o) h))
-  by_condition (choices.MayBeAbsent i o) h = inl (condition_refusal (choices.MayBeAbsent i o) h)
+  pub by_name : (f : NameFault) → named.IsRefusal f fs → RefusalIn profiles.Wide ss (of_name f)
+  by_name scopes.OutOfMemory h = tt
+  by_name (scopes.LeftOut i o) h = inr (inl (name_refusal (scopes.LeftOut i o) h))
+  by_name (scopes.UnknownName i o) h = inl (inl (name_refusal (scopes.UnknownName i o) h))
+  by_name (scopes.Redeclared i o) h = inl (inl (name_refusal (scopes.Redeclared i o) h))
 
-  -- they are these without conditions
-  module _ (cs : List FileTree) (chosen : AreChosen fs cs) where
-    embedding_refusal : (f : EmbeddingFault) → embeddings.IsRefusal f cs → IsEmbeddingRefusal ss (of_embedding f)
-    embedding_refusal f h = record { texts = texts; files = fs; spelled = spelled; chosen = cs; are_chosen = chosen; fault = f; refused = h; told = refl }
+  -- they are these without names
+  module _ (ns : List FileTree) (are_named : AreNamed fs ns) where
+    condition_refusal : (f : ConditionFault) → conditions.IsRefusal f ns → IsConditionRefusal ss (of_condition f)
+    condition_refusal f h = record { texts = texts; files = fs; spelled = spelled; named = ns; are_named = are_named; fault = f; refused = h; told = refl }
 
-    pub by_embedding : (f : EmbeddingFault) → embeddings.IsRefusal f cs → RefusalIn profiles.Wide ss (of_embedding f)
-    by_embedding joins.OutOfMemory h = tt
-    by_embedding (joins.UnknownName i o) h = inl (embedding_refusal (joins.UnknownName i o) h)
-    by_embedding (joins.NoStruct i o) h = inl (embedding_refusal (joins.NoStruct i o) h)
-    by_embedding (joins.Reopened i o) h = inl (embedding_refusal (joins.Reopened i o) h)
-    by_embedding (joins.TooHigh i) h = inr (embedding_refusal (joins.TooHigh i) h)
-    by_embedding joins.TooLarge h = inl (embedding_refusal joins.TooLarge h)
+    pub by_condition : (f : ConditionFault) → conditions.IsRefusal f ns → RefusalIn profiles.Wide ss (of_condition f)
+    by_condition choices.OutOfMemory h = tt
+    by_condition (choices.LeftOut i o) h = inr (inr (inl (condition_refusal (choices.LeftOut i o) h)))
+    by_condition (choices.MayBeAbsent i o) h = inl (condition_refusal (choices.MayBeAbsent i o) h)
 
-    -- these have no flaw, and are these without embeddings
-    module _ (js : List FileTree) (joined : IsJoined cs js) where
-      mark_refusal : (f : DefaultFault) → defaults.IsRefusal f js → IsMarkRefusal ss (of_mark f)
-      mark_refusal f h = record {
+    -- these are these without conditions
+    module _ (cs : List FileTree) (chosen : AreChosen ns cs) where
+      embedding_refusal : (f : EmbeddingFault) → embeddings.IsRefusal f cs → IsEmbeddingRefusal ss (of_embedding f)
+      embedding_refusal f h = record {
         texts = texts;
         files = fs;
         spelled = spelled;
+        named = ns;
+        are_named = are_named;
         chosen = cs;
         are_chosen = chosen;
-        joined = js;
-        are_joined = joined;
         fault = f;
         refused = h;
         told = refl;
       }
 
-      pub by_mark : (f : DefaultFault) → defaults.IsRefusal f js → RefusalIn profiles.Wide ss (of_mark f)
-      by_mark marks.OutOfMemory h = tt
-      by_mark (marks.Mark i o) h = inr (inr (mark_refusal (marks.Mark i o) h))
+      pub by_embedding : (f : EmbeddingFault) → embeddings.IsRefusal f cs → RefusalIn profiles.Wide ss (of_embedding f)
+      by_embedding joins.OutOfMemory h = tt
+      by_embedding (joins.UnknownName i o) h = inl (inr (embedding_refusal (joins.UnknownName i o) h))
+      by_embedding (joins.NoStruct i o) h = inl (inr (embedding_refusal (joins.NoStruct i o) h))
+      by_embedding (joins.Reopened i o) h = inl (inr (embedding_refusal (joins.Reopened i o) h))
+      by_embedding (joins.TooHigh i) h = inr (embedding_refusal (joins.TooHigh i) h)
+      by_embedding joins.TooLarge h = inl (embedding_refusal joins.TooLarge h)
+
+      -- these have no flaw, and are these without embeddings
+      module _ (js : List FileTree) (joined : IsJoined cs js) where
+        mark_refusal : (f : DefaultFault) → defaults.IsRefusal f js → IsMarkRefusal ss (of_mark f)
+        mark_refusal f h = record {
+          texts = texts;
+          files = fs;
+          spelled = spelled;
+          named = ns;
+          are_named = are_named;
+          chosen = cs;
+          are_chosen = chosen;
+          joined = js;
+          are_joined = joined;
+          fault = f;
+          refused = h;
+          told = refl;
+        }
+
+        pub by_mark : (f : DefaultFault) → defaults.IsRefusal f js → RefusalIn profiles.Wide ss (of_mark f)
+        by_mark marks.OutOfMemory h = tt
+        by_mark (marks.Mark i o) h = inr (inr (inr (mark_refusal (marks.Mark i o) h)))
 
 -- the sources spell files, which stand for these
 module _ (p : Profile) (ss : List (List ℕ)) (gs : List FileTree) (meant : AreMeantBy p ss gs) where

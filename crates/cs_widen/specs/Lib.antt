@@ -7,4 +7,5 @@ pub mod Calls
 pub mod Direct
 pub mod Asked
 pub mod Embedding
+pub mod Conditional
 pub mod Schemas

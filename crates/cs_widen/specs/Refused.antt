@@ -20,6 +20,10 @@ use Rattle.cs_embeddings.specs.Without as embeddings
 use Rattle.cs_embeddings.specs.Without.{IsJoined}
 use Rattle.cs_embeddings.specs.declared.fault.EmbeddingFault.{EmbeddingFault}
 use Rattle.cs_embeddings.specs.declared.fault.EmbeddingFault.TheVariants as joins
+use Rattle.cs_names.specs.Names as names
+use Rattle.cs_names.specs.Names.{AreNamed}
+use Rattle.cs_names.specs.declared.fault.NameFault.{NameFault}
+use Rattle.cs_names.specs.declared.fault.NameFault.TheVariants as scopes
 use Rattle.cs_tool.specs.Accepted.{most_bytes, AreTexts}
 use Rattle.cs_tool.specs.FilesIn.{AreFilesIn}
 use Rattle.cs_tool.specs.Conversions.{of_resolve, of_guard}
@@ -28,6 +32,14 @@ use Rattle.cs_tool.specs.declared.fault.Fault.{Fault}
 use Rattle.cs_tool.specs.declared.fault.Fault.TheVariants.{SourcesTooLong, NotUtf8, NoToken, Syntax, LeftOut, IntegerRange, TooHigh, PackageName, UnknownName, FieldReference, NotOpened, Cycle, TooLarge, OutOfMemory, ChainTooLong}
 use Rattle.cs_widen.specs.Meant.{IsMeantIn}
 use Rattle.cs_widen.specs.Stands.{AreMeantIn}
+
+-- a selector is a form that is left out; a name that nothing declares is unknown, and so is one that is bound and not named; and a name that two
+-- literals declare isn't opened where files join literals
+abbrev pub of_name : NameFault → Fault
+of_name scopes.OutOfMemory = OutOfMemory
+of_name (scopes.LeftOut file offset) = LeftOut file offset
+of_name (scopes.UnknownName file offset) = UnknownName file offset
+of_name (scopes.Redeclared file offset) = NotOpened file offset
 
 -- a condition that isn't taken is a form that is left out, and a field that may be absent where it is asked about is one that a name depends on
 abbrev pub of_condition : ConditionFault → Fault
@@ -49,22 +61,35 @@ abbrev pub of_mark : DefaultFault → Fault
 of_mark marks.OutOfMemory = OutOfMemory
 of_mark (marks.Mark file offset) = LeftOut file offset
 
--- the sources spell files in the wide profile, and that is why these don't stand for files without conditions
+-- the sources spell files in the wide profile, and that is why these don't stand for files without names
+pub record IsNameRefusal (sources : List (List ℕ)) (f : Fault) : Type 0 where
+  pub texts : AreTexts sources
+  pub files : List FileTree
+  pub spelled : AreFilesIn profiles.Wide sources files
+  pub fault : NameFault
+  pub refused : names.IsRefusal fault files
+  pub told : f ≡ of_name fault
+
+-- they stand for files without names, and that is why these don't stand for files without conditions
 pub record IsConditionRefusal (sources : List (List ℕ)) (f : Fault) : Type 0 where
   pub texts : AreTexts sources
   pub files : List FileTree
   pub spelled : AreFilesIn profiles.Wide sources files
+  pub named : List FileTree
+  pub are_named : AreNamed files named
   pub fault : ConditionFault
-  pub refused : conditions.IsRefusal fault files
+  pub refused : conditions.IsRefusal fault named
   pub told : f ≡ of_condition fault
 
--- they stand for files without conditions, and that is why these don't stand for files without embeddings
+-- these stand for files without conditions, and that is why these don't stand for files without embeddings
 pub record IsEmbeddingRefusal (sources : List (List ℕ)) (f : Fault) : Type 0 where
   pub texts : AreTexts sources
   pub files : List FileTree
   pub spelled : AreFilesIn profiles.Wide sources files
+  pub named : List FileTree
+  pub are_named : AreNamed files named
   pub chosen : List FileTree
-  pub are_chosen : AreChosen files chosen
+  pub are_chosen : AreChosen named chosen
   pub fault : EmbeddingFault
   pub refused : embeddings.IsRefusal fault chosen
   pub told : f ≡ of_embedding fault
@@ -74,8 +99,10 @@ pub record IsMarkRefusal (sources : List (List ℕ)) (f : Fault) : Type 0 where
   pub texts : AreTexts sources
   pub files : List FileTree
   pub spelled : AreFilesIn profiles.Wide sources files
+  pub named : List FileTree
+  pub are_named : AreNamed files named
   pub chosen : List FileTree
-  pub are_chosen : AreChosen files chosen
+  pub are_chosen : AreChosen named chosen
   pub joined : List FileTree
   pub are_joined : IsJoined chosen joined
   pub fault : DefaultFault
@@ -121,13 +148,18 @@ RefusalIn p sources (Syntax number offset) = SpellingRefusal p sources (Syntax n
 RefusalIn p sources (IntegerRange number offset) = SpellingRefusal p sources (IntegerRange number offset)
 RefusalIn p sources (TooHigh number) = SpellingRefusal p sources (TooHigh number) ⊎ OfWide p (IsEmbeddingRefusal sources (TooHigh number))
 RefusalIn p sources (LeftOut number offset) =
-    IsMisspelledIn p sources (LeftOut number offset) ⊎ OfWide p (IsConditionRefusal sources (LeftOut number offset) ⊎ IsMarkRefusal sources (LeftOut number offset))
+    IsMisspelledIn p sources (LeftOut number offset) ⊎ OfWide p
+    (IsNameRefusal sources (LeftOut number offset) ⊎ (IsConditionRefusal sources (LeftOut number offset) ⊎ IsMarkRefusal sources (LeftOut number offset)))
 RefusalIn p sources (PackageName number) = IsNoPackageIn p sources (PackageName number)
 RefusalIn p sources (TooLarge definitions) = OfWide p (IsEmbeddingRefusal sources (TooLarge definitions)) ⊎ IsNoPackageIn p sources (TooLarge definitions)
-RefusalIn p sources (UnknownName number offset) = OfWide p (IsEmbeddingRefusal sources (UnknownName number offset)) ⊎ IsNoPackageIn p sources (UnknownName number offset)
+RefusalIn p sources (UnknownName number offset) =
+    OfWide p (IsNameRefusal sources (UnknownName number offset) ⊎ IsEmbeddingRefusal sources (UnknownName number offset))
+    ⊎ IsNoPackageIn p sources (UnknownName number offset)
 RefusalIn p sources (FieldReference number offset) =
     OfWide p (IsConditionRefusal sources (FieldReference number offset)) ⊎ IsNoPackageIn p sources (FieldReference number offset)
-RefusalIn p sources (NotOpened number offset) = OfWide p (IsEmbeddingRefusal sources (NotOpened number offset)) ⊎ IsNoPackageIn p sources (NotOpened number offset)
+RefusalIn p sources (NotOpened number offset) =
+    OfWide p (IsNameRefusal sources (NotOpened number offset) ⊎ IsEmbeddingRefusal sources (NotOpened number offset))
+    ⊎ IsNoPackageIn p sources (NotOpened number offset)
 RefusalIn p sources (Cycle names) = IsUnguardedIn p sources (Cycle names)
 RefusalIn p sources (ChainTooLong names) = IsUnguardedIn p sources (ChainTooLong names)
 RefusalIn p sources _ = ⊥

@@ -1,6 +1,6 @@
--- Which files files of a profile stand for. Those of the default profile stand for themselves. Those of the wide one have no conditions first, then
--- no embeddings, and no operands of `&` or declarations of one label that are put together, and then no marks of defaults; what the default profile
--- accepts stands for itself there too.
+-- Which files files of a profile stand for. Those of the default profile stand for themselves. Those of the wide one have no names but definitions
+-- first, then no conditions, then no embeddings, and no operands of `&` or declarations of one label that are put together, and then no marks of
+-- defaults; what the default profile accepts stands for itself there too.
 use Rattle.std.specs.Prelude.{◌≡◌, ℕ, ◌≤◌, List}
 use Rattle.std.specs.List.{flat_map}
 use Rattle.cs_grammar.specs.Height.{height_definitions}
@@ -11,13 +11,16 @@ use Rattle.cs_grammar.specs.declared.profile.Profile.TheVariants as profiles
 use Rattle.cs_conditions.specs.Conditions.{AreChosen}
 use Rattle.cs_defaults.specs.Widened.{IsUnmarked}
 use Rattle.cs_embeddings.specs.Without.{IsJoined}
+use Rattle.cs_names.specs.Names.{AreNamed}
 use Rattle.cs_tool.specs.Accepted.{AreTexts}
 use Rattle.cs_tool.specs.FilesIn.{AreFilesIn}
 
 -- the files gs are what the files fs stand for in the wide profile, and no body is too high with what it embeds
 pub record AreMeant (fs gs : List FileTree) : Type 0 where
+  pub named : List FileTree
+  pub are_named : AreNamed fs named
   pub chosen : List FileTree
-  pub are_chosen : AreChosen fs chosen
+  pub are_chosen : AreChosen named chosen
   pub joined : List FileTree
   pub are_joined : IsJoined chosen joined
   pub low : height_definitions (flat_map definitions joined) ≤ most_height

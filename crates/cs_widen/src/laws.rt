@@ -9,6 +9,7 @@ ghost use Rattle.cs_resolve.specs.Resolved.{IsPackage};
 ghost use Rattle.cs_tool.specs.Accepted.{AreFiles, IsAccepted};
 ghost use Rattle.cs_widen.specs.Accepted.{IsAcceptedIn};
 ghost use Rattle.cs_widen.specs.Asked.{AreAskedReadDirectly};
+ghost use Rattle.cs_widen.specs.Conditional.{AreConditionsReadDirectly};
 ghost use Rattle.cs_widen.specs.Direct.{AreReadDirectly};
 ghost use Rattle.cs_widen.specs.Embedding.{AreEmbeddingsReadDirectly, AreLiteralsReadDirectly, ArePlainReadDirectly, AreUnionsReadDirectly};
 ghost use Rattle.cs_widen.specs.Stands.{AreMeant};
@@ -52,15 +53,24 @@ pub fn asked_fields_are_read_directly()
     ensures { (E : Environment) (I : Rule → Document → Bool) → IsInstance E I → AreAskedReadDirectly I }
 {}
 
+/// A law: a map is an instance of what a struct literal with `if C {S}` stands for exactly where C holds of its field and it is one of what the literal
+/// stands for that embeds {S} there, or C doesn't hold of its field and it is one of what the literal stands for without it; if the field is of one of the
+/// kinds that its declarations may admit. Under several conditions all hold, or one doesn't, behind others that do.
+pub fn conditions_are_read_directly()
+    ensures { (E : Environment) (I : Rule → Document → Bool) → IsInstance E I → AreConditionsReadDirectly I }
+{}
+
 /// A law: files that sources of the default profile spell, and that are a package, stand for themselves in the wide profile.
 pub(crate) fn default_packages_are_meant()
     ensures { (sources : List (List ℕ)) (fs : List FileTree) (E : Environment)
         → AreFiles sources fs → IsPackage fs E → AreMeant fs fs }
 {
+    cs_print::spelled_files_are_written(); // for the proof: names in them are fields; `&` has two operands; by the opening rule nothing is put together
+    cs_names::written_files_have_no_names(); // for the proof: so they have no names but definitions
+    cs_names::files_without_names_stay(); // for the proof: and stand for themselves
     cs_syntax::default_files_have_default_forms(); // for the proof: nothing is embedded in them, and nothing under a condition
-    cs_conditions::default_files_have_no_conditions(); // for the proof: so they have none
+    cs_conditions::default_files_have_no_conditions(); // for the proof: they have no conditions
     cs_conditions::files_without_conditions_stay(); // for the proof: and stand for themselves
-    cs_print::spelled_files_are_written(); // for the proof: `&` has two operands; by the opening rule nothing is put together
     cs_defaults::default_files_stay(); // for the proof: and nothing is marked
 }
 

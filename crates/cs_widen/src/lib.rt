@@ -10,9 +10,9 @@ mod standing;
 pub use calls::{agree_in, export_in, vet_in};
 pub use cs_syntax::Profile;
 pub use laws::{
-    asked_fields_are_read_directly, defaults_are_read_directly, embeddings_are_read_directly,
-    literals_are_read_directly, plain_operands_are_read_directly, unions_are_read_directly,
-    wide_law,
+    asked_fields_are_read_directly, conditions_are_read_directly, defaults_are_read_directly,
+    embeddings_are_read_directly, literals_are_read_directly, plain_operands_are_read_directly,
+    unions_are_read_directly, wide_law,
 };
 pub use schema::{schema_stands_for_in, validate_in};
 pub use source::{widen, widen_in};

@@ -12,18 +12,22 @@ ghost use Rattle.cs_defaults.specs.Widened.{IsUnmarked, mark_faults};
 ghost use Rattle.cs_embeddings.specs.declared.fault.EmbeddingFault.{EmbeddingFault};
 ghost use Rattle.cs_embeddings.specs.Without as embeddings;
 ghost use Rattle.cs_embeddings.specs.Without.{IsJoined, IsWithin, flaws_of_files, clashes_of_files};
+ghost use Rattle.cs_names.specs.declared.fault.NameFault.{NameFault};
+ghost use Rattle.cs_names.specs.Names as names;
+ghost use Rattle.cs_names.specs.Names.{AreNamed, name_faults};
 ghost use Rattle.cs_tool.specs.Accepted.{IsAccepted};
 ghost use Rattle.cs_tool.specs.First.{SourcesRefusal};
 ghost use Rattle.cs_tool.specs.Given.{bytes_in};
 ghost use Rattle.cs_widen.specs.Accepted.{IsAcceptedIn};
 ghost use Rattle.cs_widen.specs.Meant.{IsMeant, IsMeantIn};
-ghost use Rattle.cs_widen.specs.Refused.{RefusalIn, of_condition, of_embedding, of_mark};
+ghost use Rattle.cs_widen.specs.Refused.{RefusalIn, of_name, of_condition, of_embedding, of_mark};
 ghost use Rattle.cs_widen.specs.Stands.{AreMeantBy};
 
 use cs_conditions::{ConditionFault, have_conditions, without_conditions};
 use cs_defaults::{DefaultFault, without_marks};
 use cs_embeddings::{EmbeddingFault, without_embeddings};
 use cs_guard::guard;
+use cs_names::{NameFault, have_names, without_names};
 use cs_print::source_of;
 use cs_resolve::resolve_written;
 use cs_syntax::{File, Profile};
@@ -47,8 +51,8 @@ pub fn widen(alloc: Global, sources: &[&[u8]]) -> Result<String, Fault>
 ///
 /// # Errors
 /// The first condition that the sources fail, as the clause `refused` says: their size and characters, then those that spell no file in
-/// the profile, the first condition of an `if` at fault, what is embedded and can't be, the first mark of a default at fault, and then why
-/// what they stand for is no package, or isn't guarded. `OutOfMemory`.
+/// the profile, the first name of a scope at fault, the first condition of an `if` at fault, what is embedded and can't be, the first mark of a
+/// default at fault, and then why what they stand for is no package, or isn't guarded. `OutOfMemory`.
 pub fn widen_in(alloc: Global, profile: Profile, sources: &[&[u8]]) -> Result<String, Fault>
     ensures found { IfOk result (λ s. IsMeantIn profile (bytes_in sources.now) (string_bytes s)) }
     ensures refused { IfErr result (λ e. RefusalIn profile (bytes_in sources.now) e) }
@@ -56,12 +60,14 @@ pub fn widen_in(alloc: Global, profile: Profile, sources: &[&[u8]]) -> Result<St
         → IsAcceptedIn profile (bytes_in sources.now) E → IsOkUnless result Fault.OutOfMemory }
 {
     let meant = files_meant_by(alloc, profile, sources)?;
-    cs_print::spelled_files_are_written(); // for the proof: what a source spells can be printed
+    cs_print::spelled_files_are_written(); // for the proof: what the default profile spells can be printed
+    cs_print::spelled_files_are_namable(); // for the proof: what a source spells can be printed but for names
     cs_print::printed_sources_are_read(); // for the proof: what is printed keeps the limits
+    cs_names::named_files_can_be_written(); // for the proof: what has no names can be printed
     cs_conditions::chosen_files_can_be_written(); // for the proof: what has no conditions can be printed
     cs_embeddings::joined_files_can_be_written(); // for the proof: what has no embeddings can be printed
     cs_defaults::unmarked_files_are_no_higher(); // for the proof: what is printed keeps the limits
-    cs_syntax::default_files_have_default_forms(); // for the proof: what the default profile spells can be printed
+    cs_syntax::default_files_have_default_forms(); // for the proof: what the default profile spells has no form of the wide one
     cs_defaults::unmarked_files_have_default_forms(); // for the proof: what is meant can be printed
     cs_defaults::unmarked_files_can_be_written(); // for the proof: what is meant can be printed
     let source = source_of(alloc, &meant)?;
@@ -70,8 +76,8 @@ pub fn widen_in(alloc: Global, profile: Profile, sources: &[&[u8]]) -> Result<St
     Ok(source)
 }
 
-/// The files that sources stand for in a profile: those that they spell, in the wide one first without conditions, then without embeddings,
-/// and then without marks of defaults.
+/// The files that sources stand for in a profile: those that they spell, in the wide one first without names but definitions, then without
+/// conditions, then without embeddings, and then without marks of defaults.
 fn files_meant_by(alloc: Global, profile: Profile, sources: &[&[u8]]) -> Result<Vec<File>, Fault>
     ensures found { IfOk result (λ v. AreMeantBy profile (bytes_in sources.now) (map file_view v.items)) }
     ensures refused { IfErr result (λ e. RefusalIn profile (bytes_in sources.now) e) }
@@ -102,12 +108,34 @@ fn wide_files(alloc: Global, sources: &[&[u8]]) -> Result<Vec<File>, Fault>
         → IsAcceptedIn profiles.Wide (bytes_in sources.now) E → IsOkUnless result Fault.OutOfMemory }
 {
     let spelled = spelled_files(alloc, Profile::Wide, sources)?;
-    let chosen = chosen_files(alloc, spelled)?;
+    let named = named_files(alloc, spelled)?;
+    let chosen = chosen_files(alloc, named)?;
     let joined = joined_files(alloc, &chosen)?;
     meant_files(alloc, &joined)
 }
 
-/// Files without conditions: those that have none as they are.
+/// Files without names but definitions: those that have none as they are.
+fn named_files(alloc: Global, spelled: Vec<File>) -> Result<Vec<File>, Fault>
+    ensures found { IfOk result (λ v. AreNamed (map file_view spelled.items) (map file_view v.items)) }
+    ensures refused { IfErr result (λ e. (f : NameFault) × (e ≡ of_name f)
+        × names.IsRefusal f (map file_view spelled.items)) }
+    ensures only { name_faults (map file_view spelled.items) ≡ []
+        → IsOkUnless result Fault.OutOfMemory }
+{
+    cs_names::files_without_names_stay(); // for the proof: they stand for themselves
+    if !have_names(&spelled) {
+        return Ok(spelled);
+    }
+    match without_names(alloc, &spelled) {
+        Ok(named) => Ok(named),
+        Err(NameFault::OutOfMemory) => Err(Fault::OutOfMemory),
+        Err(NameFault::LeftOut { file, offset }) => Err(Fault::LeftOut { file, offset }),
+        Err(NameFault::UnknownName { file, offset }) => Err(Fault::UnknownName { file, offset }),
+        Err(NameFault::Redeclared { file, offset }) => Err(Fault::NotOpened { file, offset }),
+    }
+}
+
+/// Files without conditions, that have no names but definitions: those that have none as they are.
 fn chosen_files(alloc: Global, spelled: Vec<File>) -> Result<Vec<File>, Fault>
     ensures found { IfOk result (λ v. AreChosen (map file_view spelled.items) (map file_view v.items)) }
     ensures refused { IfErr result (λ e. (f : ConditionFault) × (e ≡ of_condition f)

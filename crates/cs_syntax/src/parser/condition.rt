@@ -31,7 +31,7 @@ fn scalar_of(text: &str) -> Option<Scalar>
 }
 
 /// Whether a condition can't ask for a field of that name: it is a literal, or no operand.
-fn names_no_field(text: &str) -> bool
+pub(crate) fn names_no_field(text: &str) -> bool
     ensures { result ≡ names_no_field text.now }
 {
     match scalar_of(text) {
@@ -53,7 +53,7 @@ fn is_braced(expr: &Expr) -> bool
         | Expr::Or(_)
         | Expr::Paren(_)
         | Expr::List { .. }
-        | Expr::Wide(Wide::Marked { .. } | Wide::Shut { .. }) => false,
+        | Expr::Wide(Wide::Marked { .. } | Wide::Shut { .. } | Wide::Selected { .. }) => false,
     }
 }
 
@@ -77,7 +77,7 @@ impl Parser<'_, '_> {
     }
 
     /// Whether the next tokens make a label of the name before them: a colon, or a mark and a colon.
-    fn ends_label(&self) -> bool
+    pub(crate) fn ends_label(&self) -> bool
         ensures { result ≡ ends_label (left self.now) }
     {
         let marked = self.is_at(Kind::Question) || self.is_at(Kind::Bang);

@@ -61,6 +61,7 @@ impl Parser<'_, '_> {
             label,
             quoted,
             asked: false,
+            scoped: None,
             mark,
             value,
             site,
@@ -106,7 +107,7 @@ impl Parser<'_, '_> {
         Ok((fields, opened))
     }
 
-    /// A declaration of a literal of the wide profile: a field, an expression that is embedded, or a literal under conditions.
+    /// A declaration of a literal of the wide profile: a name, a field, an expression that is embedded, or a literal under conditions.
     #[cycle(parse)]
     #[tactic(auto, unfolding(crate::specs::Reading::declaration_with))]
     fn declaration(&mut self, depth: usize) -> Result<Declaration, SyntaxFault>
@@ -114,6 +115,9 @@ impl Parser<'_, '_> {
         ensures { Reads declaration_view result self.new
             (declaration_with (inner depth) (left self.old)) }
     {
+        if self.begins_scoped() {
+            return Ok(Declaration::Field(self.scoped(depth)?));
+        }
         if self.begins_conditional() {
             return self.conditional(depth);
         }
@@ -298,7 +302,7 @@ impl Parser<'_, '_> {
                 let (front, end) = self.list(depth)?;
                 Ok(Expr::List { front, end })
             }
-            _ => self.unbracketed(),
+            _ => self.leaf(),
         }
     }
 

@@ -1,15 +1,16 @@
 // Files.
 
-ghost use Rattle.std.specs.Prelude.{◌≡◌, ◌≤◌, map, length, string_bytes, true, IfOk, IfErr, Ok};
+ghost use Rattle.std.specs.Prelude.{◌≡◌, ◌≤◌, ◌&&◌, [], ◌∷◌, length, string_bytes, true, IfOk, IfErr, Ok};
 ghost use Rattle.std.specs.Option.{option_map};
 ghost use Rattle.cs_grammar.specs.Words.{Words};
 ghost use Rattle.cs_grammar.specs.Tree.{FileTree};
 ghost use Rattle.cs_grammar.specs.Spells.{SpellsFile};
-ghost use Rattle.cs_grammar.specs.View.{definition_view, file_view, lexemes_view};
-ghost use Rattle.cs_grammar.specs.TokenWords.{words};
-ghost use Rattle.cs_syntax.specs.Left.{left, Reads};
+ghost use Rattle.cs_grammar.specs.View.{definition_view, file_view, lexeme_view, lexemes_view};
+ghost use Rattle.cs_grammar.specs.TokenWords.{word, words};
+ghost use Rattle.cs_grammar.specs.declared.kind.Kind.TheVariants as kinds;
+ghost use Rattle.cs_syntax.specs.Left.{left, lines_view, Reads};
 ghost use Rattle.cs_lexer.specs.Quoted.{are_quoted};
-ghost use Rattle.cs_syntax.specs.Reading.{Gives, definition_at, line_at, definitions_at, is_clause, clause_at, package_at, file_with, file_at, most_depth};
+ghost use Rattle.cs_syntax.specs.Reading.{Gives, definition_at, line_at, begins_file_name, begins_end, lines_at, is_clause, clause_at, package_at, begins_with, ends_wide, end_kind, file_with, file_at, most_depth};
 ghost use Rattle.cs_syntax.specs.Within.{file_within};
 ghost use Rattle.cs_syntax.specs.Nesting.{nesting, most_nested};
 ghost use Rattle.cs_lexer.specs.Lexed.{Answers};
@@ -17,13 +18,13 @@ ghost use Rattle.cs_syntax.specs.Answer.{IsSpelled};
 ghost use Rattle.cs_syntax.specs.AnswerIn.{IsSpelledIn};
 ghost use Rattle.cs_syntax.specs.Refusal.{IsFileRefusal, IsFileRefusalIn};
 
-use crate::parser::height::are_low_bodies;
+use crate::parser::height::is_low_file;
 use crate::parser::kind::kind_of;
 use crate::parser::name::{bare_name, is_package};
 use crate::parser::nesting::{MOST_NESTED, is_too_nested};
 use crate::parser::place::{Parser, fault_of};
 use crate::parser::profiles::taken;
-use cs_grammar::{Definition, File, Kind, Profile, SyntaxFault, Token};
+use cs_grammar::{Definition, File, Kind, Name, Profile, SyntaxFault, Token};
 use cs_lexer::lex_in;
 use std::alloc::Global;
 
@@ -58,20 +59,44 @@ impl Parser<'_, '_> {
         Ok(definition)
     }
 
-    /// The definitions up to the end.
-    fn definitions(&mut self, depth: usize) -> Result<Vec<Definition>, SyntaxFault>
+    /// Whether the end of a file is next.
+    fn is_at_end(&self) -> bool
+        ensures { result ≡ begins_end (left self.now) }
+    {
+        self.is_at(Kind::End) || self.is_at(Kind::WideEnd)
+    }
+
+    /// Whether the next line is another name than a definition, where such may stand.
+    fn begins_name_line(&self, wide: bool) -> bool
+        ensures { result ≡ (wide && begins_file_name (left self.now)) }
+    {
+        wide && self.begins_file_name()
+    }
+
+    /// The lines up to the end: the definitions, and in the wide profile the other names.
+    #[tactic(auto, unfolding(crate::specs::Reading::lines_at))]
+    fn lines(
+        &mut self,
+        wide: bool,
+        depth: usize,
+    ) -> Result<(Vec<Definition>, Vec<Name>), SyntaxFault>
         requires { depth ≤ most_depth }
-        ensures { Reads (λ v. map definition_view v.items) result self.new
-            (definitions_at depth (length (left self.old)) (left self.old)) }
+        ensures { Reads lines_view result self.new
+            (lines_at wide depth (length (left self.old)) (left self.old)) }
     {
         let mut definitions = Vec::new(self.alloc);
+        let mut names = Vec::new(self.alloc);
         for _ in self.next..self.tokens.len() {
-            if self.is_at(Kind::End) {
-                return Ok(definitions);
+            if self.is_at_end() {
+                return Ok((definitions, names));
+            }
+            if self.begins_name_line(wide) {
+                names.push(self.name_line(depth)?)?;
+                continue;
             }
             definitions.push(self.line(depth)?)?;
         }
-        Ok(definitions)
+        Ok((definitions, names))
     }
 
     /// Whether the next token begins a package clause.
@@ -113,21 +138,44 @@ impl Parser<'_, '_> {
 
     /// A file, and the end.
     #[tactic(auto, unfolding(crate::specs::Reading::file_with))]
-    fn file(&mut self, depth: usize) -> Result<File, SyntaxFault>
+    fn file(&mut self, wide: bool, depth: usize) -> Result<File, SyntaxFault>
         requires { depth ≤ most_depth }
-        ensures { Gives file_view result (file_with depth (left self.old)) }
+        ensures { Gives file_view result (file_with wide depth (left self.old)) }
     {
         let package = self.package()?;
-        let definitions = self.definitions(depth)?;
-        self.expect(Kind::End)?;
+        let (definitions, names) = self.lines(wide, depth)?;
+        self.expect(end_kind(wide))?;
         if let Some(token) = self.peek() {
             return Err(fault_of(&token));
         }
         Ok(File {
             package,
             definitions,
+            names,
         })
     }
+}
+
+/// The end of a file.
+fn end_kind(wide: bool) -> Kind
+    ensures { result ≡ end_kind wide }
+{
+    if wide { Kind::WideEnd } else { Kind::End }
+}
+
+/// Whether a token is the end of the wide profile.
+fn is_wide_end(token: &Token<'_>) -> bool
+    ensures { result ≡ begins_with kinds.WideEnd (word (lexeme_view token.now) ∷ []) }
+{
+    kind_of(token) == Kind::WideEnd
+}
+
+/// Whether tokens end as those of the wide profile do.
+fn ends_wide(tokens: &[Token<'_>]) -> bool
+    ensures { result ≡ ends_wide (words (lexemes_view tokens.now)) }
+{
+    let count = tokens.len();
+    count > 0 && is_wide_end(&tokens[count - 1])
 }
 
 fn file_of(alloc: Global, tokens: &[Token<'_>]) -> Result<File, SyntaxFault>
@@ -141,7 +189,7 @@ fn file_of(alloc: Global, tokens: &[Token<'_>]) -> Result<File, SyntaxFault>
         tokens,
         next: 0,
     };
-    parser.file(MOST_NESTED + 1)
+    parser.file(ends_wide(tokens), MOST_NESTED + 1)
 }
 
 /// The file that tokens spell within the limits.
@@ -154,15 +202,16 @@ fn file_within(alloc: Global, tokens: &[Token<'_>]) -> Result<File, SyntaxFault>
         return Err(SyntaxFault::TooHigh);
     }
     let file = file_of(alloc, tokens)?;
-    if !are_low_bodies(&file.definitions, MOST_NESTED) {
+    if !is_low_file(&file, MOST_NESTED) {
         return Err(SyntaxFault::TooHigh);
     }
     Ok(file)
 }
 
 /// The file that a source spells in a profile (CUE, source file organization). In the wide one an operand of `|` may have the
-/// mark of a default, `*`, before it (CUE, default values), and a struct literal may have embeddings (CUE, structs: embedding) and
-/// literals under conditions (CUE, comprehensions).
+/// mark of a default, `*`, before it (CUE, default values), a struct literal may have embeddings (CUE, structs: embedding), literals
+/// under conditions (CUE, comprehensions) and names of its own (CUE, definitions and hidden fields, let clauses), a file other names
+/// than definitions, and a name may have selectors (CUE, selectors).
 ///
 /// # Errors
 /// Those of `lex_in`. `TooHigh` where the tokens nest deeper than 28, or a body is higher than that.

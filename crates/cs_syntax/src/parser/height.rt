@@ -2,12 +2,12 @@
 
 ghost use Rattle.std.specs.Prelude.{◌≡◌, map, nat_le};
 ghost use Rattle.cs_grammar.specs.View.{expr_view, exprs_view, fields_view, end_view, definition_view};
-ghost use Rattle.cs_grammar.specs.View.{wide_view, declaration_view, declarations_view};
+ghost use Rattle.cs_grammar.specs.View.{wide_view, declaration_view, declarations_view, name_view, file_view};
 ghost use Rattle.cs_grammar.specs.Height.{height, height_all, height_fields, height_end, height_definitions};
-ghost use Rattle.cs_grammar.specs.Height.{height_wide, height_declarations};
+ghost use Rattle.cs_grammar.specs.Height.{height_wide, height_declarations, height_names, file_height};
 ghost use Rattle.cs_syntax.specs.SeenHeight.{declaration_height};
 
-use cs_grammar::{Declaration, Definition, Expr, Field, ListEnd, Wide, atom};
+use cs_grammar::{Declaration, Definition, Expr, Field, File, ListEnd, Name, Wide, atom};
 
 /// Whether an expression is at most so high.
 #[cycle(height)]
@@ -41,6 +41,7 @@ fn is_low_wide(wide: &Wide, limit: usize) -> bool
             limit > 0 && are_low_declarations(declarations, limit - 1)
         }
         Wide::Shut { value, .. } => limit > 0 && is_low(value, limit - 1),
+        Wide::Selected { .. } => limit > 0,
     }
 }
 
@@ -112,7 +113,7 @@ fn is_low_end(end: &ListEnd, limit: usize) -> bool
 }
 
 /// Whether no body is higher than that.
-pub(crate) fn are_low_bodies(definitions: &Vec<Definition>, limit: usize) -> bool
+fn are_low_bodies(definitions: &Vec<Definition>, limit: usize) -> bool
     ensures { result
         ≡ nat_le (height_definitions (map definition_view definitions.now.items)) limit }
 {
@@ -122,4 +123,24 @@ pub(crate) fn are_low_bodies(definitions: &Vec<Definition>, limit: usize) -> boo
         }
     }
     true
+}
+
+/// Whether no value of another name is higher than that.
+fn are_low_names(names: &Vec<Name>, limit: usize) -> bool
+    ensures { result ≡ nat_le (height_names (map name_view names.now.items)) limit }
+{
+    for name in names {
+        if !is_low(&name.value, limit) {
+            return false;
+        }
+    }
+    true
+}
+
+/// Whether nothing that a file declares is higher than that.
+#[tactic(auto, using(crate::proofs::Heights::within_both))]
+pub(crate) fn is_low_file(file: &File, limit: usize) -> bool
+    ensures { result ≡ nat_le (file_height (file_view file.now)) limit }
+{
+    are_low_bodies(&file.definitions, limit) && are_low_names(&file.names, limit)
 }

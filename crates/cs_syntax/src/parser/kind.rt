@@ -3,9 +3,9 @@
 ghost use Rattle.std.specs.Prelude.{◌≡◌};
 ghost use Rattle.cs_grammar.specs.View.{lexeme_view};
 ghost use Rattle.cs_grammar.specs.TokenWords.{mark_kind, wide_kind, kind_of, word};
-ghost use Rattle.cs_syntax.specs.Reading.{names_string, names_close, names_if};
+ghost use Rattle.cs_syntax.specs.Reading.{names_string, names_close, names_if, names_let};
 
-use crate::parser::name::{is_close, is_if, is_string};
+use crate::parser::name::{is_close, is_if, is_let, is_string};
 use cs_grammar::{Kind, Sort, Token};
 
 /// What a mark is for the grammar.
@@ -34,17 +34,23 @@ fn mark_kind(text: &str) -> Kind
         "-" => Kind::Minus,
         "*" => Kind::Star,
         "==" => Kind::Equal,
+        "." => Kind::Dot,
+        "=" => Kind::Assign,
         _ => Kind::LeftOut,
     }
 }
 
-/// What a mark is where the wide profile reads it in its own way.
+/// What a token is where the wide profile reads it in its own way; the end has no text.
 fn wide_kind(text: &str) -> Kind
     ensures { result ≡ wide_kind text.now }
 {
-    match text {
-        "{" => Kind::OpenWide,
-        "(" => Kind::OpenCall,
+    let Some(first) = text.as_bytes().first() else {
+        return Kind::WideEnd;
+    };
+    match *first {
+        b'{' => Kind::OpenWide,
+        b'(' => Kind::OpenCall,
+        b'_' => Kind::Local,
         _ => Kind::LeftOut,
     }
 }
@@ -88,4 +94,11 @@ pub(crate) fn names_if(token: &Token<'_>) -> bool
     ensures { result ≡ names_if (word (lexeme_view token.now)) }
 {
     kind_of(token) == Kind::Name && is_if(token.text)
+}
+
+/// Whether a token is the name `let`.
+pub(crate) fn names_let(token: &Token<'_>) -> bool
+    ensures { result ≡ names_let (word (lexeme_view token.now)) }
+{
+    kind_of(token) == Kind::Name && is_let(token.text)
 }

@@ -2,7 +2,7 @@
 
 ghost use Rattle.std.specs.Prelude.{◌≡◌};
 ghost use Rattle.cs_grammar.specs.TokenWords.{bare_name};
-ghost use Rattle.cs_grammar.specs.Spells.{is_reserved, is_package, is_string, is_close, is_if};
+ghost use Rattle.cs_grammar.specs.Spells.{is_reserved, is_package, is_string, is_close, is_if, is_let};
 
 /// Whether a name can't be an operand.
 pub(crate) fn is_reserved(text: &str) -> bool
@@ -37,6 +37,13 @@ pub(crate) fn is_if(text: &str) -> bool
     ensures { result ≡ is_if text.now }
 {
     text == "if"
+}
+
+/// Whether a name begins a let clause.
+pub(crate) fn is_let(text: &str) -> bool
+    ensures { result ≡ is_let text.now }
+{
+    text == "let"
 }
 
 /// The name of a definition without its `#`.

@@ -106,6 +106,12 @@ impl Parser<'_, '_> {
                 let at = token.start;
                 Ok(Expr::Reference { text, at })
             }
+            Kind::Local => {
+                self.next += 1;
+                let text = String::from_str(self.alloc, token.text)?;
+                let at = token.start;
+                Ok(Expr::Name { text, at })
+            }
             Kind::Text => {
                 self.next += 1;
                 Ok(Expr::Text(unescape(self.alloc, token.text)?))

@@ -35,6 +35,7 @@ pub(crate) fn fault_of(token: &Token<'_>) -> SyntaxFault
 {
     let left_out = match kind_of(token) {
         Kind::LeftOut | Kind::Hidden | Kind::Star | Kind::Equal => true,
+        Kind::Local | Kind::Dot | Kind::Assign => true,
         Kind::Name => is_left_out_name(token.text),
         _ => false,
     };

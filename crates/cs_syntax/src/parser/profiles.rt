@@ -12,14 +12,15 @@ ghost use Rattle.cs_syntax.specs.AnswerIn.{IsSpelledIn};
 
 use cs_grammar::{Profile, Sort, Token};
 
-/// The sort of a token in the wide profile: `*` and `==` are marks of the grammar, `{` opens a literal that may have embeddings or
-/// conditions, and `(` may stand behind `close`.
+/// The sort of a token in the wide profile: `*`, `==`, `.` and `=` are marks of the grammar, `{` opens a literal that may have embeddings or
+/// conditions, `(` may stand behind `close`, names that begin with `_` are read, and the end says that a file may have names.
 fn wide_sort(sort: Sort, text: &str) -> Sort
     ensures { result ≡ wide_sort sort text.now }
 {
     match (sort, text) {
-        (Sort::LeftOut, "*" | "==") => Sort::Mark,
+        (Sort::LeftOut, "*" | "==" | "." | "=") => Sort::Mark,
         (Sort::Mark, "{" | "(") => Sort::Wide,
+        (Sort::Hidden | Sort::End, _) => Sort::Wide,
         _ => sort,
     }
 }

@@ -2,4 +2,4 @@ use Rattle.cs_print.proofs.Sound.{written}
 use Rattle.cs_print.proofs.written.spelled_files_are_written.Goals as goal
 
 pub returns : goal.returns
-returns c p source f k = written p source f k
+returns c source f k = written source f k

@@ -22,7 +22,8 @@ source_of-requires-clause-written c =
     let gs = map file_view c.in_ok-meant.meant.items in
     let m = c.in_ok-meant.ensures.found in
     let written = meant_written m.files gs c.args.profile (bytes_in c.args.sources.now) m.spelled m.stand_for
-    c.spelled_files_are_written.ensures c.chosen_files_can_be_written.ensures c.joined_files_can_be_written.ensures c.unmarked_files_can_be_written.ensures in
+    c.spelled_files_are_written.ensures c.spelled_files_are_namable.ensures c.named_files_can_be_written.ensures
+    c.chosen_files_can_be_written.ensures c.joined_files_can_be_written.ensures c.unmarked_files_can_be_written.ensures in
     subst (λ xs. AllByRecursion IsWrittenFile (map file_view xs)) (sym c.deref.ensures.value) written
 
 pub source_of-requires-clause-default_forms : goal.source_of-requires-clause-default_forms
@@ -37,7 +38,8 @@ resolve_written-requires-clause-written c =
     let gs = map file_view c.in_ok-meant.meant.items in
     let m = c.in_ok-meant.ensures.found in
     meant_written m.files gs c.args.profile (bytes_in c.args.sources.now) m.spelled m.stand_for
-    c.spelled_files_are_written.ensures c.chosen_files_can_be_written.ensures c.joined_files_can_be_written.ensures c.unmarked_files_can_be_written.ensures
+    c.spelled_files_are_written.ensures c.spelled_files_are_namable.ensures c.named_files_can_be_written.ensures
+    c.chosen_files_can_be_written.ensures c.joined_files_can_be_written.ensures c.unmarked_files_can_be_written.ensures
 
 pub resolve_written-requires-clause-default_forms : goal.resolve_written-requires-clause-default_forms
 resolve_written-requires-clause-default_forms c =
@@ -92,5 +94,5 @@ returns-clause-found c =
         one_package = c.in_ok-resolve_written.ensures.found;
         guarded = c.in_ok-package.ensures.guarded;
       };
-      read = meant_read m.files gs c.args.profile (bytes_in c.args.sources.now) m.spelled m.stand_for c.unmarked_files_are_no_higher.ensures c.printed_sources_are_read.ensures s printed;
+      read = meant_read m.files gs c.args.profile (bytes_in c.args.sources.now) m.spelled m.stand_for c.unmarked_files_are_no_higher.ensures.definitions c.printed_sources_are_read.ensures s printed;
     }

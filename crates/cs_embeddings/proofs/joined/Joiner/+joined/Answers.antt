@@ -567,8 +567,8 @@ joined_declaration-returns t c ds n tells well sound embeds deep =
     (clashes_with ds C q d.value)) c.place-place.ensures (c.in_ok-value.ensures ds n tells well sound embeds deep) in
     let mark = c.placed-mark.ensures ∙ ap₂ placed c.place-place.ensures c.mark.ensures in
     record {
-      made = same_field (field_view c.in_ok-field.field-0) d (joined_with ds V true d.place) _ _ _ _ x c.in_ok-field.ensures.seen
-          c.label.ensures c.is_quoted.ensures c.is_asked.ensures mark made.made;
+      made = same_field (field_view c.in_ok-field.field-0) d (joined_with ds V true d.place) _ _ _ _ _ x c.in_ok-field.ensures.seen
+          c.label.ensures c.is_quoted.ensures c.is_asked.ensures c.scoped.ensures mark made.made;
       low = made.low;
       left = made.left;
       apart = made.apart;

@@ -17,6 +17,9 @@ decreases-fields l = 12 * l.depth + 2
 abbrev pub decreases-structure : goal.decreases-structure
 decreases-structure l = 12 * l.depth + 3
 
+abbrev pub decreases-scoped : goal.decreases-scoped
+decreases-scoped l = 12 * l.depth + 1
+
 abbrev pub decreases-conditional : goal.decreases-conditional
 decreases-conditional l = 12 * l.depth + 1
 

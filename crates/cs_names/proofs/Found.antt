@@ -1,0 +1,114 @@
+-- What is found: in an expression, in files, which are numbered, and of what is lifted.
+use Rattle.std.proofs.Common.{◌≡◌, ℕ, suc, ◌+◌, ◌<◌, ◌≤◌, Bool, true, false, ◌&&◌, cond, List, [], ◌∷◌, ◌++◌, Some, None, Option, Result, Ok, Err, map, drop, length, get_or, slice_get, refl, sym, ap, subst, ◌∙◌, add-one}
+use Rattle.std.specs.Prelude.{IsOkUnless}
+use Rattle.cs_grammar.specs.Tree.{FileTree}
+use Rattle.cs_grammar.specs.View.{file_view}
+use Rattle.cs_grammar.specs.declared.ast.File.{File}
+use Rattle.cs_names.specs.Checks.{Finds, EndsAt, FailsAny, FindsAny}
+use Rattle.cs_names.specs.Flaws.{file_flaws, flaws_from}
+use Rattle.cs_names.specs.Joined.{is_inner, inner_text, is_among, again}
+use Rattle.cs_names.specs.Lifted.{Lifts, Lifted}
+use Rattle.cs_names.specs.Names.{IsRefusal, name_faults}
+use Rattle.cs_names.specs.Scopes.{Scope}
+use Rattle.cs_names.specs.declared.fault.NameFault.{NameFault}
+use Rattle.cs_names.specs.declared.fault.NameFault.TheVariants as refused
+use Rattle.cs_names.specs.declared.flaws.Flaw.{Flaw}
+use Rattle.cs_names.specs.declared.flaws.Flaw.TheVariants as flaws
+use Rattle.cs_names.specs.declared.flaws.Stop.{Stop}
+use Rattle.cs_names.specs.declared.flaws.Stop.TheVariants as stops
+use Rattle.cs_names.proofs.Walks.{at_place, drop_all, first_left, first_here, none_left}
+
+pub finds_as : {Y : Type 0} (r : Result Y Stop) (xs ys : List Flaw) → xs ≡ ys → Finds r ys → Finds r xs
+finds_as r xs ys e h = subst (λ zs. Finds r zs) (sym e) h
+
+-- the search ends in the first part
+pub ends_left : (xs ys : List Flaw) (e : Stop) → EndsAt e xs → EndsAt e (xs ++ ys)
+ends_left xs ys stops.OutOfMemory h = h
+ends_left xs ys (stops.Flawed f) h = first_left xs ys f h
+
+-- it ends at this element
+pub ends_here : {A : Type 0} (F : List A → List Flaw) (own : A → List Flaw) (parts : (a : A) (rest : List A) → F (a ∷ rest) ≡ own a ++ F rest) (xs : List A) (i : ℕ) (a : A) → i < length xs → a ≡ get_or xs i a → F xs ≡ F (drop i xs) → (e : Stop) → EndsAt e (own a) → EndsAt e (F xs)
+ends_here F own parts xs i a l is all stops.OutOfMemory h = h
+ends_here F own parts xs i a l is all (stops.Flawed f) h = first_here F own parts xs i a l is all f h
+
+-- ---- in files
+
+-- the fault of the first that is found
+pub fails_first : (e : NameFault) (x : ℕ × Flaw) (xs : List (ℕ × Flaw)) → FailsAny e (x ∷ []) → slice_get xs 0 ≡ Some x → FailsAny e xs
+fails_first refused.OutOfMemory x xs h k = h
+fails_first (refused.LeftOut i o) x xs h k = k ∙ h
+fails_first (refused.UnknownName i o) x xs h k = k ∙ h
+fails_first (refused.NamesField i o) x xs h k = k ∙ h
+fails_first (refused.Redeclared i o) x xs h k = k ∙ h
+
+pub fails_left : (e : NameFault) (xs ys : List (ℕ × Flaw)) → FailsAny e xs → FailsAny e (xs ++ ys)
+fails_left refused.OutOfMemory xs ys h = h
+fails_left (refused.LeftOut i o) xs ys h = first_left xs ys _ h
+fails_left (refused.UnknownName i o) xs ys h = first_left xs ys _ h
+fails_left (refused.NamesField i o) xs ys h = first_left xs ys _ h
+fails_left (refused.Redeclared i o) xs ys h = first_left xs ys _ h
+
+pub fails_right : (e : NameFault) (xs ys : List (ℕ × Flaw)) → xs ≡ [] → FailsAny e ys → FailsAny e (xs ++ ys)
+fails_right e xs ys none h = subst (FailsAny e) (sym (none_left xs ys none)) h
+
+pub refusal : (e : NameFault) (fs : List FileTree) → FailsAny e (name_faults fs) → IsRefusal e fs
+refusal refused.OutOfMemory fs h = h
+refusal (refused.LeftOut i o) fs h = h
+refusal (refused.UnknownName i o) fs h = h
+refusal (refused.NamesField i o) fs h = h
+refusal (refused.Redeclared i o) fs h = h
+
+-- where nothing is at fault memory ran out
+pub no_fault : (e : NameFault) (xs : List (ℕ × Flaw)) → xs ≡ [] → FailsAny e xs → e ≡ refused.OutOfMemory
+no_fault refused.OutOfMemory xs none h = refl
+no_fault (refused.LeftOut i o) xs none h = let k : slice_get {X = ℕ × Flaw} [] 0 ≡ Some _ = rw (← none) h in cc
+no_fault (refused.UnknownName i o) xs none h = let k : slice_get {X = ℕ × Flaw} [] 0 ≡ Some _ = rw (← none) h in cc
+no_fault (refused.NamesField i o) xs none h = let k : slice_get {X = ℕ × Flaw} [] 0 ≡ Some _ = rw (← none) h in cc
+no_fault (refused.Redeclared i o) xs none h = let k : slice_get {X = ℕ × Flaw} [] 0 ≡ Some _ = rw (← none) h in cc
+
+module _ (ts : Lifts) (every : Scope) where
+  abbrev pub own_found : ℕ → File → List Flaw
+  own_found i f = file_flaws ts i every (file_view f)
+
+  abbrev pub in_file : ℕ → File → List (ℕ × Flaw)
+  in_file i f = map (λ x. (i, x)) (own_found i f)
+
+  -- what is found from a file on
+  abbrev pub from : ℕ → List File → List (ℕ × Flaw)
+  from i fs = flaws_from ts every i (map file_view fs)
+
+  first_numbered : (i : ℕ) (os : List Flaw) (o : Flaw) → slice_get os 0 ≡ Some o → slice_get {X = ℕ × Flaw} (map (λ p. (i, p)) os) 0 ≡ Some (i, o)
+  first_numbered i [] o h = cc
+  first_numbered i (p ∷ os) o h = cc
+
+  module _ (fs : List File) (i : ℕ) (all : from 0 fs ≡ from i (drop i fs)) where
+    module _ (f : File) (l : i < length fs) (is : f ≡ get_or fs i f) where
+      cut : from 0 fs ≡ in_file i f ++ from (i + 1) (drop (i + 1) fs)
+      cut =
+          all ∙ ap (from i) (at_place fs i f l is)
+          ∙ ap (λ j. in_file i f ++ from j (drop (i + 1) fs)) (sym (add-one i))
+
+      pub first_in : (o : Flaw) → slice_get (own_found i f) 0 ≡ Some o → slice_get (from 0 fs) 0 ≡ Some (i, o)
+      first_in o h = rw cut (first_left (in_file i f) (from (i + 1) (drop (i + 1) fs)) (i, o) (first_numbered i (own_found i f) o h))
+
+      pub none_in : own_found i f ≡ [] → from 0 fs ≡ from (i + 1) (drop (i + 1) fs)
+      none_in none = cut ∙ none_left (in_file i f) (from (i + 1) (drop (i + 1) fs)) (ap (map {B = ℕ × Flaw} (λ x. (i, x))) none)
+
+    -- no file has any
+    pub none_in_any : length fs ≤ i → from 0 fs ≡ []
+    none_in_any l = all ∙ ap (from i) (drop_all fs i l)
+
+-- ---- of what is lifted
+
+-- the names that literals declare, and not by `let`
+abbrev pub inner_texts : Lifts → List (List ℕ)
+inner_texts [] = []
+inner_texts (t ∷ ts) = inner_text t ++ inner_texts ts
+
+module _ (ss : List (List ℕ)) (t : Lifted) (ts : Lifts) (start : List (ℕ × Flaw)) (all : start ≡ again ss (t ∷ ts)) where
+  -- one more is declared for the first time, or isn't one of a literal
+  pub again_more : (is_inner t.origin && is_among ss t.text) ≡ false → start ≡ again (ss ++ inner_text t) ts
+  again_more new = all ∙ ap (λ b. cond b ((t.place.0, flaws.Again t.place.1) ∷ again ss ts) (again (ss ++ inner_text t) ts)) new
+
+  pub again_here : (is_inner t.origin && is_among ss t.text) ≡ true → slice_get start 0 ≡ Some (t.place.0, flaws.Again t.place.1)
+  again_here old = ap (λ xs. slice_get xs 0) (all ∙ ap (λ b. cond b ((t.place.0, flaws.Again t.place.1) ∷ again ss ts) (again (ss ++ inner_text t) ts)) old)

@@ -1,0 +1,16 @@
+-- lists and truth values, and what their parts are one after another
+pub mod Truths
+pub mod Walks
+pub mod Folds
+pub mod Parts
+pub mod Tables
+pub mod Found
+-- names as texts
+pub mod Spelled
+pub mod Free
+-- laws of the definitions
+pub mod Without
+pub mod Written
+pub mod Reading
+-- samples
+pub mod Samples

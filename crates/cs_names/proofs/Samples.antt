@@ -1,0 +1,180 @@
+-- Samples, worked by the definitions: files with names, and what they stand for or what is at fault.
+use Rattle.std.proofs.Common.{◌≡◌, ℕ, Bool, true, false, List, [], ◌∷◌, pos, codes, None, Some, refl}
+use Rattle.std.specs.Fmt.{digits}
+use Rattle.cs_grammar.specs.Atom as atoms
+use Rattle.cs_grammar.specs.Atom.{text}
+use Rattle.cs_grammar.specs.Tree.{Label, written_label, scoped_label, Tree, atom, named, reference, conjunction, disjunction, struct, list, wide, selected, Trees, none, more, Fields, no_field, field, closed, definition, DefinitionTree, NameTree, FileTree, file}
+use Rattle.cs_grammar.specs.declared.ast.FieldMark.{FieldMark}
+use Rattle.cs_grammar.specs.declared.ast.FieldMark.TheVariants.{Regular}
+use Rattle.cs_names.specs.Lifted.{first_free, all_numbers}
+use Rattle.cs_names.specs.Named.{named_files}
+use Rattle.cs_names.specs.Names.{name_faults}
+use Rattle.cs_names.specs.declared.flaws.Flaw.TheVariants.{LeftOut, Unknown, Field, Again}
+
+-- nothing is at fault, and the files stand for these
+abbrev Stands : List FileTree → List FileTree → Type 0
+Stands fs gs = (name_faults fs ≡ []) × (gs ≡ named_files fs)
+
+-- one file with these definitions and names
+abbrev of : List DefinitionTree → List NameTree → List FileTree
+of ds ns = file None ds ns ∷ []
+
+abbrev P : Tree → DefinitionTree
+P e = definition (codes "P") 1 e
+
+abbrev literal : ℕ → Fields → Tree
+literal o fs = struct o fs false
+
+-- a field of the data, and a name of the literal's scope
+abbrev own : List ℕ → Tree → Fields → Fields
+own t e fs = field (written_label t false) Regular e fs
+
+abbrev name : List ℕ → ℕ → Tree → Fields → Fields
+name t o e fs = field (scoped_label t o) Regular e fs
+
+-- a name of a file, and one that it binds by `let`
+abbrev top : List ℕ → ℕ → Tree → NameTree
+top t o e = record { name = t; is_bound = false; at = o; value = e }
+
+abbrev bound : List ℕ → ℕ → Tree → NameTree
+bound t o e = record { name = t; is_bound = true; at = o; value = e }
+
+abbrev int : Tree
+int = named (codes "int") 90
+
+abbrev string : Tree
+string = named (codes "string") 91
+
+abbrev a : List ℕ
+a = codes "a"
+
+abbrev b : List ℕ
+b = codes "b"
+
+-- ---- names of literals
+
+-- `#P: {#Q: int, a: #Q}`
+nested : Stands (of (P (literal 4 (name (codes "#Q") 5 int (own a (reference (codes "Q") 20) no_field))) ∷ []) [])
+    (of (P (literal 4 (own a (reference (codes "P_Q") 20) no_field)) ∷ definition (codes "P_Q") 5 int ∷ []) [])
+nested = (refl, refl)
+
+-- `#P: {_h: int, a: _h, _h: string}`: two bodies
+hidden : Stands (of (P (literal 4 (name (codes "_h") 5 int (own a (named (codes "_h") 20) (name (codes "_h") 30 string no_field)))) ∷ []) [])
+    (of (P (literal 4 (own a (reference (codes "P_h") 20) no_field)) ∷ definition (codes "P_h") 5 int ∷ definition (codes "P_h") 30 string ∷ []) [])
+hidden = (refl, refl)
+
+-- `#P: {a: N, let N = string}`
+bound_inside : Stands (of (P (literal 4 (own a (named (codes "N") 10) (name (codes "N") 20 string no_field))) ∷ []) [])
+    (of (P (literal 4 (own a (reference (codes "P_N") 10) no_field)) ∷ definition (codes "P_N") 20 string ∷ []) [])
+bound_inside = (refl, refl)
+
+-- `#P: {let A = {let B = string, b: B}, a: A}`: each inside of its own
+inside_of_another : Stands
+    (of (P (literal 4 (name (codes "A") 5 (literal 13 (name (codes "B") 14 string (own b (named (codes "B") 30) no_field))) (own a (named (codes "A") 40) no_field))) ∷ []) [])
+    (of (P (literal 4 (own a (reference (codes "P_A") 40) no_field)) ∷ definition (codes "P_A") 5 (literal 13 (own b (reference (codes "P_A_B") 30) no_field)) ∷ definition (codes "P_A_B") 14 string ∷ []) [])
+inside_of_another = (refl, refl)
+
+-- `#Q: int` and `#P: {#Q: string, a: #Q, b: {#Q: int, a: #Q}}`: the innermost one, and the first number that is free
+innermost : Stands
+    (of (definition (codes "Q") 70 int ∷ P (literal 4 (name (codes "#Q") 5 string (own a (reference (codes "Q") 20) (own b (literal 30 (name (codes "#Q") 31 int (own a (reference (codes "Q") 40) no_field))) no_field)))) ∷ []) [])
+    (of (definition (codes "Q") 70 int ∷ P (literal 4 (own a (reference (codes "P_Q") 20) (own b (literal 30 (own a (reference (codes "P_Q1") 40) no_field)) no_field)))
+    ∷ definition (codes "P_Q") 5 string ∷ definition (codes "P_Q1") 31 int ∷ []) [])
+unfolding first_free all_numbers digits
+innermost = (refl, refl)
+
+-- `#P_Q: string` and `#P: {#Q: int, a: #Q, b: #P_Q}`: the name of an author's definition is taken
+taken : Stands
+    (of (definition (codes "P_Q") 70 string ∷ P (literal 4 (name (codes "#Q") 5 int (own a (reference (codes "Q") 20) (own b (reference (codes "P_Q") 30) no_field)))) ∷ []) [])
+    (of (definition (codes "P_Q") 70 string ∷ P (literal 4 (own a (reference (codes "P_Q1") 20) (own b (reference (codes "P_Q") 30) no_field))) ∷ definition (codes "P_Q1") 5 int ∷ []) [])
+unfolding first_free all_numbers digits
+taken = (refl, refl)
+
+-- `#P: {a: int, b: a}`: a field stands for no name
+field_hides : Stands (of (P (literal 4 (own a int (own b (named a 20) no_field))) ∷ []) (top a 50 string ∷ []))
+    (of (P (literal 4 (own a int (own b (named a 20) no_field))) ∷ definition a 50 string ∷ []) [])
+field_hides = (refl, refl)
+
+-- `#P: {"a": int, b: a}` with `a: string` in the file: a label in quotes declares no name
+quoted_shows : Stands (of (P (literal 4 (field (written_label a true) Regular int (own b (named a 20) no_field))) ∷ []) (top a 50 string ∷ []))
+    (of (P (literal 4 (field (written_label a true) Regular int (own b (reference a 20) no_field))) ∷ definition a 50 string ∷ []) [])
+quoted_shows = (refl, refl)
+
+-- ---- names of files
+
+-- `_#P: int` and `#P: {#Q: {#R: _#P, r: #R}, q: #Q}`
+of_files_first : Stands
+    (of (P (literal 4 (name (codes "#Q") 5 (literal 9 (name (codes "#R") 10 (named (codes "_#P") 14) (own a (reference (codes "R") 25) no_field))) (own b (reference (codes "Q") 40) no_field))) ∷ []) (top (codes "_#P") 60 int ∷ []))
+    (of (P (literal 4 (own b (reference (codes "P_Q") 40) no_field)) ∷ definition (codes "P_Q") 5 (literal 9 (own a (reference (codes "P_Q_R") 25) no_field)) ∷ definition (codes "P_Q_R") 10 (reference (codes "P1") 14)
+    ∷ definition (codes "P1") 60 int ∷ []) [])
+unfolding first_free all_numbers digits
+of_files_first = (refl, refl)
+
+-- `H: int` in one file, `#P: {a: H}` in another: all files share it
+shared_by_files : Stands (file None [] (top (codes "H") 0 int ∷ []) ∷ of (P (literal 4 (own a (named (codes "H") 10) no_field)) ∷ []) [])
+    (file None (definition (codes "H") 0 int ∷ []) [] ∷ of (P (literal 4 (own a (reference (codes "H") 10) no_field)) ∷ []) [])
+shared_by_files = (refl, refl)
+
+-- `let X = int` and `#P: {let X = [X], a: X}`: what is bound is outside of its own name
+outside_of_let : Stands
+    (of (P (literal 4 (name (codes "X") 5 (list (more (named (codes "X") 14) none) closed) (own a (named (codes "X") 25) no_field))) ∷ []) (bound (codes "X") 60 int ∷ []))
+    (of (P (literal 4 (own a (reference (codes "P_X") 25) no_field)) ∷ definition (codes "P_X") 5 (list (more (reference (codes "X") 14) none) closed) ∷ definition (codes "X") 60 int ∷ []) [])
+outside_of_let = (refl, refl)
+
+-- `_1: int` and `#P: {a: _1}`: no definition begins with a digit
+digit_first : Stands (of (P (literal 4 (own a (named (codes "_1") 10) no_field)) ∷ []) (top (codes "_1") 60 int ∷ []))
+    (of (P (literal 4 (own a (reference (codes "_1") 10) no_field)) ∷ definition (codes "_1") 60 int ∷ []) [])
+digit_first = (refl, refl)
+
+-- ---- what is at fault
+
+-- `#P: {a: _h}`
+undeclared : name_faults (of (P (literal 4 (own a (named (codes "_h") 10) no_field)) ∷ []) []) ≡ (0, Unknown 10) ∷ []
+undeclared = refl
+
+-- `#P: {_h: int, a: _h}` and `#Q: {b: _h}`: one literal's name is none of another's
+of_another_literal : name_faults (of (P (literal 4 (name (codes "_h") 5 int (own a (named (codes "_h") 20) no_field))) ∷ definition (codes "Q") 40 (literal 44 (own b (named (codes "_h") 50) no_field)) ∷ []) []) ≡ (0, Unknown 50) ∷ []
+of_another_literal = refl
+
+-- `#P: {let N = int, a: N, b: #P_N}`: a definition that is none, though a name is lifted by it
+lifted_only : name_faults (of (P (literal 4 (name (codes "N") 5 int (own a (named (codes "N") 20) (own b (reference (codes "P_N") 30) no_field)))) ∷ []) []) ≡ (0, Unknown 30) ∷ []
+lifted_only = refl
+
+-- `let N = int` and `#P: string`, and the same in a literal
+unnamed : name_faults (of (P string ∷ []) (bound (codes "N") 20 int ∷ [])) ≡ (0, Unknown 20) ∷ []
+unnamed = refl
+
+unnamed_inside : name_faults (of (P (literal 4 (name (codes "N") 5 int (own a string no_field))) ∷ []) []) ≡ (0, Unknown 5) ∷ []
+unnamed_inside = refl
+
+-- `#P: {let N = int, N: string, a: N}`, and `let N = int` beside `N: string`
+beside : name_faults (of (P (literal 4 (name (codes "N") 5 int (own (codes "N") string (own a (named (codes "N") 30) no_field)))) ∷ []) []) ≡ (0, Unknown 5) ∷ []
+beside = refl
+
+beside_in_files : name_faults (of (P (named (codes "N") 4) ∷ []) (bound (codes "N") 20 int ∷ [])) ≡ []
+beside_in_files = refl
+
+twice_in_files : name_faults (file None [] (top (codes "N") 0 string ∷ []) ∷ of (P (named (codes "N") 4) ∷ []) (bound (codes "N") 20 int ∷ [])) ≡ (1, Unknown 20) ∷ []
+twice_in_files = refl
+
+-- `#P: {int: string, let N = int, a: N}`: the field `int`, which the definition of N wouldn't see
+field_of_a_value : name_faults (of (P (literal 4 (own (codes "int") string (name (codes "N") 20 int (own a (named (codes "N") 30) no_field)))) ∷ []) []) ≡ (0, Field 90) ∷ []
+field_of_a_value = refl
+
+-- `#P: #B.x`
+selector : name_faults (of (P (wide (selected 4 (codes "#B") (record { text = codes "x"; quotes = false; at = 7 } ∷ []))) ∷ []) []) ≡ (0, LeftOut 4) ∷ []
+selector = refl
+
+-- `#A: {#K: string, a: #K}` and `#P: #A & {#K: "x"}`
+again : name_faults
+    (of (definition (codes "A") 60 (literal 64 (name (codes "#K") 65 string (own a (reference (codes "K") 80) no_field)))
+    ∷ P (conjunction (more (reference (codes "A") 4) (more (literal 9 (name (codes "#K") 10 (atom (text (codes "x"))) no_field)) none))) ∷ []) [])
+    ≡ (0, Again 10) ∷ []
+again = refl
+
+-- `#P: {#K: int, a: #K} | {#K: string, b: #K}`: nothing joins them
+either : Stands
+    (of (P (disjunction (more (literal 4 (name (codes "#K") 5 int (own a (reference (codes "K") 20) no_field))) (more (literal 30 (name (codes "#K") 31 string (own b (reference (codes "K") 40) no_field))) none))) ∷ []) [])
+    (of (P (disjunction (more (literal 4 (own a (reference (codes "P_K") 20) no_field)) (more (literal 30 (own b (reference (codes "P_K1") 40) no_field)) none)))
+    ∷ definition (codes "P_K") 5 int ∷ definition (codes "P_K1") 31 string ∷ []) [])
+unfolding first_free all_numbers digits
+either = (refl, refl)

@@ -1,0 +1,37 @@
+use Rattle.std.proofs.Common.{refl, sym, ◌∙◌}
+use Rattle.cs_grammar.specs.View.{declaration_view, declarations_view, field_view, fields_view}
+use Rattle.cs_names.specs.Checks.{seen_has, field_has}
+use Rattle.cs_names.specs.Having.{declarations_have, fields_have}
+use Rattle.cs_names.proofs.Parts.{has_parts, field_has_parts}
+use Rattle.cs_names.proofs.Walks.{none_more, one_here, none_at_all}
+use Rattle.cs_names.proofs.having.+has.Goals as goal
+
+pub declarations_have-returns-then-declaration_has : goal.declarations_have-returns-then-declaration_has
+declarations_have-returns-then-declaration_has t c =
+    one_here (λ xs. declarations_have (declarations_view xs)) (λ d. seen_has (declaration_view d)) has_parts c.args.declarations.now c.loop-declaration.declaration-index c.loop-declaration.invariant
+    c.declaration-item.result c.loop-declaration-test.true c.declaration-item.is (sym c.declaration_has.ensures ∙ c.if-declaration_has.true)
+
+pub declarations_have-loop-declaration-preserved : goal.declarations_have-loop-declaration-preserved
+declarations_have-loop-declaration-preserved t c =
+    none_more (λ xs. declarations_have (declarations_view xs)) (λ d. seen_has (declaration_view d)) has_parts c.args.declarations.now c.loop-declaration.declaration-index c.loop-declaration.invariant
+    c.declaration-item.result c.loop-declaration-test.true c.declaration-item.is (sym c.declaration_has.ensures ∙ c.if-declaration_has.false)
+
+pub declarations_have-returns : goal.declarations_have-returns
+declarations_have-returns t c =
+    none_at_all (λ xs. declarations_have (declarations_view xs)) (λ d. seen_has (declaration_view d)) has_parts c.args.declarations.now c.loop-declaration.declaration-index c.loop-declaration.invariant
+    refl c.loop-declaration-test.false
+
+pub fields_have-returns-then-field_has : goal.fields_have-returns-then-field_has
+fields_have-returns-then-field_has t c =
+    one_here (λ xs. fields_have (fields_view xs)) (λ f. field_has (field_view f)) field_has_parts c.args.fields.now c.loop-field.field-index c.loop-field.invariant
+    c.field-item.result c.loop-field-test.true c.field-item.is (sym c.field_has.ensures ∙ c.if-field_has.true)
+
+pub fields_have-loop-field-preserved : goal.fields_have-loop-field-preserved
+fields_have-loop-field-preserved t c =
+    none_more (λ xs. fields_have (fields_view xs)) (λ f. field_has (field_view f)) field_has_parts c.args.fields.now c.loop-field.field-index c.loop-field.invariant
+    c.field-item.result c.loop-field-test.true c.field-item.is (sym c.field_has.ensures ∙ c.if-field_has.false)
+
+pub fields_have-returns : goal.fields_have-returns
+fields_have-returns t c =
+    none_at_all (λ xs. fields_have (fields_view xs)) (λ f. field_has (field_view f)) field_has_parts c.args.fields.now c.loop-field.field-index c.loop-field.invariant
+    refl c.loop-field-test.false

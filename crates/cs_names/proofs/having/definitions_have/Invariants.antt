@@ -1,0 +1,10 @@
+use Rattle.std.proofs.Common.{◌≡◌, ℕ, Bool, List, [], ◌∷◌, ◌++◌, map, take, drop}
+use Rattle.cs_grammar.specs.View.{expr_view, exprs_view, field_view, fields_view, declaration_view, declarations_view, definition_view, name_view, file_view, condition_view, selector_view}
+use Rattle.std.specs.List.{list_any, flat_map}
+use Rattle.cs_grammar.specs.Tree.{body, definitions, defined_name, DefinitionTree}
+use Rattle.cs_names.specs.Having as Spec
+use Rattle.cs_names.specs.Having.{has_name, some_has, fields_have, declarations_have}
+use Rattle.cs_names.proofs.having.definitions_have.Given as goal
+
+abbrev pub invariant-loop-definition : goal.invariant-loop-definition
+invariant-loop-definition l = list_any (λ d. has_name (body d)) (map definition_view l.definitions) ≡ list_any (λ d. has_name (body d)) (map definition_view (drop l.definition-index l.definitions))

@@ -1,0 +1,10 @@
+use Rattle.std.proofs.Common.{◌≡◌, ℕ, Bool, List, [], ◌∷◌, ◌++◌, map, take, drop}
+use Rattle.cs_grammar.specs.View.{expr_view, exprs_view, field_view, fields_view, declaration_view, declarations_view, definition_view, name_view, file_view, condition_view, selector_view}
+use Rattle.std.specs.List.{list_any, flat_map}
+use Rattle.cs_grammar.specs.Tree.{body, defined_name, definitions}
+use Rattle.cs_names.specs.Checks.{TellsTexts, lifted_view}
+use Rattle.cs_names.specs.Joined as Spec
+use Rattle.cs_names.proofs.joined.check_unused.Given as goal
+
+abbrev pub invariant-loop-lifted : goal.invariant-loop-lifted
+invariant-loop-lifted l = (ss : List (List ℕ)) → TellsTexts l.referred ss → Spec.unused ss (map lifted_view l.order) ≡ Spec.unused ss (map lifted_view (drop l.lifted-index l.order))

@@ -1,0 +1,10 @@
+use Rattle.std.proofs.Common.{◌≡◌, ℕ, Bool, List, [], ◌∷◌, ◌++◌, map, take, drop}
+use Rattle.cs_grammar.specs.View.{expr_view, exprs_view, field_view, fields_view, declaration_view, declarations_view, definition_view, name_view, file_view, condition_view, selector_view}
+use Rattle.std.specs.List.{list_any, flat_map}
+use Rattle.cs_grammar.specs.Tree.{body, defined_name, definitions}
+use Rattle.cs_names.specs.Checks.{TellsTexts, lifted_view}
+use Rattle.cs_names.specs.Joined as Spec
+use Rattle.cs_names.proofs.joins.has_label_twice.Given as goal
+
+abbrev pub invariant-loop-field : goal.invariant-loop-field
+invariant-loop-field l = (TellsTexts l.seen (Spec.labels (fields_view (take l.field-index l.fields)))) × (Spec.repeats [] (Spec.labels (fields_view l.fields)) ≡ Spec.repeats (Spec.labels (fields_view (take l.field-index l.fields))) (Spec.labels (fields_view (drop l.field-index l.fields))))

@@ -1,0 +1,10 @@
+use Rattle.std.proofs.Common.{◌≡◌, ℕ, Bool, List, [], ◌∷◌, ◌++◌, map, take, drop}
+use Rattle.cs_grammar.specs.View.{expr_view, exprs_view, field_view, fields_view, declaration_view, declarations_view, definition_view, name_view, file_view, condition_view, selector_view}
+use Rattle.std.specs.List.{list_any, flat_map}
+use Rattle.cs_grammar.specs.Tree.{body, defined_name, definitions}
+use Rattle.cs_names.specs.Checks.{TellsTexts, lifted_view}
+use Rattle.cs_names.specs.Joined as Spec
+use Rattle.cs_names.proofs.joins.have_bodies.Given as goal
+
+abbrev pub invariant-loop-file : goal.invariant-loop-file
+invariant-loop-file l = (TellsTexts l.seen (map defined_name (flat_map definitions (map file_view (take l.file-index l.files))))) × (Spec.repeats [] (map defined_name (flat_map definitions (map file_view l.files))) ≡ Spec.repeats (map defined_name (flat_map definitions (map file_view (take l.file-index l.files)))) (map defined_name (flat_map definitions (map file_view (drop l.file-index l.files)))))

@@ -1,0 +1,13 @@
+use Rattle.std.proofs.Common.{◌≡◌, ℕ, Bool, List, [], ◌∷◌, ◌++◌, map, take, drop}
+use Rattle.cs_grammar.specs.View.{expr_view, exprs_view, field_view, fields_view, declaration_view, declarations_view, definition_view, name_view, file_view, condition_view, selector_view}
+use Rattle.std.specs.List.{flat_map}
+use Rattle.std.proofs.Common.{◌+◌, ◌-◌}
+use Rattle.cs_grammar.specs.Tree.{DefinitionTree, definitions}
+use Rattle.cs_names.specs.Checks.{TellsLifts, TellsDefined, TellsScope}
+use Rattle.cs_names.specs.Lifted as Spec
+use Rattle.cs_names.specs.Lifted.{Lifts, is_taken, first_free, all_numbers}
+use Rattle.cs_names.specs.Scopes as M
+use Rattle.cs_names.proofs.lifting.Lifting.first_free.Given as goal
+
+abbrev pub invariant-loop-number : goal.invariant-loop-number
+invariant-loop-number l = (all : List DefinitionTree) (ts : Lifts) → TellsLifts l.self all ts → first_free (is_taken all ts) l.wanted 1 all_numbers ≡ first_free (is_taken all ts) l.wanted l.number (all_numbers + 1 - l.number)

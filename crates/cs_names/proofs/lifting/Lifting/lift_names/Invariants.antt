@@ -1,0 +1,12 @@
+use Rattle.std.proofs.Common.{◌≡◌, ℕ, Bool, List, [], ◌∷◌, ◌++◌, map, take, drop}
+use Rattle.cs_grammar.specs.View.{expr_view, exprs_view, field_view, fields_view, declaration_view, declarations_view, definition_view, name_view, file_view, condition_view, selector_view}
+use Rattle.std.specs.List.{flat_map}
+use Rattle.cs_grammar.specs.Tree.{DefinitionTree, definitions}
+use Rattle.cs_names.specs.Checks.{TellsLifts, TellsDefined, TellsScope}
+use Rattle.cs_names.specs.Lifted as Spec
+use Rattle.cs_names.specs.Lifted.{Lifts, is_taken, first_free, all_numbers}
+use Rattle.cs_names.specs.Scopes as M
+use Rattle.cs_names.proofs.lifting.Lifting.lift_names.Given as goal
+
+abbrev pub invariant-loop-file : goal.invariant-loop-file
+invariant-loop-file l = (all : List DefinitionTree) (ts : Lifts) (every : M.Scope) → TellsLifts l.initial.self all ts → TellsScope l.shared every → TellsLifts l.self all (Spec.lift_names all every 0 (map file_view (take l.file l.files)) ts)

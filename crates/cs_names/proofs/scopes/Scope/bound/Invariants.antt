@@ -1,0 +1,9 @@
+use Rattle.std.proofs.Common.{◌≡◌, ℕ, Bool, List, [], ◌∷◌, ◌++◌, map, take, drop}
+use Rattle.cs_grammar.specs.View.{expr_view, exprs_view, field_view, fields_view, declaration_view, declarations_view, definition_view, name_view, file_view, condition_view, selector_view}
+use Rattle.cs_names.specs.Checks.{TellsScope, TellScopes}
+use Rattle.cs_names.specs.Scopes as M
+use Rattle.cs_names.specs.Scopes.{scope_of_fields, scope_of_declarations, bound_scope, open_scope, shared_from, denoted}
+use Rattle.cs_names.proofs.scopes.Scope.bound.Given as goal
+
+abbrev pub invariant-loop-name : goal.invariant-loop-name
+invariant-loop-name l = TellsScope l.scope (bound_scope l.file (map name_view (take l.name-index l.names)))

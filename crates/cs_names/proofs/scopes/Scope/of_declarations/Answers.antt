@@ -1,0 +1,23 @@
+use Rattle.std.proofs.Common.{rules, ◌≡◌, ℕ, suc, ◌+◌, Bool, true, false, ◌||◌, List, [], ◌∷◌, ◌++◌, Option, Some, None, map, take, drop, refl, sym, ap, ap₂, ◌∙◌, subst, append_assoc, string_bytes, arith}
+use Rattle.std.proofs.lemmas.List.{take_all, append-nil, map-append}
+use Rattle.std.specs.List.{list_any, flat_map}
+use Rattle.cs_grammar.specs.declared.ast.Expr as Exprs
+use Rattle.cs_grammar.specs.Tree.{DefinitionTree, body, definitions, defined_name}
+use Rattle.cs_grammar.specs.View.{expr_view, exprs_view, field_view, fields_view, declaration_view, declarations_view, definition_view, name_view, file_view, end_view, wide_view}
+use Rattle.cs_names.proofs.Folds.{folded_more, counted_more, gathered_more, numbered_more}
+use Rattle.cs_names.specs.Checks.{TellsScope, declared_seen}
+use Rattle.cs_names.specs.Scopes.{scope_of_fields, scope_of_declarations, declared_by, bound_scope, open_scope, shared_from}
+use Rattle.cs_names.proofs.Parts.{scope_field_parts, scope_parts}
+use Rattle.cs_grammar.specs.Tree.{names}
+use Rattle.cs_names.proofs.scopes.Scope.of_declarations.Goals as goal
+
+pub loop-declaration-preserved : goal.loop-declaration-preserved
+loop-declaration-preserved c =
+    let xs = c.args.declarations.now in
+    let i = c.loop-declaration.declaration-index in
+    let more = gathered_more (λ ys. scope_of_declarations c.args.file (declarations_view ys)) (λ y. declared_seen c.args.file (declaration_view y)) refl (scope_parts c.args.file) xs i c.declaration-item.result c.loop-declaration-test.true c.declaration-item.is in
+    subst (TellsScope c.add_declaration.new.self) (sym more) (c.in_ok-add_declaration.ensures (scope_of_declarations c.args.file (declarations_view (take i xs))) c.loop-declaration.invariant)
+
+pub returns : goal.returns
+returns c =
+    subst (λ ys. TellsScope c.loop-declaration.scope (scope_of_declarations c.args.file (declarations_view ys))) (take_all c.loop-declaration.declaration-index (c.args.declarations.now) c.loop-declaration-test.false) c.loop-declaration.invariant

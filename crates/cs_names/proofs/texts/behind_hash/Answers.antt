@@ -1,0 +1,10 @@
+use Rattle.std.proofs.Common.{Some, None, arith}
+use Rattle.std.proofs.lemmas.Str.Pattern.{strip_prefix_char}
+use Rattle.cs_names.proofs.Spelled.{stripped, unstripped}
+use Rattle.cs_names.proofs.texts.behind_hash.Goals as goal
+
+pub returns-in-Some : goal.returns-in-Some
+returns-in-Some c = stripped 35 c.args.name.now c.in-Some.behind.now (strip_prefix_char 35 c.args.name.now (Some c.in-Some.behind) c.in-Some.ensures.cases (omega arith))
+
+pub returns-in-None : goal.returns-in-None
+returns-in-None c = unstripped 35 c.args.name.now (strip_prefix_char 35 c.args.name.now None c.in-None.ensures.cases (omega arith))

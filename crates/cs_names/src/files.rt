@@ -1,0 +1,33 @@
+// What files stand for without names.
+ghost use Rattle.std.specs.Prelude.{◌≡◌, [], map, IfOk, IfErr, IsOkUnless};
+ghost use Rattle.cs_grammar.specs.View.{file_view};
+ghost use Rattle.cs_names.specs.Names.{AreNamed, IsRefusal, name_faults};
+
+use crate::NameFault;
+use crate::flaws::check_files;
+use crate::inside::named_files;
+use crate::joined::check_named;
+use crate::lifting::Lifting;
+use crate::scopes::Scope;
+use cs_grammar::File;
+use std::alloc::Global;
+
+/// The files that files of the wide profile stand for, each at its place: each name of a scope is a definition of its own, and what names it refers to
+/// that (CUE, declarations and scopes, definitions and hidden fields, let clauses). Conditions, embeddings and marks of defaults stay.
+///
+/// # Errors
+/// `LeftOut` or `UnknownName` with the first name or selector at fault by itself, by file and then by text; `UnknownName` with the first `let` that
+/// nothing names; `Redeclared` with the first name that a literal declares again. `OutOfMemory`.
+pub fn without_names(alloc: Global, files: &[File]) -> Result<Vec<File>, NameFault>
+    ensures found { IfOk result (λ v. AreNamed (map file_view files.now) (map file_view v.items)) }
+    ensures refused { IfErr result (λ e. IsRefusal e (map file_view files.now)) }
+    ensures only { name_faults (map file_view files.now) ≡ []
+        → IsOkUnless result NameFault.OutOfMemory }
+{
+    let shared = Scope::shared(alloc, files)?;
+    let lifting = Lifting::of(alloc, &shared, files)?;
+    check_files(&lifting, &shared, files)?;
+    let named = named_files(&lifting, &shared, files)?;
+    check_named(&lifting, &named)?;
+    Ok(named)
+}

@@ -1,0 +1,34 @@
+// Laws of the definitions, whatever files there are.
+ghost use Rattle.std.specs.Prelude.{◌≡◌, ℕ, false, List, Some, map};
+ghost use Rattle.std.specs.List.{AllByRecursion};
+ghost use Rattle.cs_grammar.specs.Bodies.{bodies};
+ghost use Rattle.cs_grammar.specs.Namable.{IsNamableFile};
+ghost use Rattle.cs_grammar.specs.Tree.{FileTree};
+ghost use Rattle.cs_grammar.specs.Written.{IsWrittenFile};
+ghost use Rattle.cs_names.specs.Having.{have_names};
+ghost use Rattle.cs_names.specs.Lifted.{lifts, known, all_definitions};
+ghost use Rattle.cs_names.specs.Named.{resolved};
+ghost use Rattle.cs_names.specs.Names.{AreNamed};
+ghost use Rattle.cs_names.specs.Reading.{values_at};
+ghost use Rattle.cs_names.specs.Scopes.{Place};
+
+/// A law: files without names stand for themselves.
+pub fn files_without_names_stay()
+    ensures { (fs : List FileTree) → have_names fs ≡ false → AreNamed fs fs }
+{}
+
+/// A law: in files that can be written down without names is none.
+pub fn written_files_have_no_names()
+    ensures { (fs : List FileTree) → AllByRecursion IsWrittenFile fs → have_names fs ≡ false }
+{}
+
+/// A law: what can be written down with names can be written down without them.
+pub fn named_files_can_be_written()
+    ensures { (fs gs : List FileTree) → AreNamed fs gs → AllByRecursion IsNamableFile fs → AllByRecursion IsWrittenFile gs }
+{}
+
+/// A law: the definition that a name is lifted by has just the values that are declared at its place, each as it is in its scopes without names.
+pub fn lifted_definitions_are_read_directly()
+    ensures { (fs gs : List FileTree) (p : Place) (s : List ℕ) → AreNamed fs gs → known (lifts fs) p ≡ Some s
+        → bodies s (all_definitions gs) ≡ map (λ v. resolved (known (lifts fs)) v.file v.scopes v.value) (values_at p fs) }
+{}

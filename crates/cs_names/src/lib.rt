@@ -1,0 +1,23 @@
+// Files without names: what each scope declares, by which definitions names are lifted, what the files stand for, and which names are at fault.
+#![tactic(auto)]
+
+mod fault;
+mod files;
+mod flaws;
+mod having;
+mod inside;
+mod joined;
+mod joins;
+mod laws;
+mod lift;
+mod lifting;
+mod references;
+mod resolved;
+mod scopes;
+mod texts;
+
+pub use cs_grammar::File;
+pub use fault::NameFault;
+pub use files::without_names;
+pub use having::have_names;
+pub use laws::{files_without_names_stay, named_files_can_be_written, written_files_have_no_names};

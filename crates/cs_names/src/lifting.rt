@@ -1,0 +1,241 @@
+// What is lifted: the definitions of names, by where these are declared.
+ghost use Rattle.std.specs.Prelude.{◌≡◌, ◌++◌, List, [], ◌∷◌, Some, None, false, map, IfOk, OnOk, option_map, string_bytes};
+ghost use Rattle.std.specs.List.{flat_map};
+ghost use Rattle.cs_grammar.specs.Tree.{DefinitionTree, definitions};
+ghost use Rattle.cs_grammar.specs.View.{definition_view, name_view, file_view};
+ghost use Rattle.cs_names.specs.Checks.{TellsLifts, TellsDefined};
+ghost use Rattle.cs_names.specs.Lifted as Spec;
+ghost use Rattle.cs_names.specs.Lifted.{Lifts, free, first_free, all_numbers, with_lifted, lift_own, lift_top, origin_of, known, all_definitions};
+
+use crate::texts::{inner_name, is_marked, numbered, top_name};
+use cs_grammar::{Definition, File, Name};
+use std::alloc::{AllocError, Global};
+use std::collections::{BTreeMap, BTreeSet};
+
+/// What declares a name: a file, `let`, or a literal.
+#[derive(Clone, Copy)]
+pub enum Origin {
+    File,
+    Let,
+    Literal,
+}
+
+/// A name that is lifted.
+#[derive(Drop)]
+pub(crate) struct Lifted<'a> {
+    /// The number of the file, and the offset, of its first declaration in its scope.
+    pub(crate) place: (usize, usize),
+    pub(crate) text: &'a str,
+    /// The name of its definition.
+    pub(crate) name: String,
+    pub(crate) origin: Origin,
+}
+
+/// What is lifted.
+#[derive(Drop)]
+pub(crate) struct Lifting<'a> {
+    pub(crate) alloc: Global,
+    /// The definitions of the files.
+    defined: BTreeSet<&'a str>,
+    /// The names of the definitions that are lifted.
+    names: BTreeSet<String>,
+    /// The same by where the names are declared.
+    known: BTreeMap<(usize, usize), String>,
+    /// All of it, in order.
+    pub(crate) order: Vec<Lifted<'a>>,
+}
+
+/// What declares a name of a literal.
+fn origin_of(name: &str) -> Origin
+    ensures { result ≡ origin_of name.now }
+{
+    if is_marked(name) {
+        Origin::Literal
+    } else {
+        Origin::Let
+    }
+}
+
+/// What declares a name of a file.
+fn top_origin(name: &Name) -> Origin
+    ensures { result ≡ Spec.top_origin (name_view name.now) }
+{
+    if name.is_bound {
+        Origin::Let
+    } else {
+        Origin::File
+    }
+}
+
+/// Adds the names of definitions.
+fn add_defined<'a>(
+    defined: &mut BTreeSet<&'a str>,
+    definitions: &'a Vec<Definition>,
+) -> Result<(), AllocError>
+    ensures { OnOk result ((ds : List DefinitionTree) → TellsDefined defined.old ds
+        → TellsDefined defined.new (ds ++ map definition_view definitions.now.items)) }
+{
+    for definition in definitions {
+        defined.insert(definition.name.as_str())?;
+    }
+    Ok(())
+}
+
+/// The names of the definitions of files.
+fn defined_in<'a>(alloc: Global, files: &'a [File]) -> Result<BTreeSet<&'a str>, AllocError>
+    ensures { IfOk result (λ d. TellsDefined d (flat_map definitions (map file_view files.now))) }
+{
+    let mut defined = BTreeSet::new(alloc);
+    for file in files {
+        add_defined(&mut defined, &file.definitions)?;
+    }
+    Ok(defined)
+}
+
+impl<'a> Lifting<'a> {
+    /// Nothing, beside the definitions of the files.
+    pub(crate) fn new(alloc: Global, files: &'a [File]) -> Result<Lifting<'a>, AllocError>
+        ensures { IfOk result (λ l. TellsLifts l (all_definitions (map file_view files.now)) []) }
+    {
+        Ok(Lifting {
+            alloc,
+            defined: defined_in(alloc, files)?,
+            names: BTreeSet::new(alloc),
+            known: BTreeMap::new(alloc),
+            order: Vec::new(alloc),
+        })
+    }
+
+    /// Whether a definition that is lifted has that name.
+    pub(crate) fn is_lifted(&self, name: &str) -> bool
+        ensures { (all : List DefinitionTree) (ts : Lifts) → TellsLifts self.now all ts → result ≡ Spec.is_lifted ts name.now }
+    {
+        self.names.contains(name)
+    }
+
+    /// Whether any definition has it.
+    fn is_taken(&self, name: &str) -> bool
+        ensures { (all : List DefinitionTree) (ts : Lifts) → TellsLifts self.now all ts → result ≡ Spec.is_taken all ts name.now }
+    {
+        self.defined.contains(name) || self.names.contains(name)
+    }
+
+    /// The name of the definition of what is declared at a place.
+    pub(crate) fn known(&self, place: (usize, usize)) -> Option<&str>
+        ensures { (all : List DefinitionTree) (ts : Lifts) → TellsLifts self.now all ts → option_map (λ n. n.now) result ≡ known ts place }
+    {
+        match self.known.get(&place) {
+            Some(name) => Some(name.as_str()),
+            None => None,
+        }
+    }
+
+    /// The name with the first number that makes it free. If there were none, there would be no memory for it either.
+    fn first_free(&self, wanted: &str) -> Result<String, AllocError>
+        ensures found { (all : List DefinitionTree) (ts : Lifts) → TellsLifts self.now all ts
+            → IfOk result (λ s. string_bytes s ≡ first_free (Spec.is_taken all ts) wanted.now 1 all_numbers) }
+        ensures apart { (all : List DefinitionTree) (ts : Lifts) → TellsLifts self.now all ts
+            → IfOk result (λ s. Spec.is_taken all ts (string_bytes s) ≡ false) }
+    {
+        for number in 1..usize::MAX {
+            let name = numbered(self.alloc, wanted, number)?;
+            if !self.is_taken(&name) {
+                return Ok(name);
+            }
+        }
+        Err(AllocError)
+    }
+
+    /// The name, with a number behind it where it is taken.
+    fn free(&self, wanted: String) -> Result<String, AllocError>
+        ensures found { (all : List DefinitionTree) (ts : Lifts) → TellsLifts self.now all ts
+            → IfOk result (λ s. string_bytes s ≡ free (Spec.is_taken all ts) (string_bytes wanted)) }
+        ensures apart { (all : List DefinitionTree) (ts : Lifts) → TellsLifts self.now all ts
+            → IfOk result (λ s. Spec.is_taken all ts (string_bytes s) ≡ false) }
+    {
+        if self.is_taken(&wanted) {
+            self.first_free(&wanted)
+        } else {
+            Ok(wanted)
+        }
+    }
+
+    /// Adds what is declared at a place for the first time.
+    fn add(
+        &mut self,
+        place: (usize, usize),
+        text: &'a str,
+        name: String,
+        origin: Origin,
+    ) -> Result<(), AllocError>
+        ensures { OnOk result ((all : List DefinitionTree) (ts : Lifts) → TellsLifts self.old all ts → known ts place ≡ None
+            → Spec.is_taken all ts (string_bytes name) ≡ false
+            → TellsLifts self.new all (ts ++ record { place = place; text = text.now; name = string_bytes name; origin = origin } ∷ [])) }
+    {
+        self.names.insert(name.clone()?)?;
+        self.known.insert(place, name.clone()?)?;
+        self.order.push(Lifted {
+            place,
+            text,
+            name,
+            origin,
+        })?;
+        Ok(())
+    }
+
+    /// Adds what is declared at a place, if it isn't there already.
+    fn lift(
+        &mut self,
+        place: (usize, usize),
+        text: &'a str,
+        wanted: String,
+        origin: Origin,
+    ) -> Result<(), AllocError>
+        ensures { OnOk result ((all : List DefinitionTree) (ts : Lifts) → TellsLifts self.old all ts
+            → TellsLifts self.new all (with_lifted all ts place text.now (string_bytes wanted) origin)) }
+    {
+        if self.known.contains_key(&place) {
+            return Ok(());
+        }
+        let name = self.free(wanted)?;
+        self.add(place, text, name, origin)
+    }
+
+    /// Adds the name of a literal that is declared at a place, inside of a definition.
+    pub(crate) fn lift_own(
+        &mut self,
+        outer: &str,
+        place: (usize, usize),
+        name: &'a str,
+    ) -> Result<(), AllocError>
+        ensures { OnOk result ((all : List DefinitionTree) (ts : Lifts) → TellsLifts self.old all ts
+            → TellsLifts self.new all (lift_own all outer.now (Some place) name.now ts)) }
+    {
+        let wanted = inner_name(self.alloc, outer, name)?;
+        self.lift(place, name, wanted, origin_of(name))
+    }
+
+    /// Adds a name of a file that is declared at a place.
+    pub(crate) fn lift_top(
+        &mut self,
+        place: (usize, usize),
+        name: &'a Name,
+    ) -> Result<(), AllocError>
+        ensures { OnOk result ((all : List DefinitionTree) (ts : Lifts) → TellsLifts self.old all ts
+            → TellsLifts self.new all (lift_top all (Some place) (name_view name.now) ts)) }
+    {
+        let wanted = top_name(self.alloc, &name.label)?;
+        self.lift(place, &name.label, wanted, top_origin(name))
+    }
+
+    /// The definition inside of which the value of a name stands, or else another one.
+    pub(crate) fn within(&self, place: (usize, usize), outer: &str) -> Result<String, AllocError>
+        ensures { (all : List DefinitionTree) (ts : Lifts) → TellsLifts self.now all ts
+            → IfOk result (λ s. string_bytes s ≡ Spec.within ts outer.now (Some place)) }
+    {
+        match self.known(place) {
+            Some(name) => String::from_str(self.alloc, name),
+            None => String::from_str(self.alloc, outer),
+        }
+    }
+}

@@ -1,0 +1,399 @@
+// Expressions in which each name is the reference to the definition that it is lifted by.
+ghost use Rattle.std.specs.Prelude.{◌≡◌, List, ◌∷◌, map, IfOk, option_map, string_bytes};
+ghost use Rattle.cs_grammar.specs.Tree.{DefinitionTree, named, reference};
+ghost use Rattle.cs_grammar.specs.View.{expr_view, exprs_view, field_view, fields_view, declaration_view, declarations_view, condition_view, selector_view, test_view, end_view, wide_view};
+ghost use Rattle.cs_names.specs.Checks.{TellsLifts, TellsScope, TellScopes, resolved_field_seen, resolved_seen, is_scoped_seen};
+ghost use Rattle.cs_names.specs.Lifted.{Lifts, known};
+ghost use Rattle.cs_names.specs.Named as Spec;
+ghost use Rattle.cs_names.specs.Named.{refer};
+ghost use Rattle.cs_names.specs.Scopes as Scopes;
+
+use crate::lifting::Lifting;
+use crate::scopes::{Around, Scope, denoted};
+use crate::texts::with_mark;
+use cs_grammar::{
+    Condition, Declaration, Expr, Field, ListEnd, Scalar, Selector, Test, Wide, atom,
+};
+use std::alloc::{AllocError, Global};
+
+/// Resolves the names of a file.
+#[derive(Clone, Copy)]
+pub(crate) struct Naming<'l, 'a> {
+    pub(crate) alloc: Global,
+    pub(crate) lifting: &'l Lifting<'a>,
+    pub(crate) file: usize,
+}
+
+/// The same test.
+fn copy_test(test: &Test) -> Result<Test, AllocError>
+    ensures { IfOk result (λ t. test_view t ≡ test_view test.now) }
+{
+    match test {
+        Test::Present => Ok(Test::Present),
+        Test::True => Ok(Test::True),
+        Test::Equals(Scalar::Null) => Ok(Test::Equals(Scalar::Null)),
+        Test::Equals(Scalar::Bool(truth)) => Ok(Test::Equals(Scalar::Bool(*truth))),
+        Test::Equals(Scalar::Int(integer)) => Ok(Test::Equals(Scalar::Int(*integer))),
+        Test::Equals(Scalar::Text(text)) => Ok(Test::Equals(Scalar::Text(text.clone()?))),
+        Test::Compares { relation, limit } => Ok(Test::Compares {
+            relation: *relation,
+            limit: *limit,
+        }),
+    }
+}
+
+/// The same condition.
+fn copy_condition(condition: &Condition) -> Result<Condition, AllocError>
+    ensures { IfOk result (λ c. condition_view c ≡ condition_view condition.now) }
+{
+    let label = condition.label.clone()?;
+    Ok(Condition {
+        label,
+        at: condition.at,
+        test: copy_test(&condition.test)?,
+        is_met: condition.is_met,
+    })
+}
+
+/// The same conditions.
+fn copy_conditions(alloc: Global, conditions: &[Condition]) -> Result<Vec<Condition>, AllocError>
+    ensures { IfOk result (λ v. map condition_view v.items ≡ map condition_view conditions.now) }
+{
+    let mut copied = Vec::with_capacity(alloc, conditions.len())?;
+    for condition in conditions {
+        copied.push(copy_condition(condition)?)?;
+    }
+    Ok(copied)
+}
+
+/// The same selectors.
+fn copy_selectors(alloc: Global, selectors: &[Selector]) -> Result<Vec<Selector>, AllocError>
+    ensures { IfOk result (λ v. map selector_view v.items ≡ map selector_view selectors.now) }
+{
+    let mut copied = Vec::with_capacity(alloc, selectors.len())?;
+    for selector in selectors {
+        copied.push(Selector {
+            label: selector.label.clone()?,
+            quoted: selector.quoted,
+            at: selector.at,
+        })?;
+    }
+    Ok(copied)
+}
+
+impl<'l, 'a> Naming<'l, 'a> {
+    /// The definition that a name stands for in these scopes.
+    pub(crate) fn meant(&self, scopes: &[Around<'_, 'a>], name: &str) -> Option<&'l str>
+        ensures { (all : List DefinitionTree) (ts : Lifts) (ss : List Scopes.Scope) → TellsLifts self.now.lifting.now all ts → TellScopes scopes.now ss
+            → option_map (λ n. n.now) result ≡ Spec.meant (known ts) ss name.now }
+    {
+        match denoted(scopes, name) {
+            Some(place) => self.lifting.known(place),
+            None => None,
+        }
+    }
+
+    /// The same of the name of a definition, without its `#`.
+    pub(crate) fn meant_marked(
+        &self,
+        scopes: &[Around<'_, 'a>],
+        name: &str,
+    ) -> Result<Option<&'l str>, AllocError>
+        ensures { (all : List DefinitionTree) (ts : Lifts) (ss : List Scopes.Scope) → TellsLifts self.now.lifting.now all ts → TellScopes scopes.now ss
+            → IfOk result (λ r. option_map (λ n. n.now) r ≡ Spec.meant (known ts) ss (35 ∷ name.now)) }
+    {
+        let marked = with_mark(self.alloc, name)?;
+        Ok(self.meant(scopes, &marked))
+    }
+
+    /// A name, or the reference to the definition that it stands for.
+    fn name(&self, scopes: &[Around<'_, 'a>], text: &String, at: usize) -> Result<Expr, AllocError>
+        ensures { (all : List DefinitionTree) (ts : Lifts) (ss : List Scopes.Scope) → TellsLifts self.now.lifting.now all ts → TellScopes scopes.now ss
+            → IfOk result (λ e. expr_view e ≡ refer (Spec.meant (known ts) ss (string_bytes text.now)) at (named (string_bytes text.now) at)) }
+    {
+        match self.meant(scopes, text) {
+            Some(definition) => {
+                let text = String::from_str(self.alloc, definition)?;
+                Ok(Expr::Reference { text, at })
+            }
+            None => {
+                let text = text.clone()?;
+                Ok(Expr::Name { text, at })
+            }
+        }
+    }
+
+    /// A reference to a definition of a file, or to one that is declared in a literal around it.
+    fn reference(
+        &self,
+        scopes: &[Around<'_, 'a>],
+        text: &String,
+        at: usize,
+    ) -> Result<Expr, AllocError>
+        ensures { (all : List DefinitionTree) (ts : Lifts) (ss : List Scopes.Scope) → TellsLifts self.now.lifting.now all ts → TellScopes scopes.now ss
+            → IfOk result (λ e. expr_view e ≡ refer (Spec.meant (known ts) ss (35 ∷ string_bytes text.now)) at (reference (string_bytes text.now) at)) }
+    {
+        let text = match self.meant_marked(scopes, text)? {
+            Some(definition) => String::from_str(self.alloc, definition)?,
+            None => text.clone()?,
+        };
+        Ok(Expr::Reference { text, at })
+    }
+
+    /// The expression in these scopes, without names.
+    #[cycle(resolve)]
+    pub(crate) fn resolved(
+        &self,
+        scopes: &[Around<'_, 'a>],
+        expr: &'a Expr,
+    ) -> Result<Expr, AllocError>
+        ensures { (all : List DefinitionTree) (ts : Lifts) (ss : List Scopes.Scope) → TellsLifts self.now.lifting.now all ts → TellScopes scopes.now ss
+            → IfOk result (λ e. expr_view e ≡ Spec.resolved (known ts) self.now.file ss (expr_view expr.now)) }
+    {
+        match expr {
+            Expr::And(operands) => Ok(Expr::And(self.resolved_each(scopes, operands)?)),
+            Expr::Or(operands) => Ok(Expr::Or(self.resolved_each(scopes, operands)?)),
+            Expr::Paren(inside) => {
+                let inside = self.resolved(scopes, inside)?;
+                Ok(Expr::Paren(Box::new(self.alloc, inside)?))
+            }
+            Expr::Struct { at, fields, opened } => {
+                let (at, opened) = (*at, *opened);
+                let own = Scope::of_fields(self.alloc, self.file, fields)?;
+                let fields = self.resolved_fields(&own, scopes, fields)?;
+                Ok(Expr::Struct { at, fields, opened })
+            }
+            Expr::List { front, end } => {
+                let front = self.resolved_each(scopes, front)?;
+                let end = self.resolved_end(scopes, end)?;
+                Ok(Expr::List { front, end })
+            }
+            Expr::Wide(form) => Ok(Expr::Wide(self.resolved_wide(scopes, form)?)),
+            atom!() => expr.copy_atom(),
+            Expr::Name { text, at } => self.name(scopes, text, *at),
+            Expr::Reference { text, at } => self.reference(scopes, text, *at),
+        }
+    }
+
+    #[cycle(resolve)]
+    fn resolved_wide(&self, scopes: &[Around<'_, 'a>], form: &'a Wide) -> Result<Wide, AllocError>
+        ensures { (all : List DefinitionTree) (ts : Lifts) (ss : List Scopes.Scope) → TellsLifts self.now.lifting.now all ts → TellScopes scopes.now ss
+            → IfOk result (λ w. wide_view w ≡ Spec.resolved_wide (known ts) self.now.file ss (wide_view form.now)) }
+    {
+        match form {
+            Wide::Marked { at, value } => {
+                let at = *at;
+                let value = self.resolved(scopes, value)?;
+                let value = Box::new(self.alloc, value)?;
+                Ok(Wide::Marked { at, value })
+            }
+            Wide::Merged {
+                at,
+                declarations,
+                opened,
+            } => {
+                let (at, opened) = (*at, *opened);
+                let own = Scope::of_declarations(self.alloc, self.file, declarations)?;
+                let declarations = self.resolved_declarations(&own, scopes, declarations)?;
+                Ok(Wide::Merged {
+                    at,
+                    declarations,
+                    opened,
+                })
+            }
+            Wide::Shut { at, value } => {
+                let at = *at;
+                let value = self.resolved(scopes, value)?;
+                let value = Box::new(self.alloc, value)?;
+                Ok(Wide::Shut { at, value })
+            }
+            Wide::Selected { at, name, labels } => {
+                let at = *at;
+                let name = name.clone()?;
+                let labels = copy_selectors(self.alloc, labels)?;
+                Ok(Wide::Selected { at, name, labels })
+            }
+        }
+    }
+
+    #[cycle(resolve)]
+    fn resolved_each(
+        &self,
+        scopes: &[Around<'_, 'a>],
+        exprs: &'a [Expr],
+    ) -> Result<Vec<Expr>, AllocError>
+        ensures { (all : List DefinitionTree) (ts : Lifts) (ss : List Scopes.Scope) → TellsLifts self.now.lifting.now all ts → TellScopes scopes.now ss
+            → IfOk result (λ v. exprs_view v.items ≡ Spec.resolved_each (known ts) self.now.file ss (exprs_view exprs.now)) }
+    {
+        let mut resolved = Vec::with_capacity(self.alloc, exprs.len())?;
+        for expr in exprs {
+            resolved.push(self.resolved(scopes, expr)?)?;
+        }
+        Ok(resolved)
+    }
+
+    /// Some fields of a literal of which this is the scope, without those that are names.
+    #[cycle(resolve)]
+    fn resolved_fields(
+        &self,
+        own: &Scope<'a>,
+        outside: &[Around<'_, 'a>],
+        fields: &'a [Field],
+    ) -> Result<Vec<Field>, AllocError>
+        ensures { (all : List DefinitionTree) (ts : Lifts) (scope : Scopes.Scope) (ss : List Scopes.Scope) → TellsLifts self.now.lifting.now all ts
+            → TellsScope own.now scope → TellScopes outside.now ss
+            → IfOk result (λ v. fields_view v.items ≡ Spec.resolved_fields (known ts) self.now.file scope ss (fields_view fields.now)) }
+    {
+        let mut resolved = Vec::new(self.alloc);
+        for field in fields {
+            if field.scoped.is_none() {
+                resolved.push(self.resolved_field(own, outside, field)?)?;
+            }
+        }
+        Ok(resolved)
+    }
+
+    #[cycle(resolve)]
+    fn resolved_field(
+        &self,
+        own: &Scope<'a>,
+        outside: &[Around<'_, 'a>],
+        field: &'a Field,
+    ) -> Result<Field, AllocError>
+        ensures { (all : List DefinitionTree) (ts : Lifts) (scope : Scopes.Scope) (ss : List Scopes.Scope) → TellsLifts self.now.lifting.now all ts
+            → TellsScope own.now scope → TellScopes outside.now ss
+            → IfOk result (λ f. field_view f ≡ resolved_field_seen (known ts) self.now.file scope ss (field_view field.now)) }
+    {
+        let value = self.resolved_value(own, outside, field)?;
+        let label = field.label.clone()?;
+        Ok(Field {
+            label,
+            quoted: field.quoted,
+            asked: field.asked,
+            scoped: field.scoped,
+            mark: field.mark,
+            value,
+            site: field.site.copy()?,
+        })
+    }
+
+    /// The value of a field, in the scope of its literal and others.
+    #[cycle(resolve)]
+    pub(crate) fn resolved_value(
+        &self,
+        own: &Scope<'a>,
+        outside: &[Around<'_, 'a>],
+        field: &'a Field,
+    ) -> Result<Expr, AllocError>
+        ensures { (all : List DefinitionTree) (ts : Lifts) (scope : Scopes.Scope) (ss : List Scopes.Scope) → TellsLifts self.now.lifting.now all ts
+            → TellsScope own.now scope → TellScopes outside.now ss
+            → IfOk result (λ e. expr_view e ≡ (resolved_field_seen (known ts) self.now.file scope ss (field_view field.now)).value) }
+    {
+        let scopes = Around::of_value(&*own, &*field).and(self.alloc, &*outside)?;
+        self.resolved(&scopes, &field.value)
+    }
+
+    #[cycle(resolve)]
+    fn resolved_declarations(
+        &self,
+        own: &Scope<'a>,
+        outside: &[Around<'_, 'a>],
+        declarations: &'a [Declaration],
+    ) -> Result<Vec<Declaration>, AllocError>
+        ensures { (all : List DefinitionTree) (ts : Lifts) (scope : Scopes.Scope) (ss : List Scopes.Scope) → TellsLifts self.now.lifting.now all ts
+            → TellsScope own.now scope → TellScopes outside.now ss
+            → IfOk result (λ v. declarations_view v.items
+            ≡ Spec.resolved_declarations (known ts) self.now.file scope ss (declarations_view declarations.now)) }
+    {
+        let mut resolved = Vec::new(self.alloc);
+        for declaration in declarations {
+            if !is_scoped(declaration) {
+                resolved.push(self.resolved_declaration(own, outside, declaration)?)?;
+            }
+        }
+        Ok(resolved)
+    }
+
+    #[cycle(resolve)]
+    fn resolved_declaration(
+        &self,
+        own: &Scope<'a>,
+        outside: &[Around<'_, 'a>],
+        declaration: &'a Declaration,
+    ) -> Result<Declaration, AllocError>
+        ensures { (all : List DefinitionTree) (ts : Lifts) (scope : Scopes.Scope) (ss : List Scopes.Scope) → TellsLifts self.now.lifting.now all ts
+            → TellsScope own.now scope → TellScopes outside.now ss
+            → IfOk result (λ d. declaration_view d ≡ resolved_seen (known ts) self.now.file scope ss (declaration_view declaration.now)) }
+    {
+        match declaration {
+            Declaration::Field(field) => {
+                let field = self.resolved_field(own, outside, field)?;
+                Ok(Declaration::Field(field))
+            }
+            Declaration::Embedded { at, value } => {
+                let at = *at;
+                let value = self.resolved_inside(own, outside, value)?;
+                Ok(Declaration::Embedded { at, value })
+            }
+            Declaration::Conditional {
+                at,
+                conditions,
+                value,
+            } => {
+                let at = *at;
+                let conditions = copy_conditions(self.alloc, conditions)?;
+                let value = self.resolved_inside(own, outside, value)?;
+                Ok(Declaration::Conditional {
+                    at,
+                    conditions,
+                    value,
+                })
+            }
+        }
+    }
+
+    /// An expression in all of the scope of a literal and others.
+    #[cycle(resolve)]
+    fn resolved_inside(
+        &self,
+        own: &Scope<'a>,
+        outside: &[Around<'_, 'a>],
+        expr: &'a Expr,
+    ) -> Result<Expr, AllocError>
+        ensures { (all : List DefinitionTree) (ts : Lifts) (scope : Scopes.Scope) (ss : List Scopes.Scope) → TellsLifts self.now.lifting.now all ts
+            → TellsScope own.now scope → TellScopes outside.now ss
+            → IfOk result (λ e. expr_view e ≡ Spec.resolved (known ts) self.now.file (scope ∷ ss) (expr_view expr.now)) }
+    {
+        let scopes = Around::whole(&*own).and(self.alloc, &*outside)?;
+        self.resolved(&scopes, expr)
+    }
+
+    #[cycle(resolve)]
+    fn resolved_end(
+        &self,
+        scopes: &[Around<'_, 'a>],
+        end: &'a ListEnd,
+    ) -> Result<ListEnd, AllocError>
+        ensures { (all : List DefinitionTree) (ts : Lifts) (ss : List Scopes.Scope) → TellsLifts self.now.lifting.now all ts → TellScopes scopes.now ss
+            → IfOk result (λ e. end_view e ≡ Spec.resolved_end (known ts) self.now.file ss (end_view end.now)) }
+    {
+        match end {
+            ListEnd::Closed => Ok(ListEnd::Closed),
+            ListEnd::Any => Ok(ListEnd::Any),
+            ListEnd::Each(each) => {
+                let each = self.resolved(scopes, each)?;
+                Ok(ListEnd::Each(Box::new(self.alloc, each)?))
+            }
+        }
+    }
+}
+
+/// Whether a declaration is one of a name, and none of the data.
+fn is_scoped(declaration: &Declaration) -> bool
+    ensures { result ≡ is_scoped_seen (declaration_view declaration.now) }
+{
+    match declaration {
+        Declaration::Field(field) => field.scoped.is_some(),
+        Declaration::Embedded { .. } | Declaration::Conditional { .. } => false,
+    }
+}
