@@ -12,7 +12,7 @@ use Rattle.cs_names.specs.declared.flaws.Flaw.TheVariants.{Unknown, Again}
 use Rattle.cs_names.specs.declared.lifting.Origin.{Origin}
 use Rattle.cs_names.specs.declared.lifting.Origin.TheVariants as origins
 
--- ---- what is referred to
+-- ---- what is referred to, and selected from
 
 abbrev mutual
   pub references : Tree → List (List ℕ)
@@ -30,7 +30,7 @@ abbrev mutual
   references_wide (marked o e) = references e
   references_wide (merged o ds b) = references_declarations ds
   references_wide (shut o e) = references e
-  references_wide (selected o s ls) = []
+  references_wide (selected o s ls) = s ∷ []
 
   pub references_each : Trees → List (List ℕ)
   references_each none = []

@@ -1,4 +1,4 @@
-// The definitions that expressions refer to.
+// The definitions that expressions refer to, and those that they select from.
 ghost use Rattle.std.specs.Prelude.{◌++◌, ℕ, List, map, IfOk, OnOk};
 ghost use Rattle.cs_grammar.specs.View.{expr_view, exprs_view, fields_view, declaration_view, declarations_view, end_view, wide_view, definition_view, file_view};
 ghost use Rattle.cs_names.specs.Checks.{TellsTexts, references_seen};
@@ -39,7 +39,10 @@ fn add_wide<'a>(found: &mut Texts<'a>, form: &'a Wide) -> Result<(), AllocError>
     match form {
         Wide::Marked { value, .. } | Wide::Shut { value, .. } => add_references(found, value),
         Wide::Merged { declarations, .. } => add_declarations(found, declarations),
-        Wide::Selected { .. } => Ok(()),
+        Wide::Selected { name, .. } => {
+            found.insert(name.as_str())?;
+            Ok(())
+        }
     }
 }
 
