@@ -15,7 +15,8 @@ pub enum NameFault {
     UnknownName { file: usize, offset: usize },
     /// The name at the offset, in the value of another name, stands for a field of a literal around it.
     NamesField { file: usize, offset: usize },
-    /// The name that a literal declares at the offset is declared by another literal too, and the files join literals.
+    /// The files join literals, and the name that is declared at the offset is declared by another literal too, or is no definition, holds a literal and is
+    /// named otherwise than as an embedding.
     Redeclared { file: usize, offset: usize },
 }
 

@@ -16,8 +16,9 @@ use std::alloc::Global;
 /// that (CUE, declarations and scopes, definitions and hidden fields, let clauses). Conditions, embeddings and marks of defaults stay.
 ///
 /// # Errors
-/// `LeftOut` or `UnknownName` with the first name or selector at fault by itself, by file and then by text; `UnknownName` with the first `let` that
-/// nothing names; `Redeclared` with the first name that a literal declares again. `OutOfMemory`.
+/// `LeftOut`, `UnknownName` or `NamesField` with the first name or selector at fault by itself, by file and then by text; `UnknownName` with the first
+/// `let` that nothing names; `Redeclared`, in files that join literals, with the first name that a literal declares again, or else the first that is no
+/// definition, holds a literal and is named otherwise than as an embedding. `OutOfMemory`.
 pub fn without_names(alloc: Global, files: &[File]) -> Result<Vec<File>, NameFault>
     ensures found { IfOk result (λ v. AreNamed (map file_view files.now) (map file_view v.items)) }
     ensures refused { IfErr result (λ e. IsRefusal e (map file_view files.now)) }
