@@ -1,7 +1,7 @@
 // Expressions in which each name is the reference to the definition that it is lifted by.
 ghost use Rattle.std.specs.Prelude.{◌≡◌, List, ◌∷◌, map, IfOk, option_map, string_bytes};
 ghost use Rattle.cs_grammar.specs.Tree.{DefinitionTree, named, reference};
-ghost use Rattle.cs_grammar.specs.View.{expr_view, exprs_view, field_view, fields_view, declaration_view, declarations_view, condition_view, selector_view, test_view, end_view, wide_view};
+ghost use Rattle.cs_grammar.specs.View.{expr_view, exprs_view, field_view, fields_view, declaration_view, declarations_view, condition_view, test_view, end_view, wide_view};
 ghost use Rattle.cs_names.specs.Checks.{TellsLifts, TellsScope, TellScopes, resolved_field_seen, resolved_seen, is_scoped_seen};
 ghost use Rattle.cs_names.specs.Lifted.{Lifts, known};
 ghost use Rattle.cs_names.specs.Named as Spec;
@@ -12,7 +12,7 @@ use crate::lifting::Lifting;
 use crate::scopes::{Around, Scope, denoted};
 use crate::texts::with_mark;
 use cs_grammar::{
-    Condition, Declaration, Expr, Field, ListEnd, Scalar, Selector, Test, Wide, atom,
+    Condition, Declaration, Expr, Field, ListEnd, Scalar, Test, Wide, atom, copied_selectors,
 };
 use std::alloc::{AllocError, Global};
 
@@ -62,21 +62,6 @@ fn copy_conditions(alloc: Global, conditions: &[Condition]) -> Result<Vec<Condit
     let mut copied = Vec::with_capacity(alloc, conditions.len())?;
     for condition in conditions {
         copied.push(copy_condition(condition)?)?;
-    }
-    Ok(copied)
-}
-
-/// The same selectors.
-fn copy_selectors(alloc: Global, selectors: &[Selector]) -> Result<Vec<Selector>, AllocError>
-    ensures { IfOk result (λ v. map selector_view v.items ≡ map selector_view selectors.now) }
-{
-    let mut copied = Vec::with_capacity(alloc, selectors.len())?;
-    for selector in selectors {
-        copied.push(Selector {
-            label: selector.label.clone()?,
-            quoted: selector.quoted,
-            at: selector.at,
-        })?;
     }
     Ok(copied)
 }
@@ -210,7 +195,7 @@ impl<'l, 'a> Naming<'l, 'a> {
             Wide::Selected { at, name, labels } => {
                 let at = *at;
                 let name = name.clone()?;
-                let labels = copy_selectors(self.alloc, labels)?;
+                let labels = copied_selectors(self.alloc, labels)?;
                 Ok(Wide::Selected { at, name, labels })
             }
         }

@@ -1,6 +1,0 @@
-use Rattle.std.proofs.Common.{◌≡◌, map, take}
-use Rattle.cs_grammar.specs.View.{selector_view}
-use Rattle.cs_names.proofs.resolved.copy_selectors.Given as goal
-
-abbrev pub invariant-loop-selector : goal.invariant-loop-selector
-invariant-loop-selector l = map selector_view l.copied.items ≡ map selector_view (take l.selector-index l.selectors)
