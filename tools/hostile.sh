@@ -945,6 +945,31 @@ try 'wide: 29 literals embedded in one another: widen' 0 'error 7' 'widen --prof
 try 'wide: 500,000 literals embedded in one another: widen' 0 'error 7' 'widen --profile=wide wide.cue'
 { listed 10000 '#B: {a%d: int, ...}' '\n'; printf '\n#A: {#B, b: int}\n'; } > wide.cue
 try 'wide: 10,000 bodies of one embedded name: widen' 0 'shows b: int' 'widen --profile=wide wide.cue'
+# Selectors: each is looked up among all fields of its literal, and a package has 1,000 definitions at most.
+selecting() {
+    printf '#P: {'; awk -v count="$1" 'BEGIN { for (i = 0; i < count; i++) printf "b%d: #B.a%d, ", i, i }'; printf '}\n'
+}
+{
+    printf '#B: {'; listed 20000 'a%d: int' ', '; printf '}\n'; selecting 900
+} > wide.cue
+try 'wide: 900 selectors from 20,000 fields: widen' 18000000 'shows #B_a899: int' 'widen --profile=wide wide.cue'
+{
+    printf '#B: {'; listed 40000 'a%d: int' ', '; printf '}\n'; selecting 4096
+} > wide.cue
+try 'wide: 4,096 selectors from 40,000 fields: widen' 163840000 'error 14' 'widen --profile=wide wide.cue'
+{ printf '#B: {x: int}\n#P: {'; listed 50000 'b%d: #B.x' ', '; printf '}\n'; } > wide.cue
+try 'wide: 50,000 selectors: widen' 1000000 'error 14' 'widen --profile=wide wide.cue'
+{ printf '#B: {'; listed 40000 'x: int' ', '; printf '}\n#P: #B.x\n'; } > wide.cue
+try 'wide: a label of 40,000 values, selected: widen' 0 'error 5 at 320009' 'widen --profile=wide wide.cue'
+{
+    printf '#B: {[string]: {'; listed 20000 'b%d: int' ', '; printf '}, '; listed 900 'a%d: _' ', '; printf '}\n'; selecting 900
+} > wide.cue
+try 'wide: 900 selectors beside a [string] of 20,000 fields: widen' 18000000 'error 5 at 256906' 'widen --profile=wide wide.cue'
+{
+    printf '#B: '; nested 26 '{x: ' 'int' '}'; printf '\n#P: {'
+    awk 'BEGIN { labels = ""; for (i = 0; i < 26; i++) { labels = labels ".x"; printf "a%d: #B%s, ", i, labels } }'; printf '}\n'
+} > wide.cue
+try 'wide: selectors of 26 labels: widen' 0 'shows #B_x_x: {' 'widen --profile=wide wide.cue'
 { printf '#A: {'; listed 20000 '#Z%d' ', '; printf '}\n'; } > wide.cue
 try 'wide: 20,000 embedded names that are not declared: widen' 0 'error 9 at 5' 'widen --profile=wide wide.cue'
 # Each of the 50 faults that are told is mended, and the rest read again.

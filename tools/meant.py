@@ -28,7 +28,7 @@ sys.path.insert(0, str(Path(__file__).resolve().parent))
 from peers import Package, Refused, judged  # noqa: E402
 from prefixes import WIDE  # noqa: E402
 from profile_of_cue import parsed  # noqa: E402
-from widened import Row, has_names, rows, taken_rows  # noqa: E402
+from widened import Row, all_rows, has_names, rows  # noqa: E402
 
 ROOT = "#P"
 Judges = dict[str, Callable[[str, list[str]], list[str]]]
@@ -125,5 +125,5 @@ if __name__ == "__main__":
     if len(sys.argv) not in (2, 3):
         sys.exit(__doc__)
     # What a row with names stands for is said by the model, which makes fewer definitions of them.
-    found = rows(Path(sys.argv[2])) if len(sys.argv) == 3 else [row for row in taken_rows() if not has_names(row.source)]
+    found = rows(Path(sys.argv[2])) if len(sys.argv) == 3 else [row for row in all_rows() if not has_names(row.source)]
     sys.exit(main(str(Path(sys.argv[1]).resolve()), found))

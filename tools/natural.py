@@ -18,7 +18,8 @@ The definitions are those at the top of the files, hidden ones among them; those
 where `export` accepts it as the root of a file that has its declarations, and those of all that it refers to, directly or by others; names
 in comments and texts are no references, and imports and the names of packages are left out. It is asked without further words and with
 `--profile wide`: that has to take what is taken without it, and just those that `taken` names, where there is that file. Each is asked once
-more by itself, where the definitions that it refers to are structs with any keys, `{...}`: so are the forms of its own text counted alone.
+more by itself, where the definitions that it refers to are structs with any keys, `{...}`, and with the fields that it selects from them: so are
+the forms of its own text counted alone.
 """
 from __future__ import annotations
 
@@ -287,7 +288,14 @@ class Written:
         for name in found:
             found += [it for it in self.named_in(name) if it not in found and not (is_alone and name != root)]
         lines = [declared for name in (found[:1] if is_alone else found) for declared in self.declared[name]]
-        return "".join(f"{it}\n" for it in lines + [f"{name}: {{...}}" for name in found[1:] if is_alone])
+        others = [f"{name}: {self.stand_in(root, name)}" for name in found[1:] if is_alone]
+        return "".join(f"{it}\n" for it in lines + others)
+
+    def stand_in(self, root: str, name: str) -> str:
+        """A struct with any keys, and with the fields that the declarations of a definition select from another one."""
+        text = without_texts("\n".join(self.declared[root]))
+        selected = set(re.findall(rf"(?<![\w#]){re.escape(name)}\.([A-Za-z]\w*)", text))
+        return "{" + ", ".join([*(f"{label}: _" for label in sorted(selected)), "..."]) + "}"
 
     def is_taken(self, program: str, root: str, asked: Asked) -> bool:
         """Whether `export` accepts the definition."""

@@ -5,7 +5,7 @@ each wrong verdict, and a closing count of verdicts.
     tools/peers.py PROGRAM [PACKAGE..]        a file is a package, and so are the files of a folder together, and the rows of a file
                                               as tools/widening.rows that the program takes; where none is named, each file of
                                               examples/ and of the folders in cases/, the packages of the rows `widened` there, and
-                                              tools/widening.rows and tools/conditions.rows
+                                              tools/widening.rows, tools/naming.rows and tools/conditions.rows
 
 The packages of rows are exported by `--profile wide`, and so are others where `export` refuses them without these words.
 
@@ -263,14 +263,19 @@ def add_rows(report: Report, program: str) -> None:
 
 
 def add_model_rows(report: Report, program: str, path: Path) -> None:
-    """The rows of a file as tools/widening.rows that the program takes."""
+    """The rows of a file as tools/widening.rows that the program takes; of those with names it may refuse by 11 what the model takes."""
     for row in widened.rows(path):
-        if row.refusal() or widened.has_names(row):
+        if row.refused():
             continue
         docs = {verdict: [json.dumps(doc) for doc, given in row.documents if given == verdict] for verdict in ("valid", "invalid")}
         with tempfile.TemporaryDirectory(prefix="row-") as room:
             (Path(room) / "row.cue").write_text(f"{row.source}\n", encoding="utf-8")
-            report.add_row(Package(program, Path(room), WIDE), "#P", {verdict: given for verdict, given in docs.items() if given})
+            try:
+                report.add_row(Package(program, Path(room), WIDE), "#P", {verdict: given for verdict, given in docs.items() if given})
+            except Refused as refusal:
+                report.refused += 1
+                if not str(refusal).startswith(widened.NOT_OPENED) or not widened.has_names(row.source):
+                    report.fail(f"{row}: {refusal}")
 
 
 def main(program: str, paths: list[Path], with_rows: bool) -> int:
@@ -301,5 +306,6 @@ if __name__ == "__main__":
         sys.exit(__doc__)
     named = [Path(it) for it in sys.argv[2:]]
     folders = sorted({file.parent for file in (TOP / "examples").glob("*/*.cue")})
-    stored = [*sorted((TOP / "examples").glob("*.cue")), *folders, *sorted((TOP / "cases").glob("*/*.cue")), widened.ROWS, widened.CONDITION_ROWS]
+    rows = [widened.ROWS, widened.NAME_ROWS, widened.CONDITION_ROWS]
+    stored = [*sorted((TOP / "examples").glob("*.cue")), *folders, *sorted((TOP / "cases").glob("*/*.cue")), *rows]
     sys.exit(main(str(Path(sys.argv[1]).resolve()), named or stored, with_rows=not named))

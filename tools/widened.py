@@ -5,9 +5,9 @@
     tools/widened.py [--random N] [--random-names N] [--seed N] --program PROGRAM
 
 - Each row of tools/widening.rows, tools/naming.rows and tools/conditions.rows: a source, what it stands for (`=>`) or the number by which it
-  is refused, and documents that are instances of `#P` and that aren't, also by the reading of tools/named_reading.py. A program is tried on
-  those without selectors. Where they have names it makes definitions of more of them, so only its verdicts are compared, it may refuse by 11
-  what the model takes, and a line `program` says how else its answer differs from the model's.
+  is refused, and documents that are instances of `#P` and that aren't, also by the reading of tools/named_reading.py. Where they have names
+  a program makes definitions of more of them, so only its verdicts are compared, it may refuse by 11 what the model takes, and a line
+  `program` says how else its answer differs from the model's.
 - Random packages, 200 where no number is given: each document has to be an instance by a direct reading of the source exactly where it is
   one of the package that is meant. By that reading a document is an instance of a literal with embedded expressions when, for some choice
   of an alternative for each, one for a name, every declared field is as all of them ask, and every other key is allowed by one of them.
@@ -20,8 +20,8 @@
   the program has to. Where it doesn't, `widen --profile wide` has to say of the package what `widen` says of the one that the model means:
   the number of the same refusal, or a text that is read as the same package; `export` writes the same schemas, to the byte, and `vet`
   judges documents as the model does. More than 64 values of a label, or bodies of a definition, aren't joined. `check` has to tell the same
-  number first. Then random packages with names and without selectors: of those that the program takes `vet` judges documents as the direct
-  reading does, and the model refuses none by 5 or 9.
+  number first. Then random packages with names: of those that the program takes `vet` judges documents as the direct reading does, and the
+  model refuses none by 5 or 9.
 
 Numbers are compared in the order of the program's conditions: what an `if` asks (5, 10), then what can't be embedded (9, 11), then what an
 embedding brings together (11) or too many nodes with it (14), then marks (5), then the package that is meant, where 9 and 10 come before 11.
@@ -119,27 +119,13 @@ def has_names(source: str) -> bool:
     return any(not name.startswith("#") or any(is_naming(body) for body in bodies) for name, bodies in package.items())
 
 
-def has_selectors(source: str) -> bool:
-    """Whether the source has a name with a selector, which the program doesn't take."""
-    try:
-        package = WideReader(source).package()
-    except Refused:
-        return False
-    return any(is_selecting(body) for bodies in package.values() for body in bodies)
-
-
-def taken_rows() -> list[Row]:
-    """The rows that a program is tried on."""
-    return [row for path in (ROWS, NAME_ROWS, CONDITION_ROWS) for row in rows(path) if not has_selectors(row.source)]
+def all_rows() -> list[Row]:
+    return [row for path in (ROWS, NAME_ROWS, CONDITION_ROWS) for row in rows(path)]
 
 
 def is_naming(it: tuple) -> bool:
     is_one = it[0] == "selector" or it[0] == "struct" and any(mark in ("named", "let") for _label, mark, _value in it[1])
     return is_one or any(is_naming(part) for part in parts(it))
-
-
-def is_selecting(it: tuple) -> bool:
-    return it[0] == "selector" or any(is_selecting(part) for part in parts(it))
 
 
 def faults_of_row(row: Row) -> Iterator[str]:
@@ -846,12 +832,10 @@ def try_program(given: tuple[str, int]) -> tuple[str, list[str]]:
 
 
 def try_names_of_program(given: tuple[str, int]) -> tuple[str, list[str]]:
-    """How the random package of a seed with names is answered, and what differs; one with selectors isn't tried."""
+    """How the random package of a seed with names is answered, and what differs."""
     program, seed = given
     chance = random.Random(seed)
     source = NamedSources(chance).package()
-    if has_selectors(source):
-        return "with selectors", []
     with tempfile.TemporaryDirectory() as room:
         answer, *faults = Tried(program, Path(room)).faults_of_names(chance, source)
     return answer, [f"seed {seed}: {source}\n{it}" for it in faults]
@@ -861,7 +845,7 @@ def try_rows(program: str) -> list[list[str]]:
     """What differs of each row."""
     with tempfile.TemporaryDirectory() as room:
         tried = Tried(program, Path(room))
-        return [[f"{row}: {it}" for it in tried.faults_of_row(row)] for row in taken_rows()]
+        return [[f"{row}: {it}" for it in tried.faults_of_row(row)] for row in all_rows()]
 
 
 def on_program(words: argparse.Namespace) -> int:
@@ -887,7 +871,7 @@ def main(words: argparse.Namespace) -> int:
     if words.program:
         return on_program(words)
     passed = failed = refused = 0
-    for row in (row for path in (ROWS, NAME_ROWS, CONDITION_ROWS) for row in rows(path)):
+    for row in all_rows():
         faults = list(faults_of_row(row))
         passed, failed = passed + (not faults), failed + bool(faults)
         for it in faults:

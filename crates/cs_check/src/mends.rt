@@ -74,7 +74,9 @@ impl<'a> Draft<'a> {
         for mend in &self.mends {
             let first = self.source.place_at(mend.from);
             let tokens = self.source.tokens.get(first..self.source.place_at(mend.to));
-            words.extend(tokens.unwrap_or(&[]).iter().map(|token| token.text))?;
+            for token in tokens.unwrap_or(&[]) {
+                words.insert(token.text)?;
+            }
         }
         Ok(())
     }
@@ -276,20 +278,29 @@ pub(crate) fn mended_condition(source: &Source<'_>, place: usize) -> Option<Mend
     head.filter(|_| is_one)
 }
 
+/// The name at a place, with its labels where it is a selector.
+fn name_at<'s, 'a>(source: &'s Source<'a>, place: usize) -> Part<'s, 'a> {
+    let name = source.whole().between(place, place.saturating_add(1));
+    Near { source, place }.selector().unwrap_or(name)
+}
+
 /// The mend of an embedding at a place: of what is embedded, or of the name there alone. None where none is.
 pub(crate) fn mended_embedding(source: &Source<'_>, place: usize, is_name: bool) -> Option<Mend> {
     let embedded = Near { source, place }.embedding()?;
-    let name = embedded.between(place, place.saturating_add(1));
-    Some(Mend::over(if is_name { name } else { embedded }, "{...}"))
+    let gone = if is_name {
+        name_at(source, place)
+    } else {
+        embedded
+    };
+    Some(Mend::over(gone, "{...}"))
 }
 
 /// The mend of what is at a place and isn't embedded. A name that isn't declared, or is a field, becomes `_`; as the name of a label in brackets,
 /// another label. Another value, which an embedding would open, becomes `_`; there is none where no embedding is beside it.
 pub(crate) fn mended_value(source: &Source<'_>, place: usize, is_name: bool) -> Option<Mend> {
     if is_name {
-        let name = source.whole().between(place, place.saturating_add(1));
         let label = Spot::new(source, place).mended_label();
-        return label.or(Some(Mend::over(name, "_")));
+        return label.or(Some(Mend::over(name_at(source, place), "_")));
     }
     let value = source.declaration_at(place).declared()?;
     let is_beside = Near { source, place }.stands_beside_embeddings();

@@ -5,6 +5,7 @@ ghost use Rattle.cs_check.specs.Told.{AreAccepted, AreWideAccepted, BeginsWithFi
 
 use crate::MOST_FAULTS;
 use crate::mends::{Draft, mend_at, mended_condition, mended_embedding, mended_name, mended_value};
+use cs_grammar::Sort;
 use cs_place::Named;
 use cs_sources::{Made, Near, Source};
 use cs_tool::{Fault, accepted_package, slices_of};
@@ -159,8 +160,10 @@ impl<'f, 'a> Told<'f, 'a> {
         if self.rest.len() >= MOST_FAULTS - 1 {
             return Ok(None);
         }
-        let texts = drafts.iter().map(|draft| draft.mended(self.alloc));
-        let texts: Vec<Vec<u8>> = texts.try_collect(self.alloc)?;
+        let mut texts = Vec::with_capacity(self.alloc, drafts.len())?;
+        for draft in drafts {
+            texts.push(draft.mended(self.alloc)?)?;
+        }
         let sources = slices_of(self.alloc, &texts)?;
         let refused = match self.profile {
             Profile::Default => accepted_package(self.alloc, &sources).err(),
@@ -233,11 +236,15 @@ impl<'f, 'a> Told<'f, 'a> {
             return is_known.then_some((fault, true));
         };
         let (offset, is_mended) = draft.origin(at);
-        let place = draft.source.place_at(offset);
-        let is_joined = is_literal && mended_embedding(&draft.source, place, false).is_none();
-        let is_taken = self.taken.contains(draft.source.token(place).text);
+        let source = &draft.source;
+        let place = source.place_at(offset);
+        let near = Near { source, place };
+        let is_selector = matches!(fault, Fault::LeftOut { .. }) && near.selector().is_some();
+        let is_joined = is_literal && mended_embedding(source, place, false).is_none();
+        let is_taken = self.taken.contains(near.name_declared().here().text);
         let is_uncertain = is_taken || is_joined && self.is_loose;
-        (is_known && !is_mended).then_some((at_place(fault, file, offset), !is_uncertain))
+        let is_told = (is_known || is_selector) && !is_mended;
+        is_told.then_some((at_place(fault, file, offset), !is_uncertain))
     }
 
     /// Mends a fault of a package by its place in its source, and says whether that was done. A cycle is cut between its first name and the next one.
@@ -259,10 +266,12 @@ impl<'f, 'a> Told<'f, 'a> {
         let place = draft.source.place_at(offset);
         let is_name = !matches!(fault, Fault::NotOpened { .. });
         let source = &draft.source;
+        let near = Near { source, place };
         let name = mended_name(source, place, is_name);
-        if name.is_some() {
-            let declared = Near { source, place }.name_declared();
-            self.taken.insert(declared.here().text)?;
+        // A name that a `let` binds may be named by this selector alone.
+        let is_named = near.selector().is_some() && near.here().sort == Sort::Name;
+        if name.is_some() || is_named {
+            self.taken.insert(near.name_declared().here().text)?;
         }
         let condition = mended_condition(&draft.source, place).filter(|_| is_name);
         let embedding = condition.or(mended_embedding(&draft.source, place, is_name));

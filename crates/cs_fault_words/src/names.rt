@@ -44,10 +44,10 @@ impl<'s, 'a> Names<'s, 'a> {
         self.declared.sources.len() == 1
     }
 
-    /// Puts the name of a definition as its author declared it.
+    /// Puts the name of a definition as its author declared it, or the selector that it stands for.
     pub fn put(&self, text: &mut String, name: &str) -> Made<()> {
         match self.first(name) {
-            Some(first) => text.push_str(first.name_declared().here().text),
+            Some(first) => text.push_str(first.name_written()),
             None => text.push_str(name),
         }
     }

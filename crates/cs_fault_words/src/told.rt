@@ -176,7 +176,7 @@ impl<'a> Told<'a> {
             Fault::IntegerRange { .. } => Found::at(near, Form::LargeInteger),
             Fault::Syntax { .. } => form_out_of_place(near),
             Fault::LeftOut { .. } => form_left_out_in(near, declared)?,
-            Fault::UnknownName { .. } => form_unknown(near),
+            Fault::UnknownName { .. } => form_unknown(near, declared),
             Fault::FieldReference { .. } => form_of_field(near),
             Fault::NotOpened { .. } if is_joined => Found::at(near, Form::Joined),
             Fault::NotOpened { .. } => form_closed(near, declared)?,

@@ -1,17 +1,37 @@
 // Forms of the wide profile at an `if` of a struct: of its conditions (4, 5), and of a field that it asks about (5, 10).
 use crate::forms::{Form, Found};
+use crate::syntax::form_of_selected;
 use cs_grammar::{Profile, Sort};
 use cs_sources::Separator::Comma;
-use cs_sources::{Near, Part, follows_label};
+use cs_sources::{MOST_AROUND, Near, Part, follows_label};
+use std::iter::successors;
 
-/// The form at a name that names a field, where it may not: in a condition the field may be absent.
+/// The form at a name that names a field, where it may not: in a condition, or where `.` selects it, the field may be absent.
 pub fn form_of_field<'s, 'a>(near: Near<'s, 'a>) -> Found<'s, 'a> {
+    if let Some(selected) = form_of_selected(near)
+        && !names_field(near)
+    {
+        return Found {
+            form: Form::MarkedField,
+            ..selected
+        };
+    }
     let form = if near.is_asked() {
         Form::AbsentField
     } else {
         Form::FieldReference
     };
     Found::at(near, form)
+}
+
+/// Whether a struct around a name has a label without quotes that is the name.
+fn names_field(near: Near<'_, '_>) -> bool {
+    let mut around = successors(near.bracket(), |inner| inner.bracket()).take(MOST_AROUND);
+    around.any(|bracket| {
+        bracket
+            .held()
+            .is_some_and(|held| declares(held, near.here().text))
+    })
 }
 
 /// The form at a token in the conditions of an `if` in the wide profile, which is out of place there, or left out as another form; none elsewhere.

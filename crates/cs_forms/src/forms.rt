@@ -51,6 +51,8 @@ pub enum Form {
     PackageCall,
     /// `#Q.a`, `x.y`.
     Selector,
+    /// `#Q.a` where `#Q` isn't one struct without embeddings, in the wide profile. For programs it is the same form.
+    SelectorOutside,
     /// `x[0]`.
     Index,
     /// `close({..})`.
@@ -147,8 +149,10 @@ pub enum Form {
     UnknownName,
     /// `#A` without a declaration.
     UnknownDefinition,
-    /// `_x` without a declaration, in the wide profile, as the next two. For programs it is the same form as another name.
+    /// `_x` without a declaration, in the wide profile, as the next three. For programs it is the same form as another name.
     UnknownHidden,
+    /// `#Q.a` where nothing declares `a` in `#Q`, in the wide profile.
+    UnknownField,
     /// `let x = y` where nothing names `x`.
     UnusedLet,
     /// `let x = y` beside another declaration of `x`.
@@ -157,6 +161,8 @@ pub enum Form {
     FieldReference,
     /// `{x?: int, if x == 1 {..}}`, in the wide profile.
     AbsentField,
+    /// `#Q.a` where no field `a` without a mark is declared in `#Q`, in the wide profile.
+    MarkedField,
     /// A struct literal without `...` in a conjunction.
     NotOpened,
     /// The same where the wide profile puts it together with others. For programs it is the same form.
@@ -230,7 +236,7 @@ type Sayings = &'static [(&'static [&'static str], &'static str)];
 
 /// What programs call each form, and what is said of it, in their order: a `{}` stands for what its place tells. A form without a row is
 /// refused by the prover.
-const FORMS: [(&str, &str); 83] = rows! {
+const FORMS: [(&str, &str); 86] = rows! {
     "byte-order-mark" => "a byte order mark: save the file as UTF-8 without it",
     "float" => "floats are left out: scale it (percent, milliseconds)",
     "number-spelling" => "`{}`: {}",
@@ -253,6 +259,7 @@ const FORMS: [(&str, &str); 83] = rows! {
     "package-value" => "`{}`: packages are left out{}",
     "package-call" => "`{}`: calls of packages are left out{}",
     "selector" => "`{}`: what `.` selects is left out; give the field's value a definition and name it in both places",
+    "selector" => "`{}`: `.` selects from a definition that is one struct, with no alternatives, embeddings or `if`, and no hidden label: define the field's value, and name it in both places",
     "index" => "what brackets select is left out; give the element's value a definition and name it",
     "close" => "drop `close`: structs of definitions are closed already",
     "call" => "`{}`: calls are left out",
@@ -300,10 +307,12 @@ const FORMS: [(&str, &str); 83] = rows! {
     "unknown-name" => "`{}` isn't declared",
     "unknown-definition" => "`{}` isn't declared; give the file that declares it too",
     "unknown-name" => "`{}` isn't declared, neither in a struct around nor at the top of a file",
+    "unknown-field" => "`{}`: no field of that name is declared there",
     "unused-let" => "nothing names `{}`, which `let` binds: take it out, or name it",
     "bound-twice" => "`{}`, which `let` binds, is declared beside it once more: give one of the two another name",
     "field-reference" => "`{}` is a field",
     "absent-field" => "`{}` may be absent: declare it in this struct without `?`, or ask first whether it is there, as `if {} != _|_ if {} ..`",
+    "marked-field" => "`{}` may be absent: a field with `?` or `!` can't be selected; give its value a definition and name it in both places",
     "not-opened" => "this struct is joined with others: end each of them with `...`, or write all fields into one",
     "not-opened" => "`--profile wide` puts these structs together; without it end each of them with `...`, or write all fields into one",
     "closed-operand" => "a struct can't be put together with what a definition closed: embed what `&` joins in one struct, as `{{}, ..}`, or end each of them with `...`",

@@ -4,7 +4,7 @@ use crate::conditions::form_in_condition;
 use crate::forms::{Form, Found, said_of_shown};
 use cs_grammar::{Profile, Sort, Token};
 use cs_sources::Separator::Comma;
-use cs_sources::{Inside, Near, begins_value, ends_value, follows_label, separates};
+use cs_sources::{Declared, Inside, Near, begins_value, ends_value, follows_label, separates};
 
 /// The packages that come with CUE.
 const PACKAGES: [&str; 18] = [
@@ -88,11 +88,20 @@ fn text_at(bytes: &[u8]) -> (Form, usize) {
     (opened, bytes.len())
 }
 
-/// The form of a name that isn't declared, or of a `let` that binds one which nothing names, or which something else declares.
-pub fn form_unknown<'s, 'a>(near: Near<'s, 'a>) -> Found<'s, 'a> {
+/// The form of a name that isn't declared, or that `.` selects from in the wide profile where it has no such field; or of a `let` that binds one which
+/// nothing names, or which something else declares.
+pub fn form_unknown<'s, 'a>(near: Near<'s, 'a>, declared: &Declared<'_, 'a>) -> Found<'s, 'a> {
     let name = near.here();
     if near.begins_let() {
         return form_of_let(near);
+    }
+    if let Some(selected) = form_of_selected(near)
+        && is_declared(name.text, declared)
+    {
+        return Found {
+            form: Form::UnknownField,
+            ..selected
+        };
     }
     let form = match name.sort {
         Sort::Definition => Form::UnknownDefinition,
@@ -101,6 +110,17 @@ pub fn form_unknown<'s, 'a>(near: Near<'s, 'a>) -> Found<'s, 'a> {
         _ => Form::UnknownKind,
     };
     Found::at(near, form)
+}
+
+/// Whether a definition, a struct or a file declares a name.
+fn is_declared(name: &str, declared: &Declared<'_, '_>) -> bool {
+    declared.of(name).is_some()
+        || declared.sources.iter().any(|source| {
+            let mut tokens = (0..source.tokens.len()).map(|place| Near { source, place });
+            tokens.any(|token| {
+                token.declares_name() && token.name_declared().here().text == name
+            })
+        })
 }
 
 /// The form of a `let` at fault: another declaration of its struct or its file may have its name.
@@ -124,14 +144,12 @@ fn form_of_let<'s, 'a>(near: Near<'s, 'a>) -> Found<'s, 'a> {
 
 /// The form at a name with a selector behind it; none at another token.
 pub(crate) fn form_of_selected<'s, 'a>(near: Near<'s, 'a>) -> Option<Found<'s, 'a>> {
-    let dot = near.moved(1)?;
-    let is_name = matches!(
-        near.here().sort,
-        Sort::Name | Sort::Definition | Sort::Hidden
-    );
-    let form = form_of_dot(dot).form;
-    let found = Found::between(form, near, near.place.saturating_add(3));
-    (is_name && dot.here().text == ".").then_some(found)
+    let selector = near.selector()?;
+    let form = match form_of_dot(near.moved(1)?).form {
+        Form::Selector if near.source.profile == Profile::Wide => Form::SelectorOutside,
+        form => form,
+    };
+    Some(Found::between(form, near, selector.to))
 }
 
 /// The form at a token that the default profile leaves out, wherever it stands.

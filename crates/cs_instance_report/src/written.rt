@@ -74,12 +74,13 @@ impl<'a> Written<'a> {
         (found.as_str() == name).then_some(definition)
     }
 
-    /// The name of a definition with its `#`, as its author declared it: one that stands for a name of a scope has that name.
+    /// The name of a definition with its `#`, as its author declared it: one that stands for a name of a scope, or for a selector, is named by that.
     pub(crate) fn name_declared(&self, name: &str) -> Option<&'a str> {
         let definition = self.definition(name, 0)?;
-        let named = self.token_at(definition.at)?.name_declared().here();
+        let first = self.token_at(definition.at)?;
+        let named = first.name_declared().here();
         let is_name = matches!(named.sort, Sort::Name | Sort::Hidden | Sort::Definition);
-        is_name.then_some(named.text)
+        is_name.then_some(first.name_written())
     }
 
     /// The token at an offset of the files.
@@ -105,9 +106,13 @@ impl<'a> Written<'a> {
         self.place_of(self.token_at(offset)?)
     }
 
-    /// What is declared behind the label at an offset of the files; of a field that a condition asks for, the label there.
+    /// What is declared behind the label at an offset of the files; of a field that a condition asks for, the label there; and of what a selector asks for,
+    /// the selector.
     fn declared_at(&self, offset: usize) -> Option<Part<'_, 'a>> {
         let label = self.token_at(offset)?;
+        if let Some(selector) = label.selector() {
+            return Some(selector);
+        }
         let declaration = label.part();
         if label.is_asked() {
             return Some(declaration.between(label.place, label.place.saturating_add(1)));
@@ -193,9 +198,15 @@ impl<'t> Spelled<'t> {
         }
     }
 
-    /// What is at a place in it: an operand, the value of a field, or what is asked of an element.
+    /// What is at a place in it: an operand, the value of a field, or what is asked of an element. Of what a selector asks for, what isn't in a field of it
+    /// is where the selector is.
     pub(crate) fn inside(self, place: usize) -> Option<Spelled<'t>> {
+        let is_selected = self.part.first()?.selector().is_some();
         match bare(self.tree) {
+            Expr::And(operands) | Expr::Or(operands) if is_selected => {
+                let tree = operands.get(place)?;
+                Some(Spelled { tree, ..self })
+            }
             Expr::And(operands) => self.operand(Separator::Amp, operands, place),
             Expr::Or(operands) => self.operand(Separator::Bar, operands, place),
             Expr::Struct { .. } => self.value(place),
@@ -205,6 +216,9 @@ impl<'t> Spelled<'t> {
                     (None, ListEnd::Each(each)) => &**each,
                     (None, ListEnd::Closed | ListEnd::Any) => return None,
                 };
+                if is_selected {
+                    return Some(Spelled { tree, ..self });
+                }
                 Some(self.inner(tree, self.part.element(place.min(front.len()))?))
             }
             _ => None,

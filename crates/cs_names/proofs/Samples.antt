@@ -1,5 +1,5 @@
 -- Samples, worked by the definitions: files with names, and what they stand for or what is at fault.
-use Rattle.std.proofs.Common.{◌≡◌, ℕ, true, false, List, [], ◌∷◌, ◌++◌, codes, None, refl, sym, ap, ◌∙◌}
+use Rattle.std.proofs.Common.{◌≡◌, ℕ, true, false, List, [], ◌∷◌, ◌++◌, codes, None, refl, sym, ap, ◌∙◌, ◌+◌}
 use Rattle.std.specs.Fmt.{digits}
 use Rattle.cs_grammar.specs.Atom.{text}
 use Rattle.cs_grammar.specs.Tree.{written_label, scoped_label, Tree, atom, named, reference, conjunction, disjunction, struct, list, wide, merged, selected, no_declaration, declared, embedded, none, more, Fields, no_field, field, closed, definition, DefinitionTree, NameTree, FileTree, file}
@@ -203,9 +203,26 @@ twice_in_files =
 field_of_a_value : name_faults (of (P (literal 4 (own (codes "int") string (name (codes "N") 20 int (own a (named (codes "N") 30) no_field)))) ∷ []) []) ≡ (0, Field 90) ∷ []
 field_of_a_value = refl
 
--- `#P: #B.x`
-selector : name_faults (of (P (wide (selected 4 (codes "#B") (record { text = codes "x"; quotes = false; at = 7 } ∷ []))) ∷ []) []) ≡ (0, LeftOut 4) ∷ []
-selector = refl
+-- `#P: strings.x`, `#P: _h.x`, and `#P: {b: int, a: b.x}`: an import, a name that nothing declares, and a field
+abbrev from : List ℕ → ℕ → Tree
+from s o = wide (selected o s (record { text = codes "x"; quotes = false; at = o + 9 } ∷ []))
+
+imported : name_faults (of (P (from (codes "strings") 4) ∷ []) []) ≡ (0, LeftOut 4) ∷ []
+imported = refl
+
+undeclared_base : name_faults (of (P (from (codes "_h") 4) ∷ []) []) ≡ (0, Unknown 4) ∷ []
+undeclared_base = refl
+
+field_base : name_faults (of (P (literal 4 (own b int (own a (from b 20) no_field))) ∷ []) []) ≡ (0, Field 20) ∷ []
+field_base = refl
+
+-- `#P: #B.x`, and `#P: {let N = {x: int}, a: N.x}`, which names N
+selector : Stands (of (P (from (codes "#B") 4) ∷ []) []) (of (P (from (codes "B") 4) ∷ []) [])
+selector = (refl, refl)
+
+selector_of_let : Stands (of (P (literal 4 (name (codes "N") 5 (literal 13 (own (codes "x") int no_field)) (own a (from (codes "N") 30) no_field))) ∷ []) [])
+    (of (P (literal 4 (own a (from (codes "P_N") 30) no_field)) ∷ definition (codes "P_N") 5 (literal 13 (own (codes "x") int no_field)) ∷ []) [])
+selector_of_let = (refl, refl)
 
 -- `#A: {#K: string, a: #K}` and `#P: #A & {#K: "x"}`
 again : name_faults

@@ -8,12 +8,13 @@ use Rattle.std.proofs.lemmas.Bool.{eqb-true}
 use Rattle.std.proofs.lemmas.Bool.Decides.{nat_tests, Decides-eqb}
 use Rattle.std.proofs.lemmas.List.Folds.{list_all-append}
 use Rattle.cs_grammar.specs.Spelling.{is_letter, is_digit, is_name_byte, begins_definition, is_definition_rest, is_integer, text_value, mark_sort, sort_if, underscore_sort, sort_of}
-use Rattle.cs_grammar.specs.Namable.{IsHiddenName, IsScopeName, IsFileName}
+use Rattle.cs_grammar.specs.Namable.{IsHiddenName, IsScopeName, IsFileName, IsOperandName}
 use Rattle.cs_grammar.specs.Written.{IsName, IsDefinitionName}
 use Rattle.cs_grammar.specs.declared.token.Sort.{Sort}
 use Rattle.cs_grammar.specs.declared.token.Sort.TheVariants as sorts
 use Rattle.cs_names.specs.Having.{is_hidden}
 use Rattle.cs_names.specs.Lifted.{drop_byte, bare, as_definition, top_name, inner_name, numbered, first_free, all_numbers, free}
+use Rattle.cs_names.specs.Scopes.{begins_hash}
 
 abbrev pub AreNameBytes : List ℕ → Type 0
 AreNameBytes s = list_all is_name_byte s ≡ true
@@ -172,6 +173,23 @@ module _ (x : ℕ) (xs : List ℕ) where
   definition_hash _ of_digit h = absurd (other_sort _ sorts.Integer sorts.Definition (λ k. cc) h)
   definition_hash _ of_quote h = absurd (other_sort _ sorts.Text sorts.Definition (λ k. cc) h)
   definition_hash _ of_mark h = absurd (no_mark (x ∷ xs) sorts.Definition (λ k. cc) (λ k. cc) h)
+
+-- `#` is no letter, and no `_`
+no_letter : is_letter 35 ≡ true → ⊥
+no_letter h = cc
+
+no_underscore : (x : ℕ) → x ≡ 35 → x ≡ 95 → ⊥
+no_underscore x h k = cc
+
+-- behind the `#` of a definition's name is the name of a definition
+pub hash_name : (s : List ℕ) → IsOperandName s ⊎ IsScopeName s → begins_hash s ≡ true → IsDefinitionName (drop_byte 35 s)
+hash_name [] n h = cc
+hash_name (x ∷ xs) n h = rw (eqb-true x 35 h) (by (subst (λ y. IsOperandName (y ∷ xs) ⊎ IsScopeName (y ∷ xs)) (eqb-true x 35 h) n))
+  where
+    by : IsOperandName (35 ∷ xs) ⊎ IsScopeName (35 ∷ xs) → IsDefinitionName xs
+    by (inl k) = absurd (no_letter (name_letter 35 xs (sort_of (35 ∷ xs)) (sort_is 35 xs) k.0).0)
+    by (inr (inl k)) = k
+    by (inr (inr k)) = absurd (no_underscore 35 refl (hidden_underscore 35 xs (sort_of (35 ∷ xs)) (sort_is 35 xs) k).0)
 
 -- a name is no hidden one
 pub name_shown : (s : List ℕ) → IsName s → is_hidden s ≡ false

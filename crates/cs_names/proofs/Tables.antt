@@ -18,7 +18,8 @@ use Rattle.std.proofs.lemmas.List.{append-nil}
 use Rattle.std.proofs.lemmas.Map.Text.{is_eq-slice_cmp}
 use Rattle.std.proofs.lemmas.Slice.Eq.{bytes_eq-Decides}
 use Rattle.cs_grammar.specs.Tree.{DefinitionTree, defined_name}
-use Rattle.cs_names.specs.Checks.{entry_of, again_entry, TellsScope, unless_hidden, TellsAround, TellScopes, place_cmp, lifted_view, TellsLifts, TellsTexts, TellsDefined}
+use Rattle.cs_names.specs.Checks.{entry_of, again_entry, TellsScope, unless_hidden, TellsAround, TellScopes, place_cmp, lifted_view, TellsLifts, TellsTexts}
+use Rattle.cs_names.specs.Taken.{TellsDefined}
 use Rattle.cs_names.specs.Joined.{is_among, repeats}
 use Rattle.cs_names.specs.Lifted as S
 use Rattle.cs_names.specs.Lifted.{Lifts, AreApart, known, is_place, is_defined, is_lifted, is_taken}

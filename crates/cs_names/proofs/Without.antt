@@ -123,7 +123,7 @@ module _ (i : ℕ) where
     wide_stays scopes (marked o e) h = ap (marked o) (stays scopes e h)
     wide_stays scopes (merged o ds b) h = ap (λ gs. merged o gs b) (declarations_stay (scope_of_declarations i ds) scopes ds h)
     wide_stays scopes (shut o e) h = ap (shut o) (stays scopes e h)
-    wide_stays scopes (selected o s ls) h = refl
+    wide_stays scopes (selected o s ls) h = cc
 
     each_stays : (scopes : List Scope) (es : Trees) → some_has es ≡ false → resolved_each nowhere i scopes es ≡ es
     each_stays scopes none h = refl

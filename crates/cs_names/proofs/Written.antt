@@ -1,23 +1,24 @@
--- What can be written down with names can be written down without them, and what can be written down without names has none.
+-- What can be written down with names can be written down without them but for selectors, and what can be written down without names has none.
 use Rattle.std.proofs.Common.{◌≡◌, ◌⊎◌, inl, inr, ℕ, suc, Bool, true, false, ◌||◌, ◌&&◌, not, cond, List, [], ◌∷◌, ◌++◌, Option, Some, None, is_some, map, refl, sym, subst, ap, ◌∙◌}
 use Rattle.std.specs.List.{AllByRecursion, list_any, flat_map}
 use Rattle.std.specs.Option.{unwrap_or}
-use Rattle.cs_grammar.specs.Namable.{IsHiddenName, IsOperandName, IsLabelIn, IsNamableLabel, IsNamable, IsNamableWide, AreNamable, AreNamableFields, AreNamableDeclarations, IsNamableEnd, IsNamableDefinition, IsNamableName, IsNamableFile}
+use Rattle.cs_grammar.specs.Namable.{IsHiddenName, IsOperandName, IsLabelIn, IsNamableLabel, IsNamable, IsNamableWide, AreNamable, AreNamableFields, AreNamableDeclarations, IsNamableEnd, IsNamableDefinition, IsNamableName, IsNamableFile, IsScopeName}
 use Rattle.cs_grammar.specs.Tree.{Label, Tree, atom, named, reference, conjunction, disjunction, paren, struct, list, wide, Wide, marked, merged, shut, selected, Declarations, no_declaration, declared, embedded, conditional, Trees, none, more, Fields, no_field, field, End, closed, any, each, DefinitionTree, definition, body, NameTree, FileTree, file}
 use Rattle.cs_grammar.specs.Written.{Place, by_itself, of_bar, of_amp, IsDefinitionName, IsWrittenLabel, AreTwo, IsWritten, IsWrittenWide, AreWritten, AreWrittenFields, AreWrittenDeclarations, IsWrittenEnd, IsWrittenDefinition, IsWrittenFile}
 use Rattle.cs_grammar.specs.declared.ast.FieldMark.{FieldMark}
 use Rattle.cs_grammar.specs.declared.ast.FieldMark.TheVariants.{Regular, Optional, Required, Every}
-use Rattle.cs_names.specs.Flaws.{unknown_if, operand_flaws, is_field, let_flaws, bound_flaws, name_flaws, flaws, flaws_wide, flaws_each, flaws_fields, flaws_declarations, flaws_end, flaws_from, flaws_in}
+use Rattle.cs_names.specs.Flaws.{unknown_if, operand_flaws, is_field, let_flaws, bound_flaws, name_flaws, flaws, flaws_wide, flaws_each, flaws_fields, flaws_declarations, flaws_end, flaws_from, flaws_in, unmeant_flaws}
 use Rattle.cs_names.specs.Having.{is_hidden, has_name, wide_has, some_has, fields_have, declarations_have, end_has, have_names}
-use Rattle.cs_names.specs.Lifted.{Lifts, Lifted, known, is_place, is_taken, inner_name, top_name, free, with_lifted, origin_of, own_place, lift_own, within, lift_in, lift_wide, lift_each, lift_fields, lift_declarations, lift_end, top_place, top_origin, lift_top, lift_tops, lift_names, lift_bodies, lift_values, lift_files, lifts, shared, all_definitions}
-use Rattle.cs_names.specs.Named.{at_place, meant, refer, defining, keep_field, keep_declared, offset_of, label_definitions, resolved, resolved_wide, resolved_each, resolved_fields, resolved_declarations, resolved_end, inside, inside_wide, inside_each, inside_fields, inside_declarations, inside_end, of_definitions, of_name, of_names, named_from}
+use Rattle.cs_names.specs.Lifted.{Lifts, Lifted, known, is_place, is_lifted, is_taken, inner_name, top_name, free, with_lifted, origin_of, own_place, lift_own, within, lift_in, lift_wide, lift_each, lift_fields, lift_declarations, lift_end, top_place, top_origin, lift_top, lift_tops, lift_names, lift_bodies, lift_values, lift_files, lifts, shared, all_definitions, drop_byte}
+use Rattle.cs_names.specs.Named.{at_place, meant, refer, defining, keep_field, keep_declared, offset_of, label_definitions, resolved, resolved_wide, resolved_each, resolved_fields, resolved_declarations, resolved_end, inside, inside_wide, inside_each, inside_fields, inside_declarations, inside_end, of_definitions, of_name, of_names, named_from, base}
 use Rattle.cs_names.specs.Names.{AreNamed}
-use Rattle.cs_names.specs.Scopes.{Scope, denoted, first_place, value_scope, name_scope, scope_of_fields, scope_of_declarations, bound_scope}
+use Rattle.cs_names.specs.Scopes.{Scope, begins_hash, denoted, first_place, value_scope, name_scope, scope_of_fields, scope_of_declarations, bound_scope}
 use Rattle.cs_names.specs.Scopes as scopes
+use Rattle.cs_names.specs.Selecting.{head, referring, referring_each, referring_fields, referring_declarations, referring_end, referring_definition, IsSelectingFile}
 use Rattle.cs_names.specs.declared.flaws.Flaw.{Flaw}
 use Rattle.cs_names.specs.declared.flaws.Flaw.TheVariants as Flaws
 use Rattle.cs_names.specs.declared.lifting.Origin.{Origin}
-use Rattle.cs_names.proofs.Spelled.{IsScoped, scope_name, file_name, name_shown, hidden_is_hidden, inner_good, top_good, free_good}
+use Rattle.cs_names.proofs.Spelled.{IsScoped, scope_name, file_name, name_shown, hidden_is_hidden, hash_name, inner_good, top_good, free_good}
 use Rattle.cs_names.proofs.Truths.{neither}
 
 -- ---- files without names
@@ -245,6 +246,13 @@ both_all : {X : Type 0} (P : X → Type 0) (xs ys : List X) → AllByRecursion P
 both_all P [] ys h k = k
 both_all P (x ∷ xs) ys h k = (h.0, both_all P xs ys h.1 k)
 
+abbrev IsSelecting : DefinitionTree → Type 0
+IsSelecting d = IsWrittenDefinition (referring_definition head d)
+
+selecting_all : (ds : List DefinitionTree) → AllByRecursion IsSelecting ds → AllByRecursion IsWrittenDefinition (map (referring_definition head) ds)
+selecting_all [] h = tt
+selecting_all (d ∷ ds) h = (h.0, selecting_all ds h.1)
+
 module _ (ts : Lifts) (good : AreGood ts) where
   abbrev by : scopes.Place → Option (List ℕ)
   by p = known ts p
@@ -253,7 +261,7 @@ module _ (ts : Lifts) (good : AreGood ts) where
   good_at None s h = cc
   good_at (Some p) s h = good_known ts p s good h
 
-  name_written : (p : Place) (t : Option (List ℕ)) (s : List ℕ) (o : ℕ) → ((d : List ℕ) → t ≡ Some d → IsDefinitionName d) → (is_hidden s && not (is_some t)) ≡ false → IsOperandName s ⊎ IsHiddenName s → IsWritten p (refer t o (named s o))
+  name_written : (p : Place) (t : Option (List ℕ)) (s : List ℕ) (o : ℕ) → ((d : List ℕ) → t ≡ Some d → IsDefinitionName d) → (is_hidden s && not (is_some t)) ≡ false → IsOperandName s ⊎ IsHiddenName s → IsWritten p (referring head (refer t o (named s o)))
   name_written p (Some d) s o g h n = g d refl
   name_written p None s o g h (inl k) = k
   name_written p None s o g h (inr k) = let shown = hidden_is_hidden s k in absurd (by_hidden (is_hidden s) shown h)
@@ -262,21 +270,37 @@ module _ (ts : Lifts) (good : AreGood ts) where
       by_hidden true q r = cc
       by_hidden false q r = cc
 
-  reference_written : (p : Place) (t : Option (List ℕ)) (s : List ℕ) (o : ℕ) → ((d : List ℕ) → t ≡ Some d → IsDefinitionName d) → IsDefinitionName s → IsWritten p (refer t o (reference s o))
+  reference_written : (p : Place) (t : Option (List ℕ)) (s : List ℕ) (o : ℕ) → ((d : List ℕ) → t ≡ Some d → IsDefinitionName d) → IsDefinitionName s → IsWritten p (referring head (refer t o (reference s o)))
   reference_written p (Some d) s o g n = g d refl
   reference_written p None s o g n = n
 
-  field_kept : (o : Option ℕ) (l : Label) (m : FieldMark) (e : Tree) (fs : Fields) → IsNamableIn o l m → IsWritten by_itself e → AreWrittenFields fs → AreWrittenFields (keep_field o l m e fs)
+  field_kept : (o : Option ℕ) (l : Label) (m : FieldMark) (e : Tree) (fs : Fields) → IsNamableIn o l m → IsWritten by_itself (referring head e) → AreWrittenFields (referring_fields head fs) → AreWrittenFields (referring_fields head (keep_field o l m e fs))
   field_kept None l m e fs n h k = (n, h, k)
   field_kept (Some o) l m e fs n h k = k
 
-  declaration_kept : (o : Option ℕ) (l : Label) (m : FieldMark) (e : Tree) (ds : Declarations) → IsNamableIn o l m → IsWritten by_itself e → AreWrittenDeclarations ds → AreWrittenDeclarations (keep_declared o l m e ds)
+  declaration_kept : (o : Option ℕ) (l : Label) (m : FieldMark) (e : Tree) (ds : Declarations) → IsNamableIn o l m → IsWritten by_itself (referring head e) → AreWrittenDeclarations (referring_declarations head ds) → AreWrittenDeclarations (referring_declarations head (keep_declared o l m e ds))
   declaration_kept None l m e ds n h k = (n, h, k)
   declaration_kept (Some o) l m e ds n h k = k
 
-  defined_written : (t : Option (List ℕ)) (o : ℕ) (e : Tree) (ds : List DefinitionTree) → ((d : List ℕ) → t ≡ Some d → IsDefinitionName d) → IsWritten by_itself e → AllByRecursion IsWrittenDefinition ds → AllByRecursion IsWrittenDefinition (defining t o e ds)
+  defined_written : (t : Option (List ℕ)) (o : ℕ) (e : Tree) (ds : List DefinitionTree) → ((d : List ℕ) → t ≡ Some d → IsDefinitionName d) → IsWritten by_itself (referring head e) → AllByRecursion IsSelecting ds → AllByRecursion IsSelecting (defining t o e ds)
   defined_written None o e ds g h k = k
   defined_written (Some d) o e ds g h k = ((g d refl, h), k)
+
+  -- the name before the labels of a selector that isn't at fault is that of a definition
+  base_written : (t : Option (List ℕ)) (ss : List Scope) (s : List ℕ) (o : ℕ) → meant by ss s ≡ t → cond (is_some t) [] (unmeant_flaws ts ss s o) ≡ [] → IsOperandName s ⊎ IsScopeName s → IsDefinitionName (base t s)
+  base_written (Some d) ss s o e h n = good_at (denoted ss s) d e
+  base_written None ss s o e h n = by_hash (begins_hash s) refl h
+    where
+      never : (b c : Bool) → cond b (Flaws.Field o ∷ []) (cond c (Flaws.Unknown o ∷ []) (Flaws.LeftOut o ∷ [])) ≡ [] → ⊥
+      never true c k = cc
+      never false true k = cc
+      never false false k = cc
+
+      by_hash : (b : Bool) → begins_hash s ≡ b
+          → cond b (unknown_if (is_lifted ts (drop_byte 35 s)) o) (cond (is_field ss s) (Flaws.Field o ∷ []) (cond (is_hidden s) (Flaws.Unknown o ∷ []) (Flaws.LeftOut o ∷ []))) ≡ []
+          → IsDefinitionName (drop_byte 35 s)
+      by_hash true q k = hash_name s n q
+      by_hash false q k = absurd (never (is_field ss s) (is_hidden s) k)
 
   module _ (i : ℕ) where
     -- a name that isn't at fault is no hidden one without a definition
@@ -287,13 +311,13 @@ module _ (ts : Lifts) (good : AreGood ts) where
         by_test true k = cc
         by_test false k = unflawed (is_hidden s && not (is_some (meant by ss s))) o k
 
-    two : (ss : List Scope) (es : Trees) → AreTwo es → AreTwo (resolved_each by i ss es)
+    two : (ss : List Scope) (es : Trees) → AreTwo es → AreTwo (referring_each head (resolved_each by i ss es))
     two ss none h = h
     two ss (more e none) h = h
     two ss (more e (more f es)) h = h
 
     mutual
-      written : (p : Place) (b : Bool) (ss : List Scope) (e : Tree) → flaws ts i b ss e ≡ [] → IsNamable p e → IsWritten p (resolved by i ss e)
+      written : (p : Place) (b : Bool) (ss : List Scope) (e : Tree) → flaws ts i b ss e ≡ [] → IsNamable p e → IsWritten p (referring head (resolved by i ss e))
       written p b ss (atom a) h n = n
       written p b ss (named s o) h n = name_written p (meant by ss s) s o (λ d q. good_at (denoted ss s) d q) (unheard b ss s o h) n
       written p b ss (reference s o) h n = reference_written p (meant by ss (35 ∷ s)) s o (λ d q. good_at (denoted ss (35 ∷ s)) d q) n
@@ -305,25 +329,25 @@ module _ (ts : Lifts) (good : AreGood ts) where
           (written_each by_itself b ss es (left_empty (flaws_each ts i b ss es) (flaws_end ts i b ss end) h) n.0, written_end b ss end (right_empty (flaws_each ts i b ss es) (flaws_end ts i b ss end) h) n.1)
       written p b ss (wide w) h n = written_wide p b ss w h n
 
-      written_wide : (p : Place) (b : Bool) (ss : List Scope) (w : Wide) → flaws_wide ts i b ss w ≡ [] → IsNamableWide p w → IsWrittenWide p (resolved_wide by i ss w)
+      written_wide : (p : Place) (b : Bool) (ss : List Scope) (w : Wide) → flaws_wide ts i b ss w ≡ [] → IsNamableWide p w → IsWritten p (referring head (wide (resolved_wide by i ss w)))
       written_wide p b ss (marked o e) h n = written p b ss e h n
       written_wide p b ss (merged o ds opened) h n = written_declarations b (scope_of_declarations i ds) ss ds h n
       written_wide p b ss (shut o e) h n = written by_itself b ss e h n
-      written_wide p b ss (selected o s ls) h n = cc
+      written_wide p b ss (selected o s ls) h n = base_written (meant by ss s) ss s o refl h n.0
 
-      written_each : (p : Place) (b : Bool) (ss : List Scope) (es : Trees) → flaws_each ts i b ss es ≡ [] → AreNamable p es → AreWritten p (resolved_each by i ss es)
+      written_each : (p : Place) (b : Bool) (ss : List Scope) (es : Trees) → flaws_each ts i b ss es ≡ [] → AreNamable p es → AreWritten p (referring_each head (resolved_each by i ss es))
       written_each p b ss none h n = tt
       written_each p b ss (more e es) h n =
           (written p b ss e (left_empty (flaws ts i b ss e) (flaws_each ts i b ss es) h) n.0, written_each p b ss es (right_empty (flaws ts i b ss e) (flaws_each ts i b ss es) h) n.1)
 
-      written_fields : (b : Bool) (own : Scope) (ss : List Scope) (fs : Fields) → flaws_fields ts i b own ss fs ≡ [] → AreNamableFields fs → AreWrittenFields (resolved_fields by i own ss fs)
+      written_fields : (b : Bool) (own : Scope) (ss : List Scope) (fs : Fields) → flaws_fields ts i b own ss fs ≡ [] → AreNamableFields fs → AreWrittenFields (referring_fields head (resolved_fields by i own ss fs))
       written_fields b own ss no_field h n = tt
       written_fields b own ss (field l m e fs) h n =
           let here = let_flaws own l ++ flaws ts i (b || is_some l.scoped) (value_scope l own ∷ ss) e in
           field_kept l.scoped l m (resolved by i (value_scope l own ∷ ss) e) (resolved_fields by i own ss fs) (placed_label l m l.scoped refl n.0)
           (written by_itself (b || is_some l.scoped) (value_scope l own ∷ ss) e (right_empty (let_flaws own l) (flaws ts i (b || is_some l.scoped) (value_scope l own ∷ ss) e) (left_empty here (flaws_fields ts i b own ss fs) h)) n.1) (written_fields b own ss fs (right_empty here (flaws_fields ts i b own ss fs) h) n.2)
 
-      written_declarations : (b : Bool) (own : Scope) (ss : List Scope) (ds : Declarations) → flaws_declarations ts i b own ss ds ≡ [] → AreNamableDeclarations ds → AreWrittenDeclarations (resolved_declarations by i own ss ds)
+      written_declarations : (b : Bool) (own : Scope) (ss : List Scope) (ds : Declarations) → flaws_declarations ts i b own ss ds ≡ [] → AreNamableDeclarations ds → AreWrittenDeclarations (referring_declarations head (resolved_declarations by i own ss ds))
       written_declarations b own ss no_declaration h n = tt
       written_declarations b own ss (declared l m e ds) h n =
           let here = let_flaws own l ++ flaws ts i (b || is_some l.scoped) (value_scope l own ∷ ss) e in
@@ -336,15 +360,15 @@ module _ (ts : Lifts) (good : AreGood ts) where
           let here = flaws ts i b (own ∷ ss) e in
           (n.0, written by_itself b (own ∷ ss) e (left_empty here (flaws_declarations ts i b own ss ds) h) n.1, written_declarations b own ss ds (right_empty here (flaws_declarations ts i b own ss ds) h) n.2)
 
-      written_end : (b : Bool) (ss : List Scope) (end : End) → flaws_end ts i b ss end ≡ [] → IsNamableEnd end → IsWrittenEnd (resolved_end by i ss end)
+      written_end : (b : Bool) (ss : List Scope) (end : End) → flaws_end ts i b ss end ≡ [] → IsNamableEnd end → IsWrittenEnd (referring_end head (resolved_end by i ss end))
       written_end b ss closed h n = tt
       written_end b ss any h n = tt
       written_end b ss (each e) h n = written by_itself b ss e h n
 
     abbrev Written : List DefinitionTree → Type 0
-    Written ds = AllByRecursion IsWrittenDefinition ds
+    Written ds = AllByRecursion IsSelecting ds
 
-    label_written : (own : Scope) (ss : List Scope) (l : Label) (e : Tree) → IsWritten by_itself (resolved by i (value_scope l own ∷ ss) e) → Written (inside by i (value_scope l own ∷ ss) e)
+    label_written : (own : Scope) (ss : List Scope) (l : Label) (e : Tree) → IsWritten by_itself (referring head (resolved by i (value_scope l own ∷ ss) e)) → Written (inside by i (value_scope l own ∷ ss) e)
         → Written (label_definitions by own l (resolved by i (value_scope l own ∷ ss) e) (inside by i (value_scope l own ∷ ss) e))
     label_written own ss l e h k =
         let inner = value_scope l own ∷ ss in
@@ -360,7 +384,7 @@ module _ (ts : Lifts) (good : AreGood ts) where
       inside_written p b ss (paren e) h n = inside_written by_itself b ss e h n
       inside_written p b ss (struct o fs opened) h n = inside_fields_written b (scope_of_fields i fs) ss fs h n
       inside_written p b ss (list es end) h n =
-          both_all IsWrittenDefinition (inside_each by i ss es) (inside_end by i ss end) (inside_each_written by_itself b ss es (left_empty (flaws_each ts i b ss es) (flaws_end ts i b ss end) h) n.0)
+          both_all IsSelecting (inside_each by i ss es) (inside_end by i ss end) (inside_each_written by_itself b ss es (left_empty (flaws_each ts i b ss es) (flaws_end ts i b ss end) h) n.0)
           (inside_end_written b ss end (right_empty (flaws_each ts i b ss es) (flaws_end ts i b ss end) h) n.1)
       inside_written p b ss (wide w) h n = inside_wide_written p b ss w h n
 
@@ -373,14 +397,14 @@ module _ (ts : Lifts) (good : AreGood ts) where
       inside_each_written : (p : Place) (b : Bool) (ss : List Scope) (es : Trees) → flaws_each ts i b ss es ≡ [] → AreNamable p es → Written (inside_each by i ss es)
       inside_each_written p b ss none h n = tt
       inside_each_written p b ss (more e es) h n =
-          both_all IsWrittenDefinition (inside by i ss e) (inside_each by i ss es) (inside_written p b ss e (left_empty (flaws ts i b ss e) (flaws_each ts i b ss es) h) n.0)
+          both_all IsSelecting (inside by i ss e) (inside_each by i ss es) (inside_written p b ss e (left_empty (flaws ts i b ss e) (flaws_each ts i b ss es) h) n.0)
           (inside_each_written p b ss es (right_empty (flaws ts i b ss e) (flaws_each ts i b ss es) h) n.1)
 
       inside_fields_written : (b : Bool) (own : Scope) (ss : List Scope) (fs : Fields) → flaws_fields ts i b own ss fs ≡ [] → AreNamableFields fs → Written (inside_fields by i own ss fs)
       inside_fields_written b own ss no_field h n = tt
       inside_fields_written b own ss (field l m e fs) h n =
           let here = let_flaws own l ++ flaws ts i (b || is_some l.scoped) (value_scope l own ∷ ss) e in
-          both_all IsWrittenDefinition (label_definitions by own l (resolved by i (value_scope l own ∷ ss) e) (inside by i (value_scope l own ∷ ss) e)) (inside_fields by i own ss fs)
+          both_all IsSelecting (label_definitions by own l (resolved by i (value_scope l own ∷ ss) e) (inside by i (value_scope l own ∷ ss) e)) (inside_fields by i own ss fs)
           (label_written own ss l e (written by_itself (b || is_some l.scoped) (value_scope l own ∷ ss) e (right_empty (let_flaws own l) (flaws ts i (b || is_some l.scoped) (value_scope l own ∷ ss) e) (left_empty here (flaws_fields ts i b own ss fs) h)) n.1)
           (inside_written by_itself (b || is_some l.scoped) (value_scope l own ∷ ss) e (right_empty (let_flaws own l) (flaws ts i (b || is_some l.scoped) (value_scope l own ∷ ss) e) (left_empty here (flaws_fields ts i b own ss fs) h)) n.1)) (inside_fields_written b own ss fs (right_empty here (flaws_fields ts i b own ss fs) h) n.2)
 
@@ -388,17 +412,17 @@ module _ (ts : Lifts) (good : AreGood ts) where
       inside_declarations_written b own ss no_declaration h n = tt
       inside_declarations_written b own ss (declared l m e ds) h n =
           let here = let_flaws own l ++ flaws ts i (b || is_some l.scoped) (value_scope l own ∷ ss) e in
-          both_all IsWrittenDefinition (label_definitions by own l (resolved by i (value_scope l own ∷ ss) e) (inside by i (value_scope l own ∷ ss) e)) (inside_declarations by i own ss ds)
+          both_all IsSelecting (label_definitions by own l (resolved by i (value_scope l own ∷ ss) e) (inside by i (value_scope l own ∷ ss) e)) (inside_declarations by i own ss ds)
           (label_written own ss l e (written by_itself (b || is_some l.scoped) (value_scope l own ∷ ss) e (right_empty (let_flaws own l) (flaws ts i (b || is_some l.scoped) (value_scope l own ∷ ss) e) (left_empty here (flaws_declarations ts i b own ss ds) h)) n.1)
           (inside_written by_itself (b || is_some l.scoped) (value_scope l own ∷ ss) e (right_empty (let_flaws own l) (flaws ts i (b || is_some l.scoped) (value_scope l own ∷ ss) e) (left_empty here (flaws_declarations ts i b own ss ds) h)) n.1))
           (inside_declarations_written b own ss ds (right_empty here (flaws_declarations ts i b own ss ds) h) n.2)
       inside_declarations_written b own ss (embedded o e ds) h n =
           let here = flaws ts i b (own ∷ ss) e in
-          both_all IsWrittenDefinition (inside by i (own ∷ ss) e) (inside_declarations by i own ss ds) (inside_written by_itself b (own ∷ ss) e (left_empty here (flaws_declarations ts i b own ss ds) h) n.0)
+          both_all IsSelecting (inside by i (own ∷ ss) e) (inside_declarations by i own ss ds) (inside_written by_itself b (own ∷ ss) e (left_empty here (flaws_declarations ts i b own ss ds) h) n.0)
           (inside_declarations_written b own ss ds (right_empty here (flaws_declarations ts i b own ss ds) h) n.1)
       inside_declarations_written b own ss (conditional o cs e ds) h n =
           let here = flaws ts i b (own ∷ ss) e in
-          both_all IsWrittenDefinition (inside by i (own ∷ ss) e) (inside_declarations by i own ss ds) (inside_written by_itself b (own ∷ ss) e (left_empty here (flaws_declarations ts i b own ss ds) h) n.1)
+          both_all IsSelecting (inside by i (own ∷ ss) e) (inside_declarations by i own ss ds) (inside_written by_itself b (own ∷ ss) e (left_empty here (flaws_declarations ts i b own ss ds) h) n.1)
           (inside_declarations_written b own ss ds (right_empty here (flaws_declarations ts i b own ss ds) h) n.2)
 
       inside_end_written : (b : Bool) (ss : List Scope) (end : End) → flaws_end ts i b ss end ≡ [] → IsNamableEnd end → Written (inside_end by i ss end)
@@ -411,7 +435,7 @@ module _ (ts : Lifts) (good : AreGood ts) where
     definitions_written ss (definition s o e ∷ ds) h n =
         let here = left_empty (flaws ts i false ss e) (flat_map (λ d. flaws ts i false ss (body d)) ds) h in (
           (n.0.0, written by_itself false ss e here n.0.1),
-          both_all IsWrittenDefinition (inside by i ss e) (of_definitions by i ss ds) (inside_written by_itself false ss e here n.0.1)
+          both_all IsSelecting (inside by i ss e) (of_definitions by i ss ds) (inside_written by_itself false ss e here n.0.1)
               (definitions_written ss ds (right_empty (flaws ts i false ss e) (flat_map (λ d. flaws ts i false ss (body d)) ds) h) n.1),
         )
 
@@ -421,12 +445,12 @@ module _ (ts : Lifts) (good : AreGood ts) where
         let inner = name_scope m bound ∷ every ∷ [] in
         let here = left_empty (name_flaws ts i every bound m) (flat_map (name_flaws ts i every bound) ns) h in
         let well = right_empty (bound_flaws ts i every bound m) (flaws ts i true inner m.value) here in
-        both_all IsWrittenDefinition (of_name by i every bound m) (of_names by i every bound ns)
+        both_all IsSelecting (of_name by i every bound m) (of_names by i every bound ns)
         (defined_written (at_place by (top_place every bound m)) m.at (resolved by i inner m.value) (inside by i inner m.value) (λ d q. good_at (top_place every bound m) d q)
         (written by_itself true inner m.value well n.0.1) (inside_written by_itself true inner m.value well n.0.1))
         (names_written every bound ns (right_empty (name_flaws ts i every bound m) (flat_map (name_flaws ts i every bound) ns) h) n.1)
 
-  files_written : (every : Scope) (i : ℕ) (fs : List FileTree) → flaws_from ts every i fs ≡ [] → AllByRecursion IsNamableFile fs → AllByRecursion IsWrittenFile (named_from by every i fs)
+  files_written : (every : Scope) (i : ℕ) (fs : List FileTree) → flaws_from ts every i fs ≡ [] → AllByRecursion IsNamableFile fs → AllByRecursion IsSelectingFile (named_from by every i fs)
   files_written every i [] h n = tt
   files_written every i (file c ds ns ∷ fs) h n =
       let bound = bound_scope i ns in
@@ -437,13 +461,13 @@ module _ (ts : Lifts) (good : AreGood ts) where
       let own = unmapped {Y = ℕ × Flaw} (λ x. (i, x)) (first ++ second) (left_empty numbered (flaws_from ts every (suc i) fs) h) in (
         (
           n.0.0,
-          both_all IsWrittenDefinition (of_definitions by i ss ds) (of_names by i every bound ns)
-              (definitions_written i ss ds (left_empty first second own) n.0.1) (names_written i every bound ns (right_empty first second own) n.0.2),
+          selecting_all (of_definitions by i ss ds ++ of_names by i every bound ns) (both_all IsSelecting (of_definitions by i ss ds) (of_names by i every bound ns)
+              (definitions_written i ss ds (left_empty first second own) n.0.1) (names_written i every bound ns (right_empty first second own) n.0.2)),
           refl,
         ),
         files_written every (suc i) fs (right_empty numbered (flaws_from ts every (suc i) fs) h) n.1,
       )
 
-pub named_written : (fs gs : List FileTree) → AreNamed fs gs → AllByRecursion IsNamableFile fs → AllByRecursion IsWrittenFile gs
+pub named_written : (fs gs : List FileTree) → AreNamed fs gs → AllByRecursion IsNamableFile fs → AllByRecursion IsSelectingFile gs
 named_written fs gs h n =
-    subst (AllByRecursion IsWrittenFile) (sym h.named) (files_written (lifts fs) (all_good fs n) (shared fs) 0 fs (left_empty (flaws_in fs) _ h.faultless) n)
+    subst (AllByRecursion IsSelectingFile) (sym h.named) (files_written (lifts fs) (all_good fs n) (shared fs) 0 fs (left_empty (flaws_in fs) _ h.faultless) n)

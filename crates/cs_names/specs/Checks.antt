@@ -167,10 +167,6 @@ seen_has (field_seen f) = field_has f
 seen_has (embedding_seen o e) = has_name e
 seen_has (conditional_seen o cs e) = has_name e
 
--- the set has the names of these definitions
-abbrev pub TellsDefined : BTreeSet (Bor (List ℕ)) → List DefinitionTree → Type 0
-TellsDefined t ds = (s : List ℕ) → sorted.contains_by (λ k. slice_cmp nat_cmp s k.now) t ≡ is_defined ds s
-
 -- an entry with a declaration more
 abbrev pub again_entry : Option Entry → Option Place → Entry
 again_entry None p = record { place = p; is_repeated = false }

@@ -1,20 +1,20 @@
 -- Which names are at fault by what else stands in the files: a `let` that nothing names (CUE, let clauses); and in files that join literals a name that
 -- two literals declare (own rule: CUE joins what such names were declared as, and what names them in one literal would be changed by the other), and
 -- one that is no definition and holds a literal, unless it is embedded (own rule: CUE joins that literal with others before it is closed).
-use Rattle.std.specs.Prelude.{ℕ, ◌==◌, Bool, true, false, ◌&&◌, ◌||◌, not, List, [], ◌∷◌, ◌++◌, map, Option, Some, None, if◌then◌else◌}
+use Rattle.std.specs.Prelude.{ℕ, Bool, true, false, ◌&&◌, ◌||◌, not, List, [], ◌∷◌, ◌++◌, map, if◌then◌else◌}
 use Rattle.std.specs.List.{list_any, flat_map}
 use Rattle.std.specs.Str.{bytes_eq}
 use Rattle.cs_grammar.specs.declared.ast.FieldMark.{FieldMark}
 use Rattle.cs_grammar.specs.declared.ast.FieldMark.TheVariants.{Regular, Optional, Required, Every}
 use Rattle.cs_grammar.specs.Tree.{Tree, atom, named, reference, conjunction, disjunction, paren, struct, list, wide, Wide, marked, merged, shut, selected, Declarations, no_declaration, declared, embedded, conditional, Trees, none, more, Fields, no_field, field, End, closed, any, each, DefinitionTree, defined_name, body, FileTree, definitions}
 use Rattle.cs_names.specs.Lifted.{Lifts, Lifted, drop_byte, all_definitions}
-use Rattle.cs_names.specs.Scopes.{first_byte}
+use Rattle.cs_names.specs.Scopes.{begins_hash}
 use Rattle.cs_names.specs.declared.flaws.Flaw.{Flaw}
 use Rattle.cs_names.specs.declared.flaws.Flaw.TheVariants.{Unknown, Again}
 use Rattle.cs_names.specs.declared.lifting.Origin.{Origin}
 use Rattle.cs_names.specs.declared.lifting.Origin.TheVariants as origins
 
--- ---- what is referred to
+-- ---- what is referred to, and selected from
 
 abbrev pub is_reference : Tree → Bool
 is_reference (atom a) = false
@@ -45,7 +45,7 @@ module _ (all : Bool) where
     references_wide (marked o e) = references e
     references_wide (merged o ds b) = references_declarations ds
     references_wide (shut o e) = references e
-    references_wide (selected o s ls) = []
+    references_wide (selected o s ls) = s ∷ []
 
     pub references_each : Trees → List (List ℕ)
     references_each none = []
@@ -161,7 +161,7 @@ abbrev mutual
   wide_joins (marked o e) = joins e
   wide_joins (merged o ds b) = true
   wide_joins (shut o e) = joins e
-  wide_joins (selected o s ls) = true
+  wide_joins (selected o s ls) = false
 
   pub some_join : Trees → Bool
   some_join none = false
@@ -197,14 +197,9 @@ again ss (t ∷ ts) =
 
 -- ---- what isn't closed
 
--- `#` (35)
-abbrev pub is_hash : Option ℕ → Bool
-is_hash None = false
-is_hash (Some x) = x == 35
-
--- a name of a definition begins with it, or with a `_` (95) and it (CUE, definitions and hidden fields)
+-- a name of a definition begins with `#`, or with a `_` (95) and it (CUE, definitions and hidden fields)
 abbrev pub is_definition : List ℕ → Bool
-is_definition s = is_hash (first_byte (drop_byte 95 s))
+is_definition s = begins_hash (drop_byte 95 s)
 
 abbrev mutual
   -- a literal of a struct or a list stands in it, but for what it refers to

@@ -2,7 +2,9 @@
 pub mod Scopes
 pub mod Having
 pub mod Lifted
+pub mod Taken
 pub mod Named
+pub mod Selecting
 pub mod Flaws
 pub mod Joined
 pub mod Reading

@@ -1,11 +1,11 @@
--- What files stand for without names: each name is the reference to the definition that it is lifted by, and behind each definition stand those that are
--- declared inside of it.
+-- What files stand for without names: each name is the reference to the definition that it is lifted by, selectors select from definitions, and behind each
+-- definition stand those that are declared inside of it.
 use Rattle.std.specs.Prelude.{ℕ, suc, List, [], ◌∷◌, ◌++◌, Option, Some, None}
 use Rattle.std.specs.List.{flat_map}
 use Rattle.std.specs.Option.{unwrap_or}
 use Rattle.cs_grammar.specs.Tree.{Label, Tree, atom, named, reference, conjunction, disjunction, paren, struct, list, wide, Wide, marked, merged, shut, selected, Declarations, no_declaration, declared, embedded, conditional, Trees, none, more, Fields, no_field, field, End, closed, any, each, DefinitionTree, definition, NameTree, FileTree, file, package_name, definitions, names}
 use Rattle.cs_grammar.specs.declared.ast.FieldMark.{FieldMark}
-use Rattle.cs_names.specs.Lifted.{known, lifts, shared, own_place, top_place}
+use Rattle.cs_names.specs.Lifted.{drop_byte, known, lifts, shared, own_place, top_place}
 use Rattle.cs_names.specs.Scopes.{Place, Scope, denoted, scope_of_fields, scope_of_declarations, value_scope, name_scope, bound_scope}
 
 -- the definition of a place, where these are known
@@ -21,6 +21,11 @@ meant by scopes s = at_place by (denoted scopes s)
 abbrev pub refer : Option (List ℕ) → ℕ → Tree → Tree
 refer None o e = e
 refer (Some t) o e = reference t o
+
+-- the definition that is selected from: what the name before the labels stands for, or else the one of the files that it names by its `#` (35)
+abbrev pub base : Option (List ℕ) → List ℕ → List ℕ
+base None s = drop_byte 35 s
+base (Some t) s = t
 
 -- a definition, if its name is known, and others behind it
 abbrev pub defining : Option (List ℕ) → ℕ → Tree → List DefinitionTree → List DefinitionTree
@@ -63,7 +68,7 @@ module _ (by : Place → Option (List ℕ)) (i : ℕ) where
     resolved_wide scopes (marked o e) = marked o (resolved scopes e)
     resolved_wide scopes (merged o ds b) = merged o (resolved_declarations (scope_of_declarations i ds) scopes ds) b
     resolved_wide scopes (shut o e) = shut o (resolved scopes e)
-    resolved_wide scopes (selected o s ls) = selected o s ls
+    resolved_wide scopes (selected o s ls) = selected o (base (meant by scopes s) s) ls
 
     pub resolved_each : List Scope → Trees → Trees
     resolved_each scopes none = none

@@ -91,6 +91,14 @@ denoted (ds ∷ scopes) s = or_outside (entry ds s) (denoted scopes s)
 abbrev pub first_byte : List ℕ → Option ℕ
 first_byte s = slice_get s 0
 
+-- `#` (35)
+abbrev pub is_hash : Option ℕ → Bool
+is_hash None = false
+is_hash (Some x) = x == 35
+
+abbrev pub begins_hash : List ℕ → Bool
+begins_hash s = is_hash (first_byte s)
+
 -- `#` (35) or `_` (95)
 abbrev pub is_mark : Option ℕ → Bool
 is_mark None = false

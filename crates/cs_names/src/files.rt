@@ -13,7 +13,8 @@ use cs_grammar::File;
 use std::alloc::Global;
 
 /// The files that files of the wide profile stand for, each at its place: each name of a scope is a definition of its own, and what names it refers to
-/// that (CUE, declarations and scopes, definitions and hidden fields, let clauses). Conditions, embeddings and marks of defaults stay.
+/// that (CUE, declarations and scopes, definitions and hidden fields, let clauses). Selectors, which select from definitions then, conditions, embeddings and
+/// marks of defaults stay.
 ///
 /// # Errors
 /// `LeftOut`, `UnknownName` or `NamesField` with the first name or selector at fault by itself, by file and then by text; `UnknownName` with the first

@@ -6,7 +6,7 @@ ghost use Rattle.cs_grammar.specs.View.{expr_view, exprs_view, field_view, field
 ghost use Rattle.cs_names.specs.Checks as Check;
 ghost use Rattle.cs_names.specs.Checks.{TellsLifts, TellsScope, TellScopes, Finds, FindsAny, flaws_field_seen, flaws_seen};
 ghost use Rattle.cs_names.specs.Flaws as Spec;
-ghost use Rattle.cs_names.specs.Flaws.{operand_flaws, let_flaws, bound_flaws, name_flaws, file_flaws, flaws_from};
+ghost use Rattle.cs_names.specs.Flaws.{operand_flaws, unmeant_flaws, base_flaws, let_flaws, bound_flaws, name_flaws, file_flaws, flaws_from};
 ghost use Rattle.cs_names.specs.Lifted.{Lifts};
 ghost use Rattle.cs_names.specs.Scopes as Scopes;
 
@@ -14,18 +14,18 @@ use crate::NameFault;
 use crate::lifting::Lifting;
 use crate::resolved::Naming;
 use crate::scopes::{Around, Scope, is_field, is_let};
-use crate::texts::is_hidden;
+use crate::texts::{begins_hash, behind_hash, is_hidden};
 use cs_grammar::{Declaration, Definition, Expr, Field, File, ListEnd, Name, Wide, atom};
 use std::alloc::AllocError;
 
 /// What is at fault, and the offset.
 #[derive(Clone, Copy)]
 pub enum Flaw {
-    /// A form that is left out.
+    /// A form that is left out: a selector from what nothing declares.
     LeftOut { at: usize },
     /// A name that isn't declared, that nothing names, or that is declared beside a `let`.
     Unknown { at: usize },
-    /// A name that stands for a field of a literal.
+    /// A name that stands for a field of a literal, or a selector from one.
     Field { at: usize },
     /// A name that is declared again.
     Again { at: usize },
@@ -108,6 +108,35 @@ impl<'a> Naming<'_, 'a> {
         unknown_if(is_unmeant && self.lifting.is_lifted(name), at)
     }
 
+    /// Looks for what is at fault with the name before the labels of a selector, which stands for nothing.
+    fn check_unmeant(&self, scopes: &[Around<'_, 'a>], name: &str, at: usize) -> Result<(), Stop>
+        ensures { (all : List DefinitionTree) (ts : Lifts) (ss : List Scopes.Scope) → TellsLifts self.now.lifting.now all ts → TellScopes scopes.now ss
+            → Finds result (unmeant_flaws ts ss name.now at) }
+    {
+        if begins_hash(name) {
+            return unknown_if(self.lifting.is_lifted(behind_hash(name)), at);
+        }
+        let flaw = if is_field(scopes, name) {
+            Flaw::Field { at }
+        } else if is_hidden(name) {
+            Flaw::Unknown { at }
+        } else {
+            Flaw::LeftOut { at }
+        };
+        Err(Stop::Flawed(flaw))
+    }
+
+    /// Looks for what is at fault with the name before the labels of a selector.
+    fn check_base(&self, scopes: &[Around<'_, 'a>], name: &str, at: usize) -> Result<(), Stop>
+        ensures { (all : List DefinitionTree) (ts : Lifts) (ss : List Scopes.Scope) → TellsLifts self.now.lifting.now all ts → TellScopes scopes.now ss
+            → Finds result (base_flaws ts ss name.now at) }
+    {
+        if self.meant(scopes, name).is_some() {
+            return Ok(());
+        }
+        self.check_unmeant(scopes, name, at)
+    }
+
     /// Looks for what is at fault in an expression in these scopes. `Err` has the first.
     #[cycle(flaws)]
     fn check(&self, is_inner: bool, scopes: &[Around<'_, 'a>], expr: &'a Expr) -> Result<(), Stop>
@@ -150,7 +179,7 @@ impl<'a> Naming<'_, 'a> {
                 let own = Scope::of_declarations(self.alloc, self.file, declarations)?;
                 self.check_declarations(is_inner, &own, scopes, declarations)
             }
-            Wide::Selected { at, .. } => Err(Stop::Flawed(Flaw::LeftOut { at: *at })),
+            Wide::Selected { at, name, .. } => self.check_base(scopes, name, *at),
         }
     }
 

@@ -143,7 +143,8 @@ fn wide_joins(alloc: Global, form: &Wide) -> Result<bool, AllocError>
 {
     match form {
         Wide::Marked { value, .. } | Wide::Shut { value, .. } => joins(alloc, value),
-        Wide::Merged { .. } | Wide::Selected { .. } => Ok(true),
+        Wide::Merged { .. } => Ok(true),
+        Wide::Selected { .. } => Ok(false),
     }
 }
 

@@ -11,6 +11,7 @@ ghost use Rattle.cs_names.specs.Named.{resolved};
 ghost use Rattle.cs_names.specs.Names.{AreNamed};
 ghost use Rattle.cs_names.specs.Reading.{values_at};
 ghost use Rattle.cs_names.specs.Scopes.{Place};
+ghost use Rattle.cs_names.specs.Selecting.{IsSelectingFile};
 
 /// A law: files without names stand for themselves.
 pub fn files_without_names_stay()
@@ -22,9 +23,9 @@ pub fn written_files_have_no_names()
     ensures { (fs : List FileTree) → AllByRecursion IsWrittenFile fs → have_names fs ≡ false }
 {}
 
-/// A law: what can be written down with names can be written down without them.
+/// A law: what can be written down with names can be written down without them, but for selectors.
 pub fn named_files_can_be_written()
-    ensures { (fs gs : List FileTree) → AreNamed fs gs → AllByRecursion IsNamableFile fs → AllByRecursion IsWrittenFile gs }
+    ensures { (fs gs : List FileTree) → AreNamed fs gs → AllByRecursion IsNamableFile fs → AllByRecursion IsSelectingFile gs }
 {}
 
 /// A law: the definition that a name is lifted by has just the values that are declared at its place, each as it is in its scopes without names.

@@ -15,6 +15,7 @@ mod lifting;
 mod references;
 mod resolved;
 mod scopes;
+mod taken;
 mod texts;
 
 pub use cs_grammar::File;
@@ -22,3 +23,5 @@ pub use fault::NameFault;
 pub use files::without_names;
 pub use having::have_names;
 pub use laws::{files_without_names_stay, named_files_can_be_written, written_files_have_no_names};
+pub use resolved::copy_conditions;
+pub use taken::{defined_in, free_name};

@@ -1,14 +1,14 @@
 // What is lifted: the definitions of names, by where these are declared.
 ghost use Rattle.std.specs.Prelude.{◌≡◌, ◌++◌, List, [], ◌∷◌, Some, None, false, map, IfOk, OnOk, option_map, string_bytes};
-ghost use Rattle.std.specs.List.{flat_map};
-ghost use Rattle.cs_grammar.specs.Tree.{DefinitionTree, definitions};
-ghost use Rattle.cs_grammar.specs.View.{definition_view, name_view, file_view};
-ghost use Rattle.cs_names.specs.Checks.{TellsLifts, TellsDefined};
+ghost use Rattle.cs_grammar.specs.Tree.{DefinitionTree};
+ghost use Rattle.cs_grammar.specs.View.{name_view, file_view};
+ghost use Rattle.cs_names.specs.Checks.{TellsLifts};
 ghost use Rattle.cs_names.specs.Lifted as Spec;
-ghost use Rattle.cs_names.specs.Lifted.{Lifts, free, first_free, all_numbers, with_lifted, lift_own, lift_top, origin_of, known, all_definitions};
+ghost use Rattle.cs_names.specs.Lifted.{Lifts, free, with_lifted, lift_own, lift_top, origin_of, known, all_definitions};
 
-use crate::texts::{inner_name, is_marked, numbered, top_name};
-use cs_grammar::{Definition, File, Name};
+use crate::taken::{defined_in, free_name};
+use crate::texts::{inner_name, is_marked, top_name};
+use cs_grammar::{File, Name};
 use std::alloc::{AllocError, Global};
 use std::collections::{BTreeMap, BTreeSet};
 
@@ -67,31 +67,6 @@ fn top_origin(name: &Name) -> Origin
     }
 }
 
-/// Adds the names of definitions.
-fn add_defined<'a>(
-    defined: &mut BTreeSet<&'a str>,
-    definitions: &'a Vec<Definition>,
-) -> Result<(), AllocError>
-    ensures { OnOk result ((ds : List DefinitionTree) → TellsDefined defined.old ds
-        → TellsDefined defined.new (ds ++ map definition_view definitions.now.items)) }
-{
-    for definition in definitions {
-        defined.insert(definition.name.as_str())?;
-    }
-    Ok(())
-}
-
-/// The names of the definitions of files.
-fn defined_in<'a>(alloc: Global, files: &'a [File]) -> Result<BTreeSet<&'a str>, AllocError>
-    ensures { IfOk result (λ d. TellsDefined d (flat_map definitions (map file_view files.now))) }
-{
-    let mut defined = BTreeSet::new(alloc);
-    for file in files {
-        add_defined(&mut defined, &file.definitions)?;
-    }
-    Ok(defined)
-}
-
 impl<'a> Lifting<'a> {
     /// Nothing, beside the definitions of the files.
     pub(crate) fn new(alloc: Global, files: &'a [File]) -> Result<Lifting<'a>, AllocError>
@@ -113,13 +88,6 @@ impl<'a> Lifting<'a> {
         self.names.contains(name)
     }
 
-    /// Whether any definition has it.
-    fn is_taken(&self, name: &str) -> bool
-        ensures { (all : List DefinitionTree) (ts : Lifts) → TellsLifts self.now all ts → result ≡ Spec.is_taken all ts name.now }
-    {
-        self.defined.contains(name) || self.names.contains(name)
-    }
-
     /// The name of the definition of what is declared at a place.
     pub(crate) fn known(&self, place: (usize, usize)) -> Option<&str>
         ensures { (all : List DefinitionTree) (ts : Lifts) → TellsLifts self.now all ts → option_map (λ n. n.now) result ≡ known ts place }
@@ -130,22 +98,6 @@ impl<'a> Lifting<'a> {
         }
     }
 
-    /// The name with the first number that makes it free. If there were none, there would be no memory for it either.
-    fn first_free(&self, wanted: &str) -> Result<String, AllocError>
-        ensures found { (all : List DefinitionTree) (ts : Lifts) → TellsLifts self.now all ts
-            → IfOk result (λ s. string_bytes s ≡ first_free (Spec.is_taken all ts) wanted.now 1 all_numbers) }
-        ensures apart { (all : List DefinitionTree) (ts : Lifts) → TellsLifts self.now all ts
-            → IfOk result (λ s. Spec.is_taken all ts (string_bytes s) ≡ false) }
-    {
-        for number in 1..usize::MAX {
-            let name = numbered(self.alloc, wanted, number)?;
-            if !self.is_taken(&name) {
-                return Ok(name);
-            }
-        }
-        Err(AllocError)
-    }
-
     /// The name, with a number behind it where it is taken.
     fn free(&self, wanted: String) -> Result<String, AllocError>
         ensures found { (all : List DefinitionTree) (ts : Lifts) → TellsLifts self.now all ts
@@ -153,11 +105,7 @@ impl<'a> Lifting<'a> {
         ensures apart { (all : List DefinitionTree) (ts : Lifts) → TellsLifts self.now all ts
             → IfOk result (λ s. Spec.is_taken all ts (string_bytes s) ≡ false) }
     {
-        if self.is_taken(&wanted) {
-            self.first_free(&wanted)
-        } else {
-            Ok(wanted)
-        }
+        free_name(self.alloc, &self.defined, &self.names, wanted)
     }
 
     /// Adds what is declared at a place for the first time.

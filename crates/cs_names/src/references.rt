@@ -1,4 +1,4 @@
-// The definitions that expressions refer to.
+// The definitions that expressions refer to, and those that they select from.
 ghost use Rattle.std.specs.Prelude.{◌≡◌, ◌++◌, ℕ, List, map, IfOk, OnOk};
 ghost use Rattle.cs_grammar.specs.View.{expr_view, exprs_view, fields_view, declaration_view, declarations_view, end_view, wide_view, definition_view, file_view};
 ghost use Rattle.cs_names.specs.Checks.{TellsTexts, references_seen};
@@ -57,7 +57,10 @@ fn add_wide<'a>(found: &mut Texts<'a>, is_all: bool, form: &'a Wide) -> Result<(
             found, is_all, value,
         ),
         Wide::Merged { declarations, .. } => add_declarations(found, is_all, declarations),
-        Wide::Selected { .. } => Ok(()),
+        Wide::Selected { name, .. } => {
+            found.insert(name.as_str())?;
+            Ok(())
+        }
     }
 }
 

@@ -10,7 +10,7 @@ ghost use Rattle.cs_names.specs.Scopes as Scopes;
 
 use crate::lifting::Lifting;
 use crate::scopes::{Around, Scope, denoted};
-use crate::texts::with_mark;
+use crate::texts::{behind_hash, with_mark};
 use cs_grammar::{
     Condition, Declaration, Expr, Field, ListEnd, Scalar, Test, Wide, atom, copied_selectors,
 };
@@ -56,7 +56,13 @@ fn copy_condition(condition: &Condition) -> Result<Condition, AllocError>
 }
 
 /// The same conditions.
-fn copy_conditions(alloc: Global, conditions: &[Condition]) -> Result<Vec<Condition>, AllocError>
+///
+/// # Errors
+/// Memory ran out.
+pub fn copy_conditions(
+    alloc: Global,
+    conditions: &[Condition],
+) -> Result<Vec<Condition>, AllocError>
     ensures { IfOk result (λ v. map condition_view v.items ≡ map condition_view conditions.now) }
 {
     let mut copied = Vec::with_capacity(alloc, conditions.len())?;
@@ -123,6 +129,17 @@ impl<'l, 'a> Naming<'l, 'a> {
             None => text.clone()?,
         };
         Ok(Expr::Reference { text, at })
+    }
+
+    /// The definition that is selected from, by the name before the labels, as it is written.
+    fn base(&self, scopes: &[Around<'_, 'a>], name: &str) -> Result<String, AllocError>
+        ensures { (all : List DefinitionTree) (ts : Lifts) (ss : List Scopes.Scope) → TellsLifts self.now.lifting.now all ts → TellScopes scopes.now ss
+            → IfOk result (λ s. string_bytes s ≡ Spec.base (Spec.meant (known ts) ss name.now) name.now) }
+    {
+        match self.meant(scopes, name) {
+            Some(definition) => String::from_str(self.alloc, definition),
+            None => String::from_str(self.alloc, behind_hash(name)),
+        }
     }
 
     /// The expression in these scopes, without names.
@@ -194,7 +211,7 @@ impl<'l, 'a> Naming<'l, 'a> {
             }
             Wide::Selected { at, name, labels } => {
                 let at = *at;
-                let name = name.clone()?;
+                let name = self.base(scopes, name)?;
                 let labels = copied_selectors(self.alloc, labels)?;
                 Ok(Wide::Selected { at, name, labels })
             }

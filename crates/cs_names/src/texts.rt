@@ -28,6 +28,16 @@ pub(crate) fn is_hidden(name: &str) -> bool
     }
 }
 
+/// Whether a name begins with `#`.
+pub(crate) fn begins_hash(name: &str) -> bool
+    ensures { result ≡ Scopes.begins_hash name.now }
+{
+    match name.as_bytes().first() {
+        Some(byte) => *byte == b'#',
+        None => false,
+    }
+}
+
 /// Whether the name of a definition may begin so behind its `#`: with a letter or `_`.
 fn begins_definition(name: &str) -> bool
     ensures { result ≡ Spec.begins (Scopes.first_byte name.now) }
@@ -49,7 +59,7 @@ fn behind_underscore(name: &str) -> &str
 }
 
 /// A name without the `#` that it begins with.
-fn behind_hash(name: &str) -> &str
+pub(crate) fn behind_hash(name: &str) -> &str
     ensures { result.now ≡ Spec.drop_byte 35 name.now }
 {
     match name.strip_prefix('#') {
@@ -69,10 +79,7 @@ fn bare(name: &str) -> &str
 pub(crate) fn is_definition(name: &str) -> bool
     ensures { result ≡ Joined.is_definition name.now }
 {
-    match behind_underscore(name).as_bytes().first() {
-        Some(byte) => *byte == b'#',
-        None => false,
-    }
+    begins_hash(behind_underscore(name))
 }
 
 /// The name of the definition that a name of a file is to be lifted by.

@@ -8,6 +8,7 @@ use cs_grammar::{
     Wide, atom,
 };
 use cs_names::{NameFault, have_names, without_names};
+use cs_selectors::{SelectorFault, have_selectors, without_selectors};
 use cs_syntax::parse_file_in;
 use std::alloc::{AllocError, Global};
 use std::str;
@@ -16,8 +17,8 @@ use std::str;
 /// another keeps its place.
 #[derive(Drop)]
 pub struct Placed {
-    /// The file of each source, at its place: without names, conditions and embeddings, and with the marks of defaults. A definition that a name of a scope
-    /// stands for is at the offset at which that is declared.
+    /// The file of each source, at its place: without names, selectors, conditions and embeddings, and with the marks of defaults. A definition that a name of
+    /// a scope stands for is at the offset at which that is declared, and one that a selector is made where the first such selector is.
     pub files: Vec<File>,
     /// The offset at which each source begins, in their order.
     bases: Vec<usize>,
@@ -48,7 +49,8 @@ pub fn placed_files(alloc: Global, sources: &[&[u8]]) -> Result<Option<Placed>, 
         return Ok(None);
     };
     let named = named_files(alloc, files)?;
-    let files = joined_files(alloc, chosen_files(alloc, named)?)?;
+    let unselected = unselected_files(alloc, named)?;
+    let files = joined_files(alloc, chosen_files(alloc, unselected)?)?;
     Ok(Some(Placed { files, bases }))
 }
 
@@ -65,6 +67,23 @@ fn named_files(alloc: Global, files: Vec<File>) -> Result<Vec<File>, AllocError>
             | NameFault::UnknownName { .. }
             | NameFault::NamesField { .. }
             | NameFault::Redeclared { .. },
+        ) => Ok(files),
+    }
+}
+
+/// Files without selectors. Where they stand for none they are themselves, in which a selector stands for nothing.
+fn unselected_files(alloc: Global, files: Vec<File>) -> Result<Vec<File>, AllocError> {
+    if !have_selectors(&files) {
+        return Ok(files);
+    }
+    match without_selectors(alloc, &files) {
+        Ok(unselected) => Ok(unselected),
+        Err(SelectorFault::OutOfMemory) => Err(AllocError),
+        Err(
+            SelectorFault::LeftOut { .. }
+            | SelectorFault::UnknownName { .. }
+            | SelectorFault::NotRegular { .. }
+            | SelectorFault::TooLarge,
         ) => Ok(files),
     }
 }

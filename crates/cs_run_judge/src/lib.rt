@@ -139,8 +139,10 @@ fn why_of<'a>(call: Call<'_, '_>, sources: &'a Written<'a>) -> Option<Why<'a>> {
 /// The documents of `--docs`, or the lines of `--lines`.
 fn opened<'w>(call: Call<'_, 'w>) -> Result<Judged<'w>, Fault> {
     if let Some(paths) = call.words.get_strs("docs") {
-        let labels = paths.iter().map(|path| Label::of(call.alloc(), path));
-        let labels: Vec<Label<'w>> = labels.try_collect(call.alloc())?;
+        let mut labels = Vec::with_capacity(call.alloc(), paths.len())?;
+        for path in paths.iter() {
+            labels.push(Label::of(call.alloc(), path)?)?;
+        }
         return Ok(Judged::Files(labels));
     }
     let Some(path) = call.words.get_str("doc") else {

@@ -149,6 +149,29 @@ impl<'s, 'a> Near<'s, 'a> {
         if self.begins_let() { behind } else { self }
     }
 
+    /// The name that the author gives a definition which is declared at the token, or stands for what a selector asks for that begins with it.
+    pub fn name_written(self) -> &'a str {
+        let declared = self.name_declared().here().text;
+        self.selector().map_or(declared, |selector| selector.text())
+    }
+
+    /// The selector that begins with the token: a name, and then each `.` with its label; none where that is something else.
+    pub fn selector(self) -> Option<Part<'s, 'a>> {
+        let is_name = matches!(
+            self.here().sort,
+            Sort::Name | Sort::Definition | Sort::Hidden
+        );
+        let behind = self.place.checked_add(1)?;
+        let is_dot = |label: &usize| {
+            let place = behind.saturating_add(label.saturating_mul(2));
+            self.source.token(place).text == "."
+        };
+        let labels = (0..self.source.tokens.len()).take_while(is_dot).count();
+        let to = behind.saturating_add(labels.saturating_mul(2));
+        let is_selector = is_name && labels > 0;
+        is_selector.then_some(self.source.whole().between(self.place, to))
+    }
+
     /// Whether the token refers to a definition, or to another name that a struct or a file declares: in sources that spell a package each name
     /// does that is no label and not predeclared.
     pub fn is_reference(self) -> bool {
@@ -413,7 +436,9 @@ pub fn declared_in<'s, 'a>(alloc: Global, sources: &'s [Source<'a>]) -> Made<Dec
         let tokens = (0..source.tokens.len()).map(|place| Near { source, place });
         let names = tokens.filter(|token| token.here().sort == Sort::Definition);
         let labels = names.filter(|name| is_mark(name.behind(1), ":"));
-        by_name.extend(labels.filter(|label| source.around(label.place) == 0))?;
+        for label in labels.filter(|label| source.around(label.place) == 0) {
+            by_name.push(label)?;
+        }
     }
     by_name.sort_by_key(|declaration| declaration.here().text)?;
     let mut firsts = Vec::from_slice(alloc, &by_name)?;

@@ -13,12 +13,11 @@ pub(crate) fn tokens_of(alloc: Global, mut profile: Profile, text: &str) -> Made
     for _ in 0..text.len().saturating_add(1) {
         let rest = text.get(from..).unwrap_or("");
         let (found, stuck) = cut(alloc, profile, rest)?;
-        tokens.extend(
-            found.iter().map(|token| Token {
-                start: token.start.saturating_add(from),
-                ..*token
-            }),
-        )?;
+        // `extend` would ask for the room of all of them first, and go on where that is refused.
+        for token in &found {
+            let start = token.start.saturating_add(from);
+            tokens.push(Token { start, ..*token })?;
+        }
         let Some(stuck) = stuck else { break };
         // To find that an attribute has no end may have taken the whole text, so it is the last that is looked for.
         if rest.as_bytes().get(stuck) == Some(&b'@') {

@@ -1,5 +1,5 @@
 -- Documents as the literals that they are, and kinds of documents: what atoms admit is what tests ask.
-use Rattle.std.proofs.Common.{◌≡◌, ℕ, ℤ, Bool, true, false, not, refl, ap, ◌∙◌}
+use Rattle.std.proofs.Common.{◌≡◌, ℤ, Bool, true, false, not, refl, ap, ◌∙◌}
 use Rattle.std.specs.Prelude.{◌&&◌, ◌||◌}
 use Rattle.std.specs.Bool.{beq}
 use Rattle.cs_document.specs.Document as D

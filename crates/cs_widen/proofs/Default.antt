@@ -15,6 +15,8 @@ use Rattle.cs_conditions.specs.Having.{have_conditions}
 use Rattle.cs_defaults.specs.Widened.{IsUnmarked}
 use Rattle.cs_names.specs.Having.{have_names}
 use Rattle.cs_names.specs.Names.{AreNamed}
+use Rattle.cs_selectors.specs.Having.{have_selectors}
+use Rattle.cs_selectors.specs.Selectors.{AreUnselected}
 use Rattle.cs_tool.specs.Accepted.{AreFiles, IsAccepted}
 use Rattle.cs_tool.specs.FilesIn.{AreFilesIn}
 use Rattle.cs_widen.specs.Accepted.{IsAcceptedIn}
@@ -32,6 +34,12 @@ HaveNoNames = (fs : List FileTree) → AllByRecursion IsWrittenFile fs → have_
 
 abbrev pub StayNamed : Type 0
 StayNamed = (fs : List FileTree) → have_names fs ≡ false → AreNamed fs fs
+
+abbrev pub HaveNoSelectors : Type 0
+HaveNoSelectors = (fs : List FileTree) → AllByRecursion IsWrittenFile fs → have_selectors fs ≡ false
+
+abbrev pub StayUnselected : Type 0
+StayUnselected = (fs : List FileTree) → have_selectors fs ≡ false → AreUnselected fs fs
 
 abbrev pub HaveNoConditions : Type 0
 HaveNoConditions = (fs : List FileTree) → AllByRecursion IsDefaultFile fs → have_conditions fs ≡ false
@@ -52,14 +60,16 @@ all_wide law (s ∷ ss) (f ∷ fs) h = (law s f h.0, all_wide law ss fs h.1)
 abbrev pub StandForThemselves : Type 0
 StandForThemselves = (ss : List (List ℕ)) (fs : List FileTree) (E : Environment) → AreFiles ss fs → IsPackage fs E → AreMeant fs fs
 
-pub themselves : HaveDefaultForms → WritesSpelled → HaveNoNames → StayNamed → HaveNoConditions → StayChosen → Stay → StandForThemselves
-themselves law writes nameless stay_named free stay_chosen stay ss fs E spelled one_package =
+pub themselves : HaveDefaultForms → WritesSpelled → HaveNoNames → StayNamed → HaveNoSelectors → StayUnselected → HaveNoConditions → StayChosen → Stay → StandForThemselves
+themselves law writes nameless stay_named direct stay_unselected free stay_chosen stay ss fs E spelled one_package =
     let forms = spelled_default law ss fs spelled in
     let written = all_spelled writes ss fs spelled in
     let low = spelled_low profiles.Default ss fs spelled in
     record {
       named = fs;
       are_named = stay_named fs (nameless fs written);
+      unselected = fs;
+      are_unselected = stay_unselected fs (direct fs written);
       chosen = fs;
       are_chosen = stay_chosen fs (free fs forms);
       joined = fs;

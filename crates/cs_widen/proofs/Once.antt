@@ -24,6 +24,7 @@ use Rattle.cs_defaults.specs.Widened.{handing_on, mark_faults}
 use Rattle.cs_embeddings.specs.Size.{size_of_files}
 use Rattle.cs_embeddings.specs.Without.{IsJoined, IsWithin, flaws_of_files, clashes_of_files, joined_files}
 use Rattle.cs_names.specs.Names.{AreNamed, name_faults}
+use Rattle.cs_selectors.specs.Selectors.{AreFew, AreUnselected, selector_faults, unselected_files}
 use Rattle.cs_tool.specs.FilesIn.{AreFilesIn}
 use Rattle.cs_widen.specs.Accepted.{IsAcceptedIn}
 use Rattle.cs_widen.specs.Stands.{AreMeant, AreMeantIn}
@@ -48,7 +49,8 @@ one_files p (s ∷ ss) (f ∷ fs) (g ∷ gs) a b =
 pub one_meant : (fs gs hs : List FileTree) → AreMeant fs gs → AreMeant fs hs → gs ≡ hs
 one_meant fs gs hs a b =
     let named = a.are_named.named ∙ sym b.are_named.named in
-    let chosen = a.are_chosen.chosen ∙ ap (λ ns. map (chosen_file (known_in ns)) ns) named ∙ sym b.are_chosen.chosen in
+    let unselected = a.are_unselected.unselected ∙ ap unselected_files named ∙ sym b.are_unselected.unselected in
+    let chosen = a.are_chosen.chosen ∙ ap (λ us. map (chosen_file (known_in us)) us) unselected ∙ sym b.are_chosen.chosen in
     let joined = a.are_joined.joined ∙ ap joined_files chosen ∙ sym b.are_joined.joined in
     a.unmarked.unmarked ∙ ap (λ js. map (unmarked_file (handing_on js)) js) joined ∙ sym b.unmarked.unmarked
 
@@ -90,28 +92,39 @@ module _ (ss : List (List ℕ)) (fs : List FileTree) (spelled : AreFilesIn profi
 
   -- they are these without names
   module _ (ns : List FileTree) (named : AreNamed fs ns) where
-    same_chosen : AreChosen ns wide_stand.chosen
-    same_chosen = subst (λ hs. AreChosen hs wide_stand.chosen) (wide_stand.are_named.named ∙ sym named.named) wide_stand.are_chosen
+    same_unselected : AreUnselected ns wide_stand.unselected
+    same_unselected = subst (λ hs. AreUnselected hs wide_stand.unselected) (wide_stand.are_named.named ∙ sym named.named) wide_stand.are_unselected
 
-    pub no_condition_fault : condition_faults ns ≡ []
-    no_condition_fault = same_chosen.faultless
+    pub few_selectors : AreFew ns
+    few_selectors = same_unselected.few
 
-    -- these are these without conditions
-    module _ (cs : List FileTree) (chosen : AreChosen ns cs) where
-      same_joined : IsJoined cs wide_stand.joined
-      same_joined = subst (λ hs. IsJoined hs wide_stand.joined) (same_chosen.chosen ∙ sym chosen.chosen) wide_stand.are_joined
+    pub no_selector_fault : selector_faults ns ≡ []
+    no_selector_fault = same_unselected.faultless
 
-      pub no_flaw : flaws_of_files cs ≡ []
-      no_flaw = same_joined.flawless
+    -- these are these without selectors
+    module _ (us : List FileTree) (unselected : AreUnselected ns us) where
+      same_chosen : AreChosen us wide_stand.chosen
+      same_chosen = subst (λ hs. AreChosen hs wide_stand.chosen) (same_unselected.unselected ∙ sym unselected.unselected) wide_stand.are_chosen
 
-      pub no_clash : clashes_of_files cs ≡ []
-      no_clash = same_joined.apart
+      pub no_condition_fault : condition_faults us ≡ []
+      no_condition_fault = same_chosen.faultless
 
-      pub within : IsWithin (joined_files cs)
-      within = subst IsWithin same_joined.joined (record { low = wide_stand.low; small = small })
+      -- these are these without conditions
+      module _ (cs : List FileTree) (chosen : AreChosen us cs) where
+        same_joined : IsJoined cs wide_stand.joined
+        same_joined = subst (λ hs. IsJoined hs wide_stand.joined) (same_chosen.chosen ∙ sym chosen.chosen) wide_stand.are_joined
 
-      pub no_fault : (js : List FileTree) → IsJoined cs js → mark_faults js ≡ []
-      no_fault js joined = subst (λ hs. mark_faults hs ≡ []) (same_joined.joined ∙ sym joined.joined) wide_stand.unmarked.faultless
+        pub no_flaw : flaws_of_files cs ≡ []
+        no_flaw = same_joined.flawless
+
+        pub no_clash : clashes_of_files cs ≡ []
+        no_clash = same_joined.apart
+
+        pub within : IsWithin (joined_files cs)
+        within = subst IsWithin same_joined.joined (record { low = wide_stand.low; small = small })
+
+        pub no_fault : (js : List FileTree) → IsJoined cs js → mark_faults js ≡ []
+        no_fault js joined = subst (λ hs. mark_faults hs ≡ []) (same_joined.joined ∙ sym joined.joined) wide_stand.unmarked.faultless
 
 pub one_environment : (p : Profile) (ss : List (List ℕ)) (E F : Environment) → IsAcceptedIn p ss E → IsAcceptedIn p ss F → E ≡ F
 one_environment p ss E F a b = one_environment_of p ss b.files b.spelled E a b.meant b.stand_for F b.one_package

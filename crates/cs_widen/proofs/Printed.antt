@@ -15,7 +15,9 @@ use Rattle.cs_defaults.specs.Unmarked.{unmarked_file}
 use Rattle.cs_defaults.specs.Widened.{IsUnmarked, handing_on}
 use Rattle.cs_embeddings.specs.Without.{IsJoined, IsWithin}
 use Rattle.cs_names.specs.Names.{AreNamed}
+use Rattle.cs_names.specs.Selecting.{IsSelectingFile}
 use Rattle.cs_print.specs.Printed.{IsPrinted, IsReadAs}
+use Rattle.cs_selectors.specs.Selectors.{AreUnselected}
 use Rattle.cs_tool.specs.Accepted.{AreFiles}
 use Rattle.cs_tool.specs.FilesIn.{AreFilesIn}
 use Rattle.cs_widen.specs.Stands.{AreMeant, AreMeantIn}
@@ -63,7 +65,10 @@ abbrev pub SpellsNamable : Type 0
 SpellsNamable = (p : Profile) (source : List ℕ) (f : FileTree) → IsSpelledByIn p source f → IsNamableFile f
 
 abbrev pub WritesNamed : Type 0
-WritesNamed = (fs gs : List FileTree) → AreNamed fs gs → AllByRecursion IsNamableFile fs → AllByRecursion IsWrittenFile gs
+WritesNamed = (fs gs : List FileTree) → AreNamed fs gs → AllByRecursion IsNamableFile fs → AllByRecursion IsSelectingFile gs
+
+abbrev pub WritesUnselected : Type 0
+WritesUnselected = (fs gs : List FileTree) → AreUnselected fs gs → AllByRecursion IsSelectingFile fs → AllByRecursion IsWrittenFile gs
 
 abbrev pub WritesChosen : Type 0
 WritesChosen = (fs gs : List FileTree) → AreChosen fs gs → AllByRecursion IsWrittenFile fs → AllByRecursion IsWrittenFile gs
@@ -117,10 +122,12 @@ AreRead = (source : List ℕ) (fs : List FileTree) → IsPrinted source fs → h
 
 -- ---- what the files of sources stand for
 
-pub are_meant : (fs ns cs js gs : List FileTree) → AreNamed fs ns → AreChosen ns cs → IsJoined cs js → IsWithin js → IsUnmarked js gs → AreMeant fs gs
-are_meant fs ns cs js gs named chosen joined within unmarked = record {
+pub are_meant : (fs ns us cs js gs : List FileTree) → AreNamed fs ns → AreUnselected ns us → AreChosen us cs → IsJoined cs js → IsWithin js → IsUnmarked js gs → AreMeant fs gs
+are_meant fs ns us cs js gs named unselected chosen joined within unmarked = record {
   named = ns;
   are_named = named;
+  unselected = us;
+  are_unselected = unselected;
   chosen = cs;
   are_chosen = chosen;
   joined = js;
@@ -133,11 +140,12 @@ module _ (fs gs : List FileTree) (stand_for : AreMeant fs gs) where
   abbrev has : List ℕ → Bool
   has = handing_on stand_for.joined
 
-  wide_written : (ss : List (List ℕ)) → AreFilesIn profiles.Wide ss fs → SpellsNamable → WritesNamed → WritesChosen → WritesJoined → WritesUnmarked
+  wide_written : (ss : List (List ℕ)) → AreFilesIn profiles.Wide ss fs → SpellsNamable → WritesNamed → WritesUnselected → WritesChosen → WritesJoined → WritesUnmarked
       → AllByRecursion IsWrittenFile gs
-  wide_written ss spelled law names chooses joins keeps =
+  wide_written ss spelled law names selects chooses joins keeps =
       let named = names fs stand_for.named stand_for.are_named (all_namable law profiles.Wide ss fs spelled) in
-      let chosen = chooses stand_for.named stand_for.chosen stand_for.are_chosen named in
+      let unselected = selects stand_for.named stand_for.unselected stand_for.are_unselected named in
+      let chosen = chooses stand_for.unselected stand_for.chosen stand_for.are_chosen unselected in
       let written = joins stand_for.chosen stand_for.joined chosen stand_for.are_joined in
       subst (λ hs. AllByRecursion IsWrittenFile hs) (sym stand_for.unmarked.unmarked) (all_unmarked keeps has stand_for.joined written)
 
@@ -152,10 +160,11 @@ module _ (fs gs : List FileTree) (stand_for : AreMeant fs gs) where
 -- the same in a profile: those of the default one are what is spelled
 module _ (fs gs : List FileTree) where
   pub meant_written : (p : Profile) (ss : List (List ℕ)) → AreFilesIn p ss fs → AreMeantIn p fs gs → WritesSpelled → SpellsNamable → WritesNamed
-      → WritesChosen → WritesJoined → WritesUnmarked → AllByRecursion IsWrittenFile gs
-  meant_written profiles.Default ss spelled same law wide names chooses joins keeps =
+      → WritesUnselected → WritesChosen → WritesJoined → WritesUnmarked → AllByRecursion IsWrittenFile gs
+  meant_written profiles.Default ss spelled same law wide names selects chooses joins keeps =
       subst (λ hs. AllByRecursion IsWrittenFile hs) (sym same) (all_spelled law ss fs spelled)
-  meant_written profiles.Wide ss spelled stand_for law wide names chooses joins keeps = wide_written fs gs stand_for ss spelled wide names chooses joins keeps
+  meant_written profiles.Wide ss spelled stand_for law wide names selects chooses joins keeps =
+      wide_written fs gs stand_for ss spelled wide names selects chooses joins keeps
 
   pub meant_default : (p : Profile) (ss : List (List ℕ)) → AreFilesIn p ss fs → AreMeantIn p fs gs → HaveDefaultForms → HaveNoMarks
       → AllByRecursion IsDefaultFile gs

@@ -1,5 +1,5 @@
 -- Which refusal of each stage is which refusal of the sources.
-use Rattle.std.proofs.Common.{ℕ, List, inl, inr, refl}
+use Rattle.std.proofs.Common.{ℕ, List, Result, Ok, Err, IfErr, inl, inr, refl}
 use Rattle.cs_grammar.specs.Tree.{FileTree}
 use Rattle.cs_grammar.specs.declared.profile.Profile.{Profile}
 use Rattle.cs_grammar.specs.declared.profile.Profile.TheVariants as profiles
@@ -26,14 +26,22 @@ use Rattle.cs_names.specs.Names as named
 use Rattle.cs_names.specs.Names.{AreNamed}
 use Rattle.cs_names.specs.declared.fault.NameFault.{NameFault}
 use Rattle.cs_names.specs.declared.fault.NameFault.TheVariants as scopes
+use Rattle.cs_selectors.specs.Selectors as unselected
+use Rattle.cs_selectors.specs.Selectors.{AreUnselected}
+use Rattle.cs_selectors.specs.declared.fault.SelectorFault.{SelectorFault}
+use Rattle.cs_selectors.specs.declared.fault.SelectorFault.TheVariants as selections
 use Rattle.cs_tool.specs.Accepted.{AreTexts}
 use Rattle.cs_tool.specs.FilesIn.{AreFilesIn}
 use Rattle.cs_tool.specs.Conversions.{of_resolve, of_guard}
 use Rattle.cs_tool.specs.First.{SpellingRefusal}
 use Rattle.cs_tool.specs.declared.fault.Fault.{Fault}
 use Rattle.cs_tool.specs.declared.fault.Fault.TheVariants.{SourcesTooLong, NotUtf8, NoToken, Syntax, LeftOut, IntegerRange, TooHigh, OutOfMemory}
-use Rattle.cs_widen.specs.Refused.{of_name, of_condition, of_embedding, of_mark, IsNameRefusal, IsConditionRefusal, IsEmbeddingRefusal, IsMarkRefusal, IsNoPackageIn, IsUnguardedIn, RefusalIn}
+use Rattle.cs_widen.specs.Refused.{of_name, of_selector, of_condition, of_embedding, of_mark, IsNameRefusal, IsSelectorRefusal, IsConditionRefusal, IsEmbeddingRefusal, IsMarkRefusal, IsNoPackageIn, IsUnguardedIn, RefusalIn}
 use Rattle.cs_widen.specs.Stands.{AreMeantBy}
+
+pub refused_as : {X : Type 0} (r : Result X Fault) (P Q : Fault → Type 0) → ((e : Fault) → P e → Q e) → IfErr r P → IfErr r Q
+refused_as (Ok x) P Q f h = h
+refused_as (Err e) P Q f h = f e h
 
 pub by_spelling : (p : Profile) (ss : List (List ℕ)) (e : Fault) → SpellingRefusal p ss e → RefusalIn p ss e
 by_spelling p ss OutOfMemory h = tt
@@ -60,59 +68,86 @@ module _ (ss : List (List ℕ)) (texts : AreTexts ss) (fs : List FileTree) (spel
 
   -- they are these without names
   module _ (ns : List FileTree) (are_named : AreNamed fs ns) where
-    condition_refusal : (f : ConditionFault) → conditions.IsRefusal f ns → IsConditionRefusal ss (of_condition f)
-    condition_refusal f h = record { texts = texts; files = fs; spelled = spelled; named = ns; are_named = are_named; fault = f; refused = h; told = refl }
+    selector_refusal : (f : SelectorFault) → unselected.IsRefusal f ns → IsSelectorRefusal ss (of_selector f)
+    selector_refusal f h = record { texts = texts; files = fs; spelled = spelled; named = ns; are_named = are_named; fault = f; refused = h; told = refl }
 
-    pub by_condition : (f : ConditionFault) → conditions.IsRefusal f ns → RefusalIn profiles.Wide ss (of_condition f)
-    by_condition choices.OutOfMemory h = tt
-    by_condition (choices.LeftOut i o) h = inr (inr (inl (condition_refusal (choices.LeftOut i o) h)))
-    by_condition (choices.MayBeAbsent i o) h = inl (inr (condition_refusal (choices.MayBeAbsent i o) h))
+    pub by_selector : (f : SelectorFault) → unselected.IsRefusal f ns → RefusalIn profiles.Wide ss (of_selector f)
+    by_selector selections.OutOfMemory h = tt
+    by_selector (selections.LeftOut i o) h = inr (inr (inl (selector_refusal (selections.LeftOut i o) h)))
+    by_selector (selections.UnknownName i o) h = inl (inr (inl (selector_refusal (selections.UnknownName i o) h)))
+    by_selector (selections.NotRegular i o) h = inl (inr (inl (selector_refusal (selections.NotRegular i o) h)))
+    by_selector selections.TooLarge h = inl (inl (selector_refusal selections.TooLarge h))
 
-    -- these are these without conditions
-    module _ (cs : List FileTree) (chosen : AreChosen ns cs) where
-      embedding_refusal : (f : EmbeddingFault) → embeddings.IsRefusal f cs → IsEmbeddingRefusal ss (of_embedding f)
-      embedding_refusal f h = record {
+    -- these are these without selectors
+    module _ (us : List FileTree) (are_unselected : AreUnselected ns us) where
+      condition_refusal : (f : ConditionFault) → conditions.IsRefusal f us → IsConditionRefusal ss (of_condition f)
+      condition_refusal f h = record {
         texts = texts;
         files = fs;
         spelled = spelled;
         named = ns;
         are_named = are_named;
-        chosen = cs;
-        are_chosen = chosen;
+        unselected = us;
+        are_unselected = are_unselected;
         fault = f;
         refused = h;
         told = refl;
       }
 
-      pub by_embedding : (f : EmbeddingFault) → embeddings.IsRefusal f cs → RefusalIn profiles.Wide ss (of_embedding f)
-      by_embedding joins.OutOfMemory h = tt
-      by_embedding (joins.UnknownName i o) h = inl (inr (embedding_refusal (joins.UnknownName i o) h))
-      by_embedding (joins.NoStruct i o) h = inl (inr (embedding_refusal (joins.NoStruct i o) h))
-      by_embedding (joins.Reopened i o) h = inl (inr (embedding_refusal (joins.Reopened i o) h))
-      by_embedding (joins.TooHigh i) h = inr (embedding_refusal (joins.TooHigh i) h)
-      by_embedding joins.TooLarge h = inl (embedding_refusal joins.TooLarge h)
+      pub by_condition : (f : ConditionFault) → conditions.IsRefusal f us → RefusalIn profiles.Wide ss (of_condition f)
+      by_condition choices.OutOfMemory h = tt
+      by_condition (choices.LeftOut i o) h = inr (inr (inr (inl (condition_refusal (choices.LeftOut i o) h))))
+      by_condition (choices.MayBeAbsent i o) h = inl (inr (inr (condition_refusal (choices.MayBeAbsent i o) h)))
 
-      -- these have no flaw, and are these without embeddings
-      module _ (js : List FileTree) (joined : IsJoined cs js) where
-        mark_refusal : (f : DefaultFault) → defaults.IsRefusal f js → IsMarkRefusal ss (of_mark f)
-        mark_refusal f h = record {
+      -- these are these without conditions
+      module _ (cs : List FileTree) (chosen : AreChosen us cs) where
+        embedding_refusal : (f : EmbeddingFault) → embeddings.IsRefusal f cs → IsEmbeddingRefusal ss (of_embedding f)
+        embedding_refusal f h = record {
           texts = texts;
           files = fs;
           spelled = spelled;
           named = ns;
           are_named = are_named;
+          unselected = us;
+          are_unselected = are_unselected;
           chosen = cs;
           are_chosen = chosen;
-          joined = js;
-          are_joined = joined;
           fault = f;
           refused = h;
           told = refl;
         }
 
-        pub by_mark : (f : DefaultFault) → defaults.IsRefusal f js → RefusalIn profiles.Wide ss (of_mark f)
-        by_mark marks.OutOfMemory h = tt
-        by_mark (marks.Mark i o) h = inr (inr (inr (mark_refusal (marks.Mark i o) h)))
+        pub by_embedding : (f : EmbeddingFault) → embeddings.IsRefusal f cs → RefusalIn profiles.Wide ss (of_embedding f)
+        by_embedding joins.OutOfMemory h = tt
+        by_embedding (joins.UnknownName i o) h = inl (inr (inr (embedding_refusal (joins.UnknownName i o) h)))
+        by_embedding (joins.NoStruct i o) h = inl (inr (embedding_refusal (joins.NoStruct i o) h))
+        by_embedding (joins.Reopened i o) h = inl (inr (embedding_refusal (joins.Reopened i o) h))
+        by_embedding (joins.TooHigh i) h = inr (embedding_refusal (joins.TooHigh i) h)
+        by_embedding joins.TooLarge h = inl (inr (embedding_refusal joins.TooLarge h))
+
+        -- these have no flaw, and are these without embeddings
+        module _ (js : List FileTree) (joined : IsJoined cs js) where
+          mark_refusal : (f : DefaultFault) → defaults.IsRefusal f js → IsMarkRefusal ss (of_mark f)
+          mark_refusal f h = record {
+            texts = texts;
+            files = fs;
+            spelled = spelled;
+            named = ns;
+            are_named = are_named;
+            unselected = us;
+            are_unselected = are_unselected;
+            chosen = cs;
+            are_chosen = chosen;
+            joined = js;
+            are_joined = joined;
+            fault = f;
+            refused = h;
+            told = refl;
+          }
+
+          pub by_mark : (f : DefaultFault) → defaults.IsRefusal f js → RefusalIn profiles.Wide ss (of_mark f)
+          by_mark marks.OutOfMemory h = tt
+          by_mark (marks.Mark i o) h = inr (inr (inr (inr (mark_refusal (marks.Mark i o) h))))
 
 -- the sources spell files, which stand for these
 module _ (p : Profile) (ss : List (List ℕ)) (gs : List FileTree) (meant : AreMeantBy p ss gs) where

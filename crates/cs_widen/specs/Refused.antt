@@ -24,6 +24,10 @@ use Rattle.cs_names.specs.Names as names
 use Rattle.cs_names.specs.Names.{AreNamed}
 use Rattle.cs_names.specs.declared.fault.NameFault.{NameFault}
 use Rattle.cs_names.specs.declared.fault.NameFault.TheVariants as scopes
+use Rattle.cs_selectors.specs.Selectors as selectors
+use Rattle.cs_selectors.specs.Selectors.{AreUnselected}
+use Rattle.cs_selectors.specs.declared.fault.SelectorFault.{SelectorFault}
+use Rattle.cs_selectors.specs.declared.fault.SelectorFault.TheVariants as selections
 use Rattle.cs_tool.specs.Accepted.{most_bytes, AreTexts}
 use Rattle.cs_tool.specs.FilesIn.{AreFilesIn}
 use Rattle.cs_tool.specs.Conversions.{of_resolve, of_guard}
@@ -33,7 +37,7 @@ use Rattle.cs_tool.specs.declared.fault.Fault.TheVariants.{SourcesTooLong, NotUt
 use Rattle.cs_widen.specs.Meant.{IsMeantIn}
 use Rattle.cs_widen.specs.Stands.{AreMeantIn}
 
--- a selector is a form that is left out; a name that nothing declares is unknown, and so is one that is bound and not named; what a name stands
+-- a selector from what nothing declares is a form that is left out; a name that nothing declares is unknown, and so is one that is bound and not named; what a name stands
 -- for names no field around it; and a name that two literals declare isn't opened where files join literals
 abbrev pub of_name : NameFault → Fault
 of_name scopes.OutOfMemory = OutOfMemory
@@ -41,6 +45,15 @@ of_name (scopes.LeftOut file offset) = LeftOut file offset
 of_name (scopes.UnknownName file offset) = UnknownName file offset
 of_name (scopes.NamesField file offset) = FieldReference file offset
 of_name (scopes.Redeclared file offset) = NotOpened file offset
+
+-- a selector that looks into what doesn't tell its fields is a form that is left out, one whose label nothing declares is unknown, and one whose label no regular field
+-- declares is one of a field that may be absent
+abbrev pub of_selector : SelectorFault → Fault
+of_selector selections.OutOfMemory = OutOfMemory
+of_selector (selections.LeftOut file offset) = LeftOut file offset
+of_selector (selections.UnknownName file offset) = UnknownName file offset
+of_selector (selections.NotRegular file offset) = FieldReference file offset
+of_selector selections.TooLarge = TooLarge 0
 
 -- a condition that isn't taken is a form that is left out, and a field that may be absent where it is asked about is one that a name depends on
 abbrev pub of_condition : ConditionFault → Fault
@@ -71,15 +84,28 @@ pub record IsNameRefusal (sources : List (List ℕ)) (f : Fault) : Type 0 where
   pub refused : names.IsRefusal fault files
   pub told : f ≡ of_name fault
 
--- they stand for files without names, and that is why these don't stand for files without conditions
+-- they stand for files without names, and that is why these don't stand for files without selectors
+pub record IsSelectorRefusal (sources : List (List ℕ)) (f : Fault) : Type 0 where
+  pub texts : AreTexts sources
+  pub files : List FileTree
+  pub spelled : AreFilesIn profiles.Wide sources files
+  pub named : List FileTree
+  pub are_named : AreNamed files named
+  pub fault : SelectorFault
+  pub refused : selectors.IsRefusal fault named
+  pub told : f ≡ of_selector fault
+
+-- these stand for files without selectors, and that is why these don't stand for files without conditions
 pub record IsConditionRefusal (sources : List (List ℕ)) (f : Fault) : Type 0 where
   pub texts : AreTexts sources
   pub files : List FileTree
   pub spelled : AreFilesIn profiles.Wide sources files
   pub named : List FileTree
   pub are_named : AreNamed files named
+  pub unselected : List FileTree
+  pub are_unselected : AreUnselected named unselected
   pub fault : ConditionFault
-  pub refused : conditions.IsRefusal fault named
+  pub refused : conditions.IsRefusal fault unselected
   pub told : f ≡ of_condition fault
 
 -- these stand for files without conditions, and that is why these don't stand for files without embeddings
@@ -89,8 +115,10 @@ pub record IsEmbeddingRefusal (sources : List (List ℕ)) (f : Fault) : Type 0 w
   pub spelled : AreFilesIn profiles.Wide sources files
   pub named : List FileTree
   pub are_named : AreNamed files named
+  pub unselected : List FileTree
+  pub are_unselected : AreUnselected named unselected
   pub chosen : List FileTree
-  pub are_chosen : AreChosen named chosen
+  pub are_chosen : AreChosen unselected chosen
   pub fault : EmbeddingFault
   pub refused : embeddings.IsRefusal fault chosen
   pub told : f ≡ of_embedding fault
@@ -102,8 +130,10 @@ pub record IsMarkRefusal (sources : List (List ℕ)) (f : Fault) : Type 0 where
   pub spelled : AreFilesIn profiles.Wide sources files
   pub named : List FileTree
   pub are_named : AreNamed files named
+  pub unselected : List FileTree
+  pub are_unselected : AreUnselected named unselected
   pub chosen : List FileTree
-  pub are_chosen : AreChosen named chosen
+  pub are_chosen : AreChosen unselected chosen
   pub joined : List FileTree
   pub are_joined : IsJoined chosen joined
   pub fault : DefaultFault
@@ -150,14 +180,19 @@ RefusalIn p sources (IntegerRange number offset) = SpellingRefusal p sources (In
 RefusalIn p sources (TooHigh number) = SpellingRefusal p sources (TooHigh number) ⊎ OfWide p (IsEmbeddingRefusal sources (TooHigh number))
 RefusalIn p sources (LeftOut number offset) =
     IsMisspelledIn p sources (LeftOut number offset) ⊎ OfWide p
-    (IsNameRefusal sources (LeftOut number offset) ⊎ (IsConditionRefusal sources (LeftOut number offset) ⊎ IsMarkRefusal sources (LeftOut number offset)))
+    (IsNameRefusal sources (LeftOut number offset) ⊎ (IsSelectorRefusal sources (LeftOut number offset)
+    ⊎ (IsConditionRefusal sources (LeftOut number offset) ⊎ IsMarkRefusal sources (LeftOut number offset))))
 RefusalIn p sources (PackageName number) = IsNoPackageIn p sources (PackageName number)
-RefusalIn p sources (TooLarge definitions) = OfWide p (IsEmbeddingRefusal sources (TooLarge definitions)) ⊎ IsNoPackageIn p sources (TooLarge definitions)
+RefusalIn p sources (TooLarge definitions) =
+    OfWide p (IsSelectorRefusal sources (TooLarge definitions) ⊎ IsEmbeddingRefusal sources (TooLarge definitions))
+    ⊎ IsNoPackageIn p sources (TooLarge definitions)
 RefusalIn p sources (UnknownName number offset) =
-    OfWide p (IsNameRefusal sources (UnknownName number offset) ⊎ IsEmbeddingRefusal sources (UnknownName number offset))
+    OfWide p (IsNameRefusal sources (UnknownName number offset) ⊎ (IsSelectorRefusal sources (UnknownName number offset)
+    ⊎ IsEmbeddingRefusal sources (UnknownName number offset)))
     ⊎ IsNoPackageIn p sources (UnknownName number offset)
 RefusalIn p sources (FieldReference number offset) =
-    OfWide p (IsNameRefusal sources (FieldReference number offset) ⊎ IsConditionRefusal sources (FieldReference number offset))
+    OfWide p (IsNameRefusal sources (FieldReference number offset) ⊎ (IsSelectorRefusal sources (FieldReference number offset)
+    ⊎ IsConditionRefusal sources (FieldReference number offset)))
     ⊎ IsNoPackageIn p sources (FieldReference number offset)
 RefusalIn p sources (NotOpened number offset) =
     OfWide p (IsNameRefusal sources (NotOpened number offset) ⊎ IsEmbeddingRefusal sources (NotOpened number offset))

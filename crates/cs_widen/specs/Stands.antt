@@ -1,5 +1,5 @@
 -- Which files files of a profile stand for. Those of the default profile stand for themselves. Those of the wide one have no names but definitions
--- first, then no conditions, then no embeddings, and no operands of `&` or declarations of one label that are put together, and then no marks of
+-- first, then no selectors, then no conditions, then no embeddings, and no operands of `&` or declarations of one label that are put together, and then no marks of
 -- defaults; what the default profile accepts stands for itself there too.
 use Rattle.std.specs.Prelude.{◌≡◌, ℕ, ◌≤◌, List}
 use Rattle.std.specs.List.{flat_map}
@@ -12,6 +12,7 @@ use Rattle.cs_conditions.specs.Conditions.{AreChosen}
 use Rattle.cs_defaults.specs.Widened.{IsUnmarked}
 use Rattle.cs_embeddings.specs.Without.{IsJoined}
 use Rattle.cs_names.specs.Names.{AreNamed}
+use Rattle.cs_selectors.specs.Selectors.{AreUnselected}
 use Rattle.cs_tool.specs.Accepted.{AreTexts}
 use Rattle.cs_tool.specs.FilesIn.{AreFilesIn}
 
@@ -19,8 +20,10 @@ use Rattle.cs_tool.specs.FilesIn.{AreFilesIn}
 pub record AreMeant (fs gs : List FileTree) : Type 0 where
   pub named : List FileTree
   pub are_named : AreNamed fs named
+  pub unselected : List FileTree
+  pub are_unselected : AreUnselected named unselected
   pub chosen : List FileTree
-  pub are_chosen : AreChosen named chosen
+  pub are_chosen : AreChosen unselected chosen
   pub joined : List FileTree
   pub are_joined : IsJoined chosen joined
   pub low : height_definitions (flat_map definitions joined) ≤ most_height

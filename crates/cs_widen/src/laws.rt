@@ -68,6 +68,8 @@ pub(crate) fn default_packages_are_meant()
     cs_print::spelled_files_are_written(); // for the proof: names in them are fields; `&` has two operands; by the opening rule nothing is put together
     cs_names::written_files_have_no_names(); // for the proof: so they have no names but definitions
     cs_names::files_without_names_stay(); // for the proof: and stand for themselves
+    cs_selectors::written_files_have_no_selectors(); // for the proof: they have no selectors
+    cs_selectors::files_without_selectors_stay(); // for the proof: and stand for themselves
     cs_syntax::default_files_have_default_forms(); // for the proof: nothing is embedded in them, and nothing under a condition
     cs_conditions::default_files_have_no_conditions(); // for the proof: they have no conditions
     cs_conditions::files_without_conditions_stay(); // for the proof: and stand for themselves

@@ -15,12 +15,15 @@ ghost use Rattle.cs_embeddings.specs.Without.{IsJoined, IsWithin, flaws_of_files
 ghost use Rattle.cs_names.specs.declared.fault.NameFault.{NameFault};
 ghost use Rattle.cs_names.specs.Names as names;
 ghost use Rattle.cs_names.specs.Names.{AreNamed, name_faults};
+ghost use Rattle.cs_selectors.specs.declared.fault.SelectorFault.{SelectorFault};
+ghost use Rattle.cs_selectors.specs.Selectors as selectors;
+ghost use Rattle.cs_selectors.specs.Selectors.{AreFew, AreUnselected, selector_faults};
 ghost use Rattle.cs_tool.specs.Accepted.{IsAccepted};
 ghost use Rattle.cs_tool.specs.First.{SourcesRefusal};
 ghost use Rattle.cs_tool.specs.Given.{bytes_in};
 ghost use Rattle.cs_widen.specs.Accepted.{IsAcceptedIn};
 ghost use Rattle.cs_widen.specs.Meant.{IsMeant, IsMeantIn};
-ghost use Rattle.cs_widen.specs.Refused.{RefusalIn, of_name, of_condition, of_embedding, of_mark};
+ghost use Rattle.cs_widen.specs.Refused.{RefusalIn, of_name, of_selector, of_condition, of_embedding, of_mark};
 ghost use Rattle.cs_widen.specs.Stands.{AreMeantBy};
 
 use cs_conditions::{ConditionFault, have_conditions, without_conditions};
@@ -30,6 +33,7 @@ use cs_guard::guard;
 use cs_names::{NameFault, have_names, without_names};
 use cs_print::source_of;
 use cs_resolve::resolve_written;
+use cs_selectors::{SelectorFault, have_selectors, without_selectors};
 use cs_syntax::{File, Profile};
 use cs_tool::{Fault, accepted_package, spelled_files};
 use std::alloc::Global;
@@ -51,7 +55,7 @@ pub fn widen(alloc: Global, sources: &[&[u8]]) -> Result<String, Fault>
 ///
 /// # Errors
 /// The first condition that the sources fail, as the clause `refused` says: their size and characters, then those that spell no file in
-/// the profile, the first name of a scope at fault, the first condition of an `if` at fault, what is embedded and can't be, the first mark of a
+/// the profile, the first name of a scope at fault, the first selector at fault, the first condition of an `if` at fault, what is embedded and can't be, the first mark of a
 /// default at fault, and then why what they stand for is no package, or isn't guarded. `OutOfMemory`.
 pub fn widen_in(alloc: Global, profile: Profile, sources: &[&[u8]]) -> Result<String, Fault>
     ensures found { IfOk result (λ s. IsMeantIn profile (bytes_in sources.now) (string_bytes s)) }
@@ -63,7 +67,8 @@ pub fn widen_in(alloc: Global, profile: Profile, sources: &[&[u8]]) -> Result<St
     cs_print::spelled_files_are_written(); // for the proof: what the default profile spells can be printed
     cs_print::spelled_files_are_namable(); // for the proof: what a source spells can be printed but for names
     cs_print::printed_sources_are_read(); // for the proof: what is printed keeps the limits
-    cs_names::named_files_can_be_written(); // for the proof: what has no names can be printed
+    cs_names::named_files_can_be_written(); // for the proof: what has no names can be printed but for selectors
+    cs_selectors::unselected_files_can_be_written(); // for the proof: what has no selectors can be printed
     cs_conditions::chosen_files_can_be_written(); // for the proof: what has no conditions can be printed
     cs_embeddings::joined_files_can_be_written(); // for the proof: what has no embeddings can be printed
     cs_defaults::unmarked_files_are_no_higher(); // for the proof: what is printed keeps the limits
@@ -77,7 +82,7 @@ pub fn widen_in(alloc: Global, profile: Profile, sources: &[&[u8]]) -> Result<St
 }
 
 /// The files that sources stand for in a profile: those that they spell, in the wide one first without names but definitions, then without
-/// conditions, then without embeddings, and then without marks of defaults.
+/// selectors, then without conditions, then without embeddings, and then without marks of defaults.
 fn files_meant_by(alloc: Global, profile: Profile, sources: &[&[u8]]) -> Result<Vec<File>, Fault>
     ensures found { IfOk result (λ v. AreMeantBy profile (bytes_in sources.now) (map file_view v.items)) }
     ensures refused { IfErr result (λ e. RefusalIn profile (bytes_in sources.now) e) }
@@ -109,7 +114,8 @@ fn wide_files(alloc: Global, sources: &[&[u8]]) -> Result<Vec<File>, Fault>
 {
     let spelled = spelled_files(alloc, Profile::Wide, sources)?;
     let named = named_files(alloc, spelled)?;
-    let chosen = chosen_files(alloc, named)?;
+    let unselected = unselected_files(alloc, named)?;
+    let chosen = chosen_files(alloc, unselected)?;
     let joined = joined_files(alloc, &chosen)?;
     meant_files(alloc, &joined)
 }
@@ -136,7 +142,34 @@ fn named_files(alloc: Global, spelled: Vec<File>) -> Result<Vec<File>, Fault>
     }
 }
 
-/// Files without conditions, that have no names but definitions: those that have none as they are.
+/// Files without selectors, that have no names but definitions: those that have none as they are.
+fn unselected_files(alloc: Global, spelled: Vec<File>) -> Result<Vec<File>, Fault>
+    ensures found { IfOk result (λ v. AreUnselected (map file_view spelled.items) (map file_view v.items)) }
+    ensures refused { IfErr result (λ e. (f : SelectorFault) × (e ≡ of_selector f)
+        × selectors.IsRefusal f (map file_view spelled.items)) }
+    ensures only { AreFew (map file_view spelled.items) → selector_faults (map file_view spelled.items) ≡ []
+        → IsOkUnless result Fault.OutOfMemory }
+{
+    cs_selectors::files_without_selectors_stay(); // for the proof: they stand for themselves
+    if !have_selectors(&spelled) {
+        return Ok(spelled);
+    }
+    match without_selectors(alloc, &spelled) {
+        Ok(unselected) => Ok(unselected),
+        Err(SelectorFault::OutOfMemory) => Err(Fault::OutOfMemory),
+        Err(SelectorFault::LeftOut { file, offset }) => Err(Fault::LeftOut { file, offset }),
+        Err(SelectorFault::UnknownName { file, offset }) => Err(Fault::UnknownName {
+            file,
+            offset,
+        }),
+        Err(SelectorFault::NotRegular { file, offset }) => {
+            Err(Fault::FieldReference { file, offset })
+        }
+        Err(SelectorFault::TooLarge) => Err(Fault::TooLarge { definitions: 0 }),
+    }
+}
+
+/// Files without conditions, that have no selectors: those that have none as they are.
 fn chosen_files(alloc: Global, spelled: Vec<File>) -> Result<Vec<File>, Fault>
     ensures found { IfOk result (λ v. AreChosen (map file_view spelled.items) (map file_view v.items)) }
     ensures refused { IfErr result (λ e. (f : ConditionFault) × (e ≡ of_condition f)

@@ -1,5 +1,5 @@
 use Rattle.std.proofs.Common.{◌≡◌, ℕ, [], ◌∷◌, Some, string_bytes, Vec, sym, ap, subst, ◌∙◌}
-use Rattle.std.proofs.lemmas.Result.{IfOk-weaker, IfErr-weaker}
+use Rattle.std.proofs.lemmas.Result.{err_from_is_err_and, IfOk-weaker, IfErr-weaker}
 use Rattle.std.specs.Option.{option_map}
 use Rattle.std.specs.declared.alloc.Global.{Global}
 use Rattle.cs_tool.specs.First.{SourcesRefusal}
@@ -7,10 +7,15 @@ use Rattle.cs_tool.specs.Given.{bytes_in}
 use Rattle.cs_tool.specs.declared.fault.Fault.{Fault}
 use Rattle.cs_widen.specs.Calls.{Means, RefusesIn}
 use Rattle.cs_widen.specs.Meant.{StandForIn}
-use Rattle.cs_widen.proofs.Judgements.{by_meant, refused_meant, refused_themselves}
+use Rattle.cs_widen.proofs.Judgements.{by_meant, refused_before, refused_meant, refused_themselves}
 use Rattle.cs_export.specs.Shaped.{ArePackageSchemas}
 use Rattle.cs_export.proofs.Profiles.{by_law}
 use Rattle.cs_export.proofs.exports.export_all_in.Goals as goal
+
+pub returns-in_err-meant-clause-refused : goal.returns-in_err-meant-clause-refused
+returns-in_err-meant-clause-refused c =
+    let p = err_from_is_err_and c.from_residual-in_err-meant.result c.from_residual-in_err-meant.ensures.1 in
+    rw (p.1, p.2) (refused_before (bytes_in c.args.sources.now) (λ judged. SourcesRefusal judged c.in_err-meant.field-0.0) c.args.profile c.in_err-meant.field-0.0 c.in_err-meant.ensures.refused)
 
 pub returns-in-Some-clause-found : goal.returns-in-Some-clause-found
 returns-in-Some-clause-found c =

@@ -1,6 +1,6 @@
-use Rattle.std.proofs.Common.{◌≡◌, ℕ, Bool, List, [], ◌∷◌, ◌++◌, map, take, drop}
-use Rattle.cs_grammar.specs.View.{exprs_view, definition_view, file_view}
-use Rattle.cs_names.specs.Checks.{TellsTexts, lifted_view}
+use Rattle.std.proofs.Common.{ℕ, List, ◌++◌, map, take}
+use Rattle.cs_grammar.specs.View.{definition_view}
+use Rattle.cs_names.specs.Checks.{TellsTexts}
 use Rattle.cs_names.specs.Joined as Spec
 use Rattle.cs_names.proofs.held.add_definitions.Given as goal
 

@@ -1,5 +1,4 @@
-use Rattle.std.proofs.Common.{◌≡◌, ℕ, Bool, List, [], ◌∷◌, ◌++◌, map, take, drop}
-use Rattle.cs_grammar.specs.View.{exprs_view, definition_view, file_view}
+use Rattle.std.proofs.Common.{◌≡◌, ℕ, List, map, drop}
 use Rattle.cs_names.specs.Checks.{TellsTexts, lifted_view}
 use Rattle.cs_names.specs.Joined as Spec
 use Rattle.cs_names.proofs.held.find_held.Given as goal

@@ -74,6 +74,12 @@ add_references-returns-in_ok-insert-in-Reference t c ss told =
     let more = texts_put c.args.found.now c.insert.new.self c.as_str.result ss told c.in_ok-insert-in-Reference.ensures.updates in
     subst (λ rs. TellsTexts c.insert.new.self (ss ++ rs)) is more
 
+pub add_wide-returns-in_ok-insert-in-Selected : goal.add_wide-returns-in_ok-insert-in-Selected
+add_wide-returns-in_ok-insert-in-Selected t c ss told =
+    let is : c.as_str.result.now ∷ [] ≡ Spec.references_wide c.args.is_all (wide_view c.args.form.now) = search (rules, Exprs.the_lemmas) in
+    let more = texts_put c.args.found.now c.insert.new.self c.as_str.result ss told c.in_ok-insert-in-Selected.ensures.updates in
+    subst (λ rs. TellsTexts c.insert.new.self (ss ++ rs)) is more
+
 pub add_wide-returns-in-Merged : goal.add_wide-returns-in-Merged
 add_wide-returns-in-Merged t c =
     let is : Spec.references_wide c.args.is_all (wide_view c.args.form.now) ≡ Spec.references_declarations c.args.is_all (declarations_view c.deref.result.now) = search (rules, Exprs.the_lemmas) in

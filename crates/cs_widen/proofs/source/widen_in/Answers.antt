@@ -23,7 +23,7 @@ source_of-requires-clause-written c =
     let m = c.in_ok-meant.ensures.found in
     let written = meant_written m.files gs c.args.profile (bytes_in c.args.sources.now) m.spelled m.stand_for
     c.spelled_files_are_written.ensures c.spelled_files_are_namable.ensures c.named_files_can_be_written.ensures
-    c.chosen_files_can_be_written.ensures c.joined_files_can_be_written.ensures c.unmarked_files_can_be_written.ensures in
+    c.unselected_files_can_be_written.ensures c.chosen_files_can_be_written.ensures c.joined_files_can_be_written.ensures c.unmarked_files_can_be_written.ensures in
     subst (λ xs. AllByRecursion IsWrittenFile (map file_view xs)) (sym c.deref.ensures.value) written
 
 pub source_of-requires-clause-default_forms : goal.source_of-requires-clause-default_forms
@@ -39,7 +39,7 @@ resolve_written-requires-clause-written c =
     let m = c.in_ok-meant.ensures.found in
     meant_written m.files gs c.args.profile (bytes_in c.args.sources.now) m.spelled m.stand_for
     c.spelled_files_are_written.ensures c.spelled_files_are_namable.ensures c.named_files_can_be_written.ensures
-    c.chosen_files_can_be_written.ensures c.joined_files_can_be_written.ensures c.unmarked_files_can_be_written.ensures
+    c.unselected_files_can_be_written.ensures c.chosen_files_can_be_written.ensures c.joined_files_can_be_written.ensures c.unmarked_files_can_be_written.ensures
 
 pub resolve_written-requires-clause-default_forms : goal.resolve_written-requires-clause-default_forms
 resolve_written-requires-clause-default_forms c =

@@ -1,0 +1,37 @@
+// What files stand for without selectors.
+ghost use Rattle.std.specs.Prelude.{◌≡◌, [], map, IfOk, IfErr, IsOkUnless};
+ghost use Rattle.cs_grammar.specs.View.{file_view};
+ghost use Rattle.cs_selectors.specs.Selectors.{AreFew, AreUnselected, IsRefusal, selector_faults};
+
+use crate::SelectorFault;
+use crate::added::unselected_files;
+use crate::bodies::Bodies;
+use crate::given::Giving;
+use crate::uses::uses_in;
+use cs_grammar::File;
+use std::alloc::Global;
+
+/// How many selectors files may have.
+const MOST_SELECTORS: usize = 4_096;
+
+/// The files that files of the wide profile stand for, each at its place: each selector is the reference to a definition of its own, which has the values
+/// that the selector asks for, is where the first selector is that asks for them, and stands behind the definitions of that file (CUE, selectors).
+/// Conditions, embeddings and marks of defaults stay.
+///
+/// # Errors
+/// `TooLarge` of more than 4,096 selectors; or else `LeftOut`, `UnknownName` or `NotRegular` with the first selector at fault, by file and then by text.
+/// `OutOfMemory`.
+pub fn without_selectors(alloc: Global, files: &[File]) -> Result<Vec<File>, SelectorFault>
+    ensures found { IfOk result (λ v. AreUnselected (map file_view files.now) (map file_view v.items)) }
+    ensures refused { IfErr result (λ e. IsRefusal e (map file_view files.now)) }
+    ensures only { AreFew (map file_view files.now) → selector_faults (map file_view files.now) ≡ []
+        → IsOkUnless result SelectorFault.OutOfMemory }
+{
+    let bodies = Bodies::of(alloc, files)?;
+    let selectors = uses_in(alloc, files)?;
+    if selectors.len() > MOST_SELECTORS {
+        return Err(SelectorFault::TooLarge);
+    }
+    let giving = Giving::of(alloc, files, &bodies, &selectors)?;
+    Ok(unselected_files(&giving, files)?)
+}
