@@ -970,6 +970,30 @@ try 'wide: 900 selectors beside a [string] of 20,000 fields: widen' 18000000 'er
     awk 'BEGIN { labels = ""; for (i = 0; i < 26; i++) { labels = labels ".x"; printf "a%d: #B%s, ", i, labels } }'; printf '}\n'
 } > wide.cue
 try 'wide: selectors of 26 labels: widen' 0 'shows #B_x_x: {' 'widen --profile=wide wide.cue'
+# Definitions that would have one name: 4,096 selectors whose labels are `a`s with a `_` between them, parted otherwise; and 5,000 lets. More than 1,000
+# definitions are refused, but behind their names.
+slow='each of these definitions is tried by all numbers that those before it have'
+awk '
+    function inside(rest,   count, text, label) {
+        if (!rest) return "int"
+        for (count = 1; count <= rest; count++) {
+            label = label (count > 1 ? "_a" : "a")
+            text = text (count > 1 ? ", " : "") label ": " inside(rest - count)
+        }
+        return "{" text "}"
+    }
+    function select(rest, before,   count, label) {
+        if (!rest) printf "f%d: #B%s, ", selectors++, before
+        for (count = 1; count <= rest; count++) {
+            label = label (count > 1 ? "_a" : "a")
+            select(rest - count, before "." label)
+        }
+    }
+    BEGIN { printf "#B: %s\n#P: {", inside(13); select(13, ""); print "}" }' > wide.cue
+try 'wide: 4,096 selectors of definitions of one name: widen' 0 'error 14' 'widen --profile=wide wide.cue'
+{ printf '#P: {'; listed 5000 'f%d: {let n = int, a: n}' ', '; printf '}\n'; } > wide.cue
+try 'wide: 5,000 lets of one name: widen' 0 'error 14' 'widen --profile=wide wide.cue'
+slow=
 { printf '#A: {'; listed 20000 '#Z%d' ', '; printf '}\n'; } > wide.cue
 try 'wide: 20,000 embedded names that are not declared: widen' 0 'error 9 at 5' 'widen --profile=wide wide.cue'
 # Each of the 50 faults that are told is mended, and the rest read again.
