@@ -970,9 +970,9 @@ try 'wide: 900 selectors beside a [string] of 20,000 fields: widen' 18000000 'er
     awk 'BEGIN { labels = ""; for (i = 0; i < 26; i++) { labels = labels ".x"; printf "a%d: #B%s, ", i, labels } }'; printf '}\n'
 } > wide.cue
 try 'wide: selectors of 26 labels: widen' 0 'shows #B_x_x: {' 'widen --profile=wide wide.cue'
-# Definitions that would have one name: 4,096 selectors whose labels are `a`s with a `_` between them, parted otherwise; and 5,000 lets. More than 1,000
-# definitions are refused, but behind their names.
-slow='each of these definitions is tried by all numbers that those before it have'
+# Definitions that would have one name: 4,096 selectors whose labels are `a`s with a `_` between them, parted otherwise; and 20,000 lets. More than 1,000
+# definitions are refused, but behind their names and what they embed.
+slow='whether it can be embedded is asked of each definition 128 times'
 awk '
     function inside(rest,   count, text, label) {
         if (!rest) return "int"
@@ -991,8 +991,8 @@ awk '
     }
     BEGIN { printf "#B: %s\n#P: {", inside(13); select(13, ""); print "}" }' > wide.cue
 try 'wide: 4,096 selectors of definitions of one name: widen' 0 'error 14' 'widen --profile=wide wide.cue'
-{ printf '#P: {'; listed 5000 'f%d: {let n = int, a: n}' ', '; printf '}\n'; } > wide.cue
-try 'wide: 5,000 lets of one name: widen' 0 'error 14' 'widen --profile=wide wide.cue'
+{ printf '#P: {'; listed 20000 'f%d: {let n = int, a: n}' ', '; printf '}\n'; } > wide.cue
+try 'wide: 20,000 lets of one name: widen' 0 'error 14' 'widen --profile=wide wide.cue'
 slow=
 { printf '#A: {'; listed 20000 '#Z%d' ', '; printf '}\n'; } > wide.cue
 try 'wide: 20,000 embedded names that are not declared: widen' 0 'error 9 at 5' 'widen --profile=wide wide.cue'

@@ -1,8 +1,8 @@
 #!/bin/sh
 # Whether want of memory is told each time. Makes each command of cases/growths, and each step below of cs_calls, with its first
 # growth of memory refused, then with its second one, and so on, until a run meets no refusal. Each run that meets one must
-# print nothing, say `error 15` (or with `--format` print that as an object) and end with status 5, and the last one must give the whole answer. A line for each command says
-# how many growths it has, or what a run did instead; fails where there is such a run. Takes a minute on 4 processors.
+# print nothing, say `error 15` (or with `--format` print that as an object) and end with status 5, and the last one must give the whole answer. A line for
+# each command says how many growths it has, or what a run did instead; fails where there is such a run. Takes a minute on 4 processors.
 #
 # A run over many documents may answer 15 for one of them, and then it answers the others as they are wanted. One of `samples` may
 # write those that it found before, and say so.

@@ -5,8 +5,8 @@
 #     tools/pages.sh PROGRAM [PAGE..]        pages of the repository; those for users where none is named
 #
 # - The blocks `sh` and `console` of a page are run in their order by one shell, in an empty folder, or for a page of a folder of
-#   examples/ in a copy of that folder, with the program on the PATH as `cue2schema`. A block `sh` has to end with status 0. A line of a `console` block that begins with `$ ` is a
-#   command, and the lines up to the next one are all that it prints.
+#   examples/ in a copy of that folder, with the program on the PATH as `cue2schema`. A block `sh` has to end with status 0. A line of a `console` block that
+#   begins with `$ ` is a command, and the lines up to the next one are all that it prints.
 # - In a table with a column `answer`, the column before it has the input: a `source`, a `schema` or a `document`. A cell that
 #   begins with code is run, and its answer has to be the one in the row. What stands in a column `write instead` has to be
 #   accepted. `<br>` parts lines, and `\|` is a `|`. A source is exported with its last definition as the root.

@@ -10,8 +10,8 @@ cd "$(dirname "$0")/.."
 
 # The parser goes down by the brackets that are open, of which it refuses the 29th; the height of a body is followed 28 deep; a
 # document is read 127 levels deep. Literals are looked for 16 rules deep, and two edits are looked for between names. Why a definition
-# has no instance is looked for 64 parts deep. At most 65 definitions are passed on the way to the mark of a default. Embeddings, and what they narrow, take 128 steps
-# at most, and what is put together is at most 28 levels high.
+# has no instance is looked for 64 parts deep. At most 65 definitions are passed on the way to the mark of a default. Embeddings, and what they narrow, take
+# 128 steps at most, and what is put together is at most 28 levels high.
 limited='crates/cs_check/proofs/schema/+cut
 crates/cs_check/proofs/warnings/Search/+why
 crates/cs_conditions/proofs/defaults/+default_within

@@ -163,8 +163,10 @@ fn wide_faults(
     if about.profile == Profile::Wide || !faults.iter().any(must_open) {
         return Ok(None);
     }
-    let texts = about.sources.iter().map(|source| source.text);
-    let texts: Vec<&[u8]> = texts.collect(alloc)?;
+    let mut texts = Vec::with_capacity(alloc, about.sources.len())?;
+    for source in about.sources {
+        texts.push(source.text)?;
+    }
     let wide = check_wide(alloc, &texts)?;
     // One that is none of what is put together: not one of its names, and not that it is too large or too high.
     let is_apart = |fault: &Fault| match fault {

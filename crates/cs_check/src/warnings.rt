@@ -198,6 +198,17 @@ fn lengths_of(operands: &[Operand<'_>]) -> (usize, usize) {
     (least, most)
 }
 
+/// What lists ask of the element at a place.
+fn elements_at<'a>(alloc: Global, lists: &[Operand<'a>], place: usize) -> Made<Vec<Operand<'a>>> {
+    let mut elements = Vec::new(alloc);
+    for list in lists {
+        if let Some(element) = list.element_at(place) {
+            elements.push(element)?;
+        }
+    }
+    Ok(elements)
+}
+
 impl<'a> Operand<'a> {
     /// What a look at it takes: one step, and one for each of its parts.
     fn cost(self) -> usize {
@@ -468,8 +479,7 @@ impl<'a, 'e> Search<'a, 'e> {
     fn why_inside(&mut self, operands: &[Operand<'a>], depth: usize) -> Found<'a> {
         let (length, _) = lengths_of(operands);
         for place in 0..length.min(self.left) {
-            let asked = operands.iter().filter_map(|list| list.element_at(place));
-            let asked: Vec<Operand<'a>> = asked.collect(self.alloc)?;
+            let asked = elements_at(self.alloc, operands, place)?;
             if let Some(reason) = self.why(asked, depth)? {
                 return Ok(Some(reason.around(Reason::Element { place })));
             }

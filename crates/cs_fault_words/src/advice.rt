@@ -174,11 +174,15 @@ fn labels_inside<'s, 'a>(alloc: Global, bracket: Option<Near<'s, 'a>>) -> Made<V
     let Some(held) = bracket.and_then(|bracket| bracket.held()) else {
         return Ok(Vec::new(alloc));
     };
-    // A label is one token here.
-    (0..=held.count(Comma))
-        .filter_map(|place| held.part(Comma, place)?.first())
-        .filter(|label| follows_label(label.behind(1)))
-        .collect(alloc)
+    let mut labels = Vec::new(alloc);
+    for place in 0..=held.count(Comma) {
+        let first = held.part(Comma, place).and_then(|part| part.first());
+        // A label is one token here.
+        if let Some(label) = first.filter(|label| follows_label(label.behind(1))) {
+            labels.push(label)?;
+        }
+    }
+    Ok(labels)
 }
 
 /// Puts that a name names a field, which is said first, and where that is.

@@ -22,8 +22,10 @@ impl<'s, 'a> Names<'s, 'a> {
 
     /// Those of the package that the sources stand for. Only memory can run out.
     pub fn of(alloc: Global, declared: &'s Declared<'s, 'a>) -> Made<Names<'s, 'a>> {
-        let texts = declared.sources.iter().map(|source| source.named.text);
-        let texts: Vec<&[u8]> = texts.collect(alloc)?;
+        let mut texts = Vec::with_capacity(alloc, declared.sources.len())?;
+        for source in declared.sources {
+            texts.push(source.named.text)?;
+        }
         let placed = placed_files(alloc, &texts)?;
         Ok(Names { declared, placed })
     }

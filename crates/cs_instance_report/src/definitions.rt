@@ -193,10 +193,12 @@ impl<'t> Definitions<'t> {
 
     /// That a key isn't allowed.
     fn extra(&mut self, parts: &[Part], item: usize, member: usize) -> Made<Finding<'t>> {
-        let compared = parts.iter().take(self.comparisons);
-        let labelled = compared.filter(|part| !matches!(part.mark, FieldMark::Every { .. }));
-        let labels = labelled.map(|part| part.label.as_str());
-        let labels: Vec<&str> = labels.collect(self.alloc)?;
+        let mut labels = Vec::new(self.alloc);
+        for part in parts.iter().take(self.comparisons) {
+            if !matches!(part.mark, FieldMark::Every { .. }) {
+                labels.push(part.label.as_str())?;
+            }
+        }
         self.comparisons = self.comparisons.saturating_sub(parts.len());
         let key = key_at(self.flat, item, member).unwrap_or("");
         let finding = Finding::extra(self.alloc, item_at(self.flat, item), key, &labels)?;

@@ -47,10 +47,10 @@ impl<'a> Written<'a> {
     pub fn of(alloc: Global, form: Form, sources: &'a [Named<'a>]) -> Made<Written<'a>> {
         let named: &'a [Named<'a>] = if form.is_standard() { &[] } else { sources };
         let cut = sources_of(alloc, Profile::Wide, named)?;
-        let texts = cut.iter().map(|source| source.named.text);
-        let texts: Vec<&[u8]> = texts.collect(alloc)?;
+        let mut texts = Vec::with_capacity(alloc, cut.len())?;
         let mut positions = Vec::with_capacity(alloc, cut.len())?;
         for source in &cut {
+            texts.push(source.named.text)?;
             positions.push(positions_of(alloc, source)?)?;
         }
         let placed = placed_files(alloc, &texts)?;

@@ -73,8 +73,13 @@ fn words_of(alloc: Global, kinds: ByKind) -> Made<Vec<&'static str>> {
         (kinds.list, "list"),
         (kinds.object, "struct"),
     ];
-    let open = words.iter().filter(|word| word.0 != Some(false));
-    open.map(|word| word.1).collect(alloc)
+    let mut told = Vec::new(alloc);
+    for (verdict, word) in &words {
+        if *verdict != Some(false) {
+            told.push(*word)?;
+        }
+    }
+    Ok(told)
 }
 
 /// An entry for each definition of the package that these sources spell.

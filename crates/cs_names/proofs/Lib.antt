@@ -8,6 +8,7 @@ pub mod Found
 -- names as texts
 pub mod Spelled
 pub mod Free
+pub mod Operands
 -- laws of the definitions
 pub mod Without
 pub mod Written

@@ -1,12 +1,12 @@
 -- Samples, worked by the definitions: files with names, and what they stand for or what is at fault.
-use Rattle.std.proofs.Common.{◌≡◌, ℕ, true, false, List, [], ◌∷◌, ◌++◌, codes, None, refl, sym, ap, ◌∙◌, ◌+◌}
+use Rattle.std.proofs.Common.{◌≡◌, ℕ, Bool, true, false, List, [], ◌∷◌, ◌++◌, codes, None, refl, sym, ap, ◌∙◌, ◌+◌}
 use Rattle.std.specs.Fmt.{digits}
 use Rattle.cs_grammar.specs.Atom.{text}
-use Rattle.cs_grammar.specs.Tree.{written_label, scoped_label, Tree, atom, named, reference, conjunction, disjunction, struct, list, wide, merged, selected, no_declaration, declared, embedded, none, more, Fields, no_field, field, closed, definition, DefinitionTree, NameTree, FileTree, file}
+use Rattle.cs_grammar.specs.Tree.{written_label, scoped_label, Selector, Tree, atom, named, reference, conjunction, disjunction, struct, list, wide, merged, selected, no_declaration, declared, embedded, none, more, Fields, no_field, field, closed, definition, DefinitionTree, NameTree, FileTree, file}
 use Rattle.cs_grammar.specs.declared.ast.FieldMark.TheVariants.{Regular}
 use Rattle.cs_names.specs.Flaws.{flaws_from}
 use Rattle.cs_names.specs.Joined.{unused, references_in, joined}
-use Rattle.cs_names.specs.Lifted.{Lifted, Lifts, known, is_taken, lift_files, all_definitions, shared, lifts}
+use Rattle.cs_names.specs.Lifted.{Lifted, Lifts, known, is_taken, lift_files, all_definitions, shared, lifts, is_open}
 use Rattle.cs_names.specs.Named.{named_files, named_from}
 use Rattle.cs_names.specs.Names.{name_faults}
 use Rattle.cs_names.specs.Scopes.{Place}
@@ -22,7 +22,7 @@ Stands fs gs = (name_faults fs ≡ []) × (gs ≡ named_files fs)
 
 -- the same where that is lifted
 abbrev stand_for : Lifts → List FileTree → List FileTree
-stand_for ts fs = named_from (known ts) (shared fs) 0 fs
+stand_for ts fs = named_from (known ts) (is_open ts) (shared fs) 0 fs
 
 abbrev faults_of : Lifts → List FileTree → List (ℕ × Flaw)
 faults_of ts fs = flaws_from ts (shared fs) 0 fs ++ (unused (references_in true (stand_for ts fs)) ts ++ joined (stand_for ts fs) ts)
@@ -224,6 +224,65 @@ selector_of_let : Stands (of (P (literal 4 (name (codes "N") 5 (literal 13 (own 
     (of (P (literal 4 (own a (from (codes "P_N") 30) no_field)) ∷ definition (codes "P_N") 5 (literal 13 (own (codes "x") int no_field)) ∷ []) [])
 selector_of_let = (refl, refl)
 
+-- `#B: {#C: {k: int}, z: #C}` and `#P: {a: #B.#C}`: the definition that the nested one is lifted by
+abbrev label : List ℕ → Bool → Selector
+label t q = record { text = t; quotes = q; at = 20 }
+
+abbrev selected_from : List ℕ → List Selector → Tree
+selected_from s ls = wide (selected 10 s ls)
+
+abbrev with_nested : Tree → List FileTree
+with_nested e =
+    of (definition (codes "B") 60 (literal 64 (name (codes "#C") 65 (literal 69 (own (codes "k") int no_field)) (own (codes "z") (reference (codes "C") 80) no_field))) ∷ P (literal 4 (own a e no_field)) ∷ []) []
+
+abbrev without_nested : Tree → List FileTree
+without_nested e =
+    of (definition (codes "B") 60 (literal 64 (own (codes "z") (reference (codes "B_C") 80) no_field)) ∷ definition (codes "B_C") 65 (literal 69 (own (codes "k") int no_field))
+    ∷ P (literal 4 (own a e no_field)) ∷ []) []
+
+nested_selected : Stands (with_nested (selected_from (codes "#B") (label (codes "#C") false ∷ []))) (without_nested (reference (codes "B_C") 10))
+nested_selected = (refl, refl)
+
+-- `#P: {a: #B.#C.k}`: a selector from it
+selected_behind_nested : Stands (with_nested (selected_from (codes "#B") (label (codes "#C") false ∷ label (codes "k") false ∷ [])))
+    (without_nested (selected_from (codes "B_C") (label (codes "k") false ∷ [])))
+selected_behind_nested = (refl, refl)
+
+-- `#P: {a: #B."#C"}`: a label in quotes is a field
+quoted_is_no_definition : Stands (with_nested (selected_from (codes "#B") (label (codes "#C") true ∷ []))) (without_nested (selected_from (codes "B") (label (codes "#C") true ∷ [])))
+quoted_is_no_definition = (refl, refl)
+
+-- `#P: {a: #B.#D}`, which `#B` doesn't declare, and the same where it may, since it embeds something
+undeclared_nested : name_faults (with_nested (selected_from (codes "#B") (label (codes "#D") false ∷ []))) ≡ (0, Unknown 10) ∷ []
+undeclared_nested = refl
+
+untold_nested : Stands
+    (of (definition (codes "B") 60 (wide (merged 64 (embedded 65 (reference (codes "A") 65) no_declaration) false)) ∷ P (selected_from (codes "#B") (label (codes "#D") false ∷ [])) ∷ []) [])
+    (of (definition (codes "B") 60 (wide (merged 64 (embedded 65 (reference (codes "A") 65) no_declaration) false)) ∷ P (selected_from (codes "B") (label (codes "#D") false ∷ [])) ∷ []) [])
+untold_nested = (refl, refl)
+
+-- `#B: {#C: int, #A}`: what it embeds may have alternatives
+nested_beside_embedding : Stands
+    (of (definition (codes "B") 60 (wide (merged 64 (declared (scoped_label (codes "#C") 65) Regular int (embedded 70 (reference (codes "A") 70) no_declaration)) false))
+    ∷ P (selected_from (codes "#B") (label (codes "#C") false ∷ [])) ∷ []) [])
+    (of (definition (codes "B") 60 (wide (merged 64 (embedded 70 (reference (codes "A") 70) no_declaration) false)) ∷ definition (codes "B_C") 65 int
+    ∷ P (selected_from (codes "B") (label (codes "#C") false ∷ [])) ∷ []) [])
+nested_beside_embedding = (refl, refl)
+
+-- `#B: {#C: int}` and `#P: {#B: string, a: #B.#C}`: what a literal declares as `#B` is none of the files
+nested_of_another : Stands
+    (of (definition (codes "B") 60 (literal 64 (name (codes "#C") 65 int no_field)) ∷ P (literal 4 (name (codes "#B") 5 string (own a (selected_from (codes "#B") (label (codes "#C") false ∷ [])) no_field))) ∷ []) [])
+    (of (definition (codes "B") 60 (literal 64 no_field) ∷ definition (codes "B_C") 65 int ∷ P (literal 4 (own a (selected_from (codes "P_B") (label (codes "#C") false ∷ [])) no_field)) ∷ definition (codes "P_B") 5 string ∷ []) [])
+nested_of_another = (refl, refl)
+
+-- `#B: {#C: int}` in one file, `#B: {z: string}` and `#P: {a: #B.#C}` in another: one body of it declares `#C`
+nested_in_another_file : Stands
+    (file None (definition (codes "B") 60 (literal 64 (name (codes "#C") 65 int no_field)) ∷ []) []
+    ∷ of (definition (codes "B") 30 (literal 34 (own (codes "z") string no_field)) ∷ P (literal 4 (own a (selected_from (codes "#B") (label (codes "#C") false ∷ [])) no_field)) ∷ []) [])
+    (file None (definition (codes "B") 60 (literal 64 no_field) ∷ definition (codes "B_C") 65 int ∷ []) []
+    ∷ of (definition (codes "B") 30 (literal 34 (own (codes "z") string no_field)) ∷ P (literal 4 (own a (reference (codes "B_C") 10) no_field)) ∷ []) [])
+nested_in_another_file = (refl, refl)
+
 -- `#A: {#K: string, a: #K}` and `#P: #A & {#K: "x"}`
 again : name_faults
     (of (definition (codes "A") 60 (literal 64 (name (codes "#K") 65 string (own a (reference (codes "K") 80) no_field)))
@@ -231,12 +290,26 @@ again : name_faults
     ≡ (0, Again 10) ∷ []
 again = refl
 
--- `H: {a: int}`, `G: {b: int}` and `#P: H & G`
-held_open : name_faults
+-- `H: {a: int}`, `G: {b: int}` and `#P: H & G`, which is `{H, G}`
+held_open : Stands
     (of (P (conjunction (more (named (codes "H") 40) (more (named (codes "G") 44) none))) ∷ [])
     (top (codes "H") 0 (literal 3 (own a int no_field)) ∷ top (codes "G") 20 (literal 23 (own b int no_field)) ∷ []))
-    ≡ (0, Again 0) ∷ (0, Again 20) ∷ []
-held_open = refl
+    (of (P (wide (merged 40 (embedded 40 (reference (codes "H") 40) (embedded 44 (reference (codes "G") 44) no_declaration)) false))
+    ∷ definition (codes "H") 0 (literal 3 (own a int no_field)) ∷ definition (codes "G") 20 (literal 23 (own b int no_field)) ∷ []) [])
+held_open = (refl, refl)
+
+-- `H: {a: int}` and `#P: H & #A`: what `#A` holds is closed
+held_beside : name_faults
+    (of (P (conjunction (more (named (codes "H") 40) (more (reference (codes "A") 44) none))) ∷ []) (top (codes "H") 0 (literal 3 (own a int no_field)) ∷ []))
+    ≡ (0, Again 0) ∷ []
+held_beside = refl
+
+-- `H: {a: int}`, `H: {b: int}` and `#P: H & {c: int}`: declared twice
+held_twice : name_faults
+    (of (P (conjunction (more (named (codes "H") 40) (more (literal 44 (own (codes "c") int no_field)) none))) ∷ [])
+    (top (codes "H") 0 (literal 3 (own a int no_field)) ∷ top (codes "H") 20 (literal 23 (own b int no_field)) ∷ []))
+    ≡ (0, Again 0) ∷ []
+held_twice = refl
 
 -- `#P: {H, b: int}`
 embedded_alone : name_faults

@@ -19,10 +19,11 @@ use Rattle.std.proofs.lemmas.Map.Text.{is_eq-slice_cmp}
 use Rattle.std.proofs.lemmas.Slice.Eq.{bytes_eq-Decides}
 use Rattle.cs_grammar.specs.Tree.{DefinitionTree, defined_name}
 use Rattle.cs_names.specs.Checks.{entry_of, again_entry, TellsScope, unless_hidden, TellsAround, TellScopes, place_cmp, lifted_view, TellsLifts, TellsTexts}
-use Rattle.cs_names.specs.Taken.{TellsDefined}
+use Rattle.cs_names.specs.Taken.{TellsDefined, TellsTaken}
+use Rattle.cs_names.proofs.Free.{told_same}
 use Rattle.cs_names.specs.Joined.{is_among, repeats}
 use Rattle.cs_names.specs.Lifted as S
-use Rattle.cs_names.specs.Lifted.{Lifts, AreApart, known, is_place, is_defined, is_lifted, is_taken}
+use Rattle.cs_names.specs.Lifted.{Lifts, AreApart, known, is_place, is_defined, is_lifted, is_open, is_open_origin, is_taken}
 use Rattle.cs_names.specs.Scopes as M
 use Rattle.cs_names.specs.Scopes.{Place, Declared, declares, entry, without, denoted, or_outside}
 use Rattle.cs_names.specs.declared.lifting.Lifting.{Lifting}
@@ -226,6 +227,10 @@ known_push (u ∷ ts) t p = by (known_push ts t p) (is_place u.place p)
 lifted_push : (ts : Lifts) (t : S.Lifted) (s : List ℕ) → is_lifted (ts ++ t ∷ []) s ≡ (is_lifted ts s || bytes_eq t.name s)
 lifted_push ts t s = list_any-append (λ x. bytes_eq x.name s) ts (t ∷ []) ∙ ap (λ b. is_lifted ts s || b) (or_nothing (bytes_eq t.name s))
 
+open_push : (ts : Lifts) (t : S.Lifted) (s : List ℕ) → is_open (ts ++ t ∷ []) s ≡ (is_open ts s || (is_open_origin t.origin && bytes_eq t.name s))
+open_push ts t s =
+    list_any-append (λ x. is_open_origin x.origin && bytes_eq x.name s) ts (t ∷ []) ∙ ap (λ b. is_open ts s || b) (or_nothing (is_open_origin t.origin && bytes_eq t.name s))
+
 -- what is known is lifted
 known_lifted : (ts : Lifts) (p : Place) (s : List ℕ) → known ts p ≡ Some s → is_lifted ts s ≡ true
 known_lifted [] p s h = cc
@@ -279,23 +284,19 @@ apart_push all ts t apart new = record {
     free p s (there e is) = rw (← is) (left_false (is_defined all t.name) (is_lifted ts t.name) new)
 
 pub lifts_added : (m n : Lifting) (all : List DefinitionTree) (ts : Lifts) (t : S.Lifted) → TellsLifts m all ts → known ts t.place ≡ None → is_taken all ts t.name ≡ false
-    → n.defined ≡ m.defined
-    → ((s : List ℕ) → sorted.contains_text n.names s ≡ cond (bytes_eq t.name s) true (sorted.contains_text m.names s))
+    → TellsTaken n.names all (λ s. is_lifted ts s || bytes_eq t.name s)
     → ((p : Place) → option_map string_bytes (tree.get place_cmp n.known p) ≡ cond (is_place t.place p) (Some t.name) (option_map string_bytes (tree.get place_cmp m.known p)))
+    → ((s : List ℕ) → sorted.contains_text n.unclosed s ≡ (sorted.contains_text m.unclosed s || (is_open_origin t.origin && bytes_eq t.name s)))
     → map lifted_view n.order.items ≡ map lifted_view m.order.items ++ t ∷ []
     → TellsLifts n all (ts ++ t ∷ [])
-lifts_added m n all ts t told new free same named placed grown = record {
-  defined = λ s. rw same (told.defined s);
-  names = λ s. named s ∙ by_name s (bytes_eq t.name s) ∙ sym (lifted_push ts t s ∙ refl);
+lifts_added m n all ts t told new free named placed unclosed grown = record {
+  names = told_same n.names all (λ s. is_lifted ts s || bytes_eq t.name s) (is_lifted (ts ++ t ∷ [])) (λ s. sym (lifted_push ts t s)) named;
   known = λ p. placed p ∙ by_place p (is_place t.place p) refl ∙ sym (known_push ts t p);
+  opens = λ s. unclosed s ∙ ap (λ b. b || (is_open_origin t.origin && bytes_eq t.name s)) (told.opens s) ∙ sym (open_push ts t s);
   order = grown ∙ ap (λ us. us ++ t ∷ []) told.order;
   apart = apart_push all ts t told.apart free;
 }
   where
-    by_name : (s : List ℕ) (b : Bool) → cond b true (sorted.contains_text m.names s) ≡ (is_lifted ts s || b)
-    by_name s true = sym (or_true (is_lifted ts s))
-    by_name s false = told.names s ∙ sym (or_nothing (is_lifted ts s))
-
     held : (o : Option (List ℕ)) → o ≡ first_of o None
     held None = refl
     held (Some s) = refl

@@ -3,13 +3,13 @@ use Rattle.std.proofs.Common.{◌≡◌, ℕ, suc, Bool, true, false, ◌||◌, 
 use Rattle.std.specs.List.{list_any, flat_map}
 use Rattle.std.proofs.lemmas.List.{append-nil}
 use Rattle.cs_grammar.specs.Tree.{Label, Tree, atom, named, reference, conjunction, disjunction, paren, struct, list, wide, Wide, marked, merged, shut, selected, Declarations, no_declaration, declared, embedded, conditional, Trees, none, more, Fields, no_field, field, End, closed, any, each, DefinitionTree, definition, body, defined_name, FileTree, file}
-use Rattle.cs_names.specs.Flaws.{unknown_if, let_flaws, is_repeated, flaws, flaws_wide, flaws_each, flaws_fields, flaws_declarations, flaws_end, flaws_from}
+use Rattle.cs_names.specs.Flaws.{unknown_if, let_flaws, flaws, flaws_wide, flaws_each, flaws_fields, flaws_declarations, flaws_end, flaws_from}
 use Rattle.cs_names.specs.Having.{has_name, wide_has, some_has, fields_have, declarations_have, end_has, have_names}
 use Rattle.cs_names.specs.Joined.{unused, again, held, holding_in, joined, definitions_join, references_in}
-use Rattle.cs_names.specs.Lifted.{Lifts, AreApart, known, own_place, lift_own, within, lift_in, lift_wide, lift_each, lift_fields, lift_declarations, lift_end, lift_bodies, lift_names, lift_files, lifts, shared, all_definitions}
-use Rattle.cs_names.specs.Named.{at_place, meant, refer, defining, keep_field, keep_declared, offset_of, label_definitions, resolved, resolved_wide, resolved_each, resolved_fields, resolved_declarations, resolved_end, inside, inside_wide, inside_each, inside_fields, inside_declarations, inside_end, of_definitions, named_from}
+use Rattle.cs_names.specs.Lifted.{Lifts, AreApart, known, own_place, lift_own, within, lift_in, lift_wide, lift_each, lift_fields, lift_declarations, lift_end, lift_bodies, lift_names, lift_files, lifts, shared, all_definitions, is_open}
+use Rattle.cs_names.specs.Named.{at_place, meant, refer, defining, keep_field, keep_declared, offset_of, label_definitions, resolved, resolved_wide, resolved_each, resolved_fields, resolved_declarations, resolved_end, inside, inside_wide, inside_each, inside_fields, inside_declarations, inside_end, of_definitions, named_from, together, embedding, are_unclosed, some_reference, first_beginning}
 use Rattle.cs_names.specs.Names.{AreNamed}
-use Rattle.cs_names.specs.Scopes.{Place, Scope, denoted, first_place, is_marked, value_scope, scope_of_fields, scope_of_declarations}
+use Rattle.cs_names.specs.Scopes.{Place, Scope, denoted, first_place, is_marked, value_scope, scope_of_fields, scope_of_declarations, is_repeated}
 use Rattle.cs_names.specs.declared.flaws.Flaw.{Flaw}
 use Rattle.cs_names.proofs.Truths.{left_of, right_of, and_false, none_of}
 
@@ -102,45 +102,63 @@ nothing_lifted fs h =
 abbrev nowhere : Place → Option (List ℕ)
 nowhere p = known [] p
 
+abbrev nobody : List ℕ → Bool
+nobody s = is_open [] s
+
+none_together : (es : Trees) → (some_reference es && are_unclosed nobody es) ≡ false
+none_together none = refl
+none_together (more (reference s o) es) = refl
+none_together (more (struct o fs b) es) = none_together es
+none_together (more (atom a) es) = and_false (some_reference es)
+none_together (more (named s o) es) = and_false (some_reference es)
+none_together (more (conjunction fs) es) = and_false (some_reference es)
+none_together (more (disjunction fs) es) = and_false (some_reference es)
+none_together (more (paren e) es) = and_false (some_reference es)
+none_together (more (list fs end) es) = and_false (some_reference es)
+none_together (more (wide v) es) = and_false (some_reference es)
+
+nothing_together : (es : Trees) → together nobody es ≡ conjunction es
+nothing_together es = ap (λ b. cond b (wide (merged (first_beginning es) (embedding es) false)) (conjunction es)) (none_together es)
+
 unmeant : (p : Option Place) → at_place nowhere p ≡ None
 unmeant None = refl
 unmeant (Some p) = refl
 
 module _ (i : ℕ) where
   mutual
-    stays : (scopes : List Scope) (e : Tree) → has_name e ≡ false → resolved nowhere i scopes e ≡ e
+    stays : (scopes : List Scope) (e : Tree) → has_name e ≡ false → resolved nowhere nobody i scopes e ≡ e
     stays scopes (atom a) h = refl
     stays scopes (named s o) h = ap (λ t. refer t o (named s o)) (unmeant (denoted scopes s))
     stays scopes (reference s o) h = ap (λ t. refer t o (reference s o)) (unmeant (denoted scopes (35 ∷ s)))
-    stays scopes (conjunction es) h = ap conjunction (each_stays scopes es h)
+    stays scopes (conjunction es) h = ap (together nobody) (each_stays scopes es h) ∙ nothing_together es
     stays scopes (disjunction es) h = ap disjunction (each_stays scopes es h)
     stays scopes (paren e) h = ap paren (stays scopes e h)
     stays scopes (struct o fs b) h = ap (λ gs. struct o gs b) (fields_stay (scope_of_fields i fs) scopes fs h)
     stays scopes (list es end) h = ap₂ list (each_stays scopes es (left_of (some_has es) (end_has end) h)) (end_stays scopes end (right_of (some_has es) (end_has end) h))
-    stays scopes (wide w) h = ap wide (wide_stays scopes w h)
+    stays scopes (wide w) h = wide_stays scopes w h
 
-    wide_stays : (scopes : List Scope) (w : Wide) → wide_has w ≡ false → resolved_wide nowhere i scopes w ≡ w
-    wide_stays scopes (marked o e) h = ap (marked o) (stays scopes e h)
-    wide_stays scopes (merged o ds b) h = ap (λ gs. merged o gs b) (declarations_stay (scope_of_declarations i ds) scopes ds h)
-    wide_stays scopes (shut o e) h = ap (shut o) (stays scopes e h)
+    wide_stays : (scopes : List Scope) (w : Wide) → wide_has w ≡ false → resolved_wide nowhere nobody i scopes w ≡ wide w
+    wide_stays scopes (marked o e) h = ap (λ x. wide (marked o x)) (stays scopes e h)
+    wide_stays scopes (merged o ds b) h = ap (λ gs. wide (merged o gs b)) (declarations_stay (scope_of_declarations i ds) scopes ds h)
+    wide_stays scopes (shut o e) h = ap (λ x. wide (shut o x)) (stays scopes e h)
     wide_stays scopes (selected o s ls) h = cc
 
-    each_stays : (scopes : List Scope) (es : Trees) → some_has es ≡ false → resolved_each nowhere i scopes es ≡ es
+    each_stays : (scopes : List Scope) (es : Trees) → some_has es ≡ false → resolved_each nowhere nobody i scopes es ≡ es
     each_stays scopes none h = refl
     each_stays scopes (more e es) h = ap₂ more (stays scopes e (left_of (has_name e) (some_has es) h)) (each_stays scopes es (right_of (has_name e) (some_has es) h))
 
-    fields_stay : (own : Scope) (scopes : List Scope) (fs : Fields) → fields_have fs ≡ false → resolved_fields nowhere i own scopes fs ≡ fs
+    fields_stay : (own : Scope) (scopes : List Scope) (fs : Fields) → fields_have fs ≡ false → resolved_fields nowhere nobody i own scopes fs ≡ fs
     fields_stay own scopes no_field h = refl
     fields_stay own scopes (field l m e fs) h =
         let here = left_of (is_some l.scoped || has_name e) (fields_have fs) h in
-        ap (λ o. keep_field o l m (resolved nowhere i (value_scope l own ∷ scopes) e) (resolved_fields nowhere i own scopes fs)) (none_of l.scoped (left_of (is_some l.scoped) (has_name e) here))
+        ap (λ o. keep_field o l m (resolved nowhere nobody i (value_scope l own ∷ scopes) e) (resolved_fields nowhere nobody i own scopes fs)) (none_of l.scoped (left_of (is_some l.scoped) (has_name e) here))
         ∙ ap₂ (field l m) (stays (value_scope l own ∷ scopes) e (right_of (is_some l.scoped) (has_name e) here)) (fields_stay own scopes fs (right_of (is_some l.scoped || has_name e) (fields_have fs) h))
 
-    declarations_stay : (own : Scope) (scopes : List Scope) (ds : Declarations) → declarations_have ds ≡ false → resolved_declarations nowhere i own scopes ds ≡ ds
+    declarations_stay : (own : Scope) (scopes : List Scope) (ds : Declarations) → declarations_have ds ≡ false → resolved_declarations nowhere nobody i own scopes ds ≡ ds
     declarations_stay own scopes no_declaration h = refl
     declarations_stay own scopes (declared l m e ds) h =
         let here = left_of (is_some l.scoped || has_name e) (declarations_have ds) h in
-        ap (λ o. keep_declared o l m (resolved nowhere i (value_scope l own ∷ scopes) e) (resolved_declarations nowhere i own scopes ds)) (none_of l.scoped (left_of (is_some l.scoped) (has_name e) here))
+        ap (λ o. keep_declared o l m (resolved nowhere nobody i (value_scope l own ∷ scopes) e) (resolved_declarations nowhere nobody i own scopes ds)) (none_of l.scoped (left_of (is_some l.scoped) (has_name e) here))
         ∙ ap₂ (declared l m) (stays (value_scope l own ∷ scopes) e (right_of (is_some l.scoped) (has_name e) here))
         (declarations_stay own scopes ds (right_of (is_some l.scoped || has_name e) (declarations_have ds) h))
     declarations_stay own scopes (embedded o e ds) h =
@@ -148,7 +166,7 @@ module _ (i : ℕ) where
     declarations_stay own scopes (conditional o cs e ds) h =
         ap₂ (conditional o cs) (stays (own ∷ scopes) e (left_of (has_name e) (declarations_have ds) h)) (declarations_stay own scopes ds (right_of (has_name e) (declarations_have ds) h))
 
-    end_stays : (scopes : List Scope) (end : End) → end_has end ≡ false → resolved_end nowhere i scopes end ≡ end
+    end_stays : (scopes : List Scope) (end : End) → end_has end ≡ false → resolved_end nowhere nobody i scopes end ≡ end
     end_stays scopes closed h = refl
     end_stays scopes any h = refl
     end_stays scopes (each e) h = ap each (stays scopes e h)
@@ -161,7 +179,7 @@ module _ (i : ℕ) where
   nothing xs ys p q = ap₂ (λ vs ws. vs ++ ws) p q
 
   mutual
-    nothing_inside : (scopes : List Scope) (e : Tree) → has_name e ≡ false → inside nowhere i scopes e ≡ []
+    nothing_inside : (scopes : List Scope) (e : Tree) → has_name e ≡ false → inside nowhere nobody i scopes e ≡ []
     nothing_inside scopes (atom a) h = refl
     nothing_inside scopes (named s o) h = refl
     nothing_inside scopes (reference s o) h = refl
@@ -170,61 +188,61 @@ module _ (i : ℕ) where
     nothing_inside scopes (paren e) h = nothing_inside scopes e h
     nothing_inside scopes (struct o fs b) h = nothing_in_fields (scope_of_fields i fs) scopes fs h
     nothing_inside scopes (list es end) h =
-        nothing (inside_each nowhere i scopes es) (inside_end nowhere i scopes end) (nothing_in_each scopes es (left_of (some_has es) (end_has end) h)) (nothing_in_end scopes end (right_of (some_has es) (end_has end) h))
+        nothing (inside_each nowhere nobody i scopes es) (inside_end nowhere nobody i scopes end) (nothing_in_each scopes es (left_of (some_has es) (end_has end) h)) (nothing_in_end scopes end (right_of (some_has es) (end_has end) h))
     nothing_inside scopes (wide w) h = nothing_in_wide scopes w h
 
-    nothing_in_wide : (scopes : List Scope) (w : Wide) → wide_has w ≡ false → inside_wide nowhere i scopes w ≡ []
+    nothing_in_wide : (scopes : List Scope) (w : Wide) → wide_has w ≡ false → inside_wide nowhere nobody i scopes w ≡ []
     nothing_in_wide scopes (marked o e) h = nothing_inside scopes e h
     nothing_in_wide scopes (merged o ds b) h = nothing_in_declarations (scope_of_declarations i ds) scopes ds h
     nothing_in_wide scopes (shut o e) h = nothing_inside scopes e h
     nothing_in_wide scopes (selected o s ls) h = refl
 
-    nothing_in_each : (scopes : List Scope) (es : Trees) → some_has es ≡ false → inside_each nowhere i scopes es ≡ []
+    nothing_in_each : (scopes : List Scope) (es : Trees) → some_has es ≡ false → inside_each nowhere nobody i scopes es ≡ []
     nothing_in_each scopes none h = refl
     nothing_in_each scopes (more e es) h =
-        nothing (inside nowhere i scopes e) (inside_each nowhere i scopes es) (nothing_inside scopes e (left_of (has_name e) (some_has es) h)) (nothing_in_each scopes es (right_of (has_name e) (some_has es) h))
+        nothing (inside nowhere nobody i scopes e) (inside_each nowhere nobody i scopes es) (nothing_inside scopes e (left_of (has_name e) (some_has es) h)) (nothing_in_each scopes es (right_of (has_name e) (some_has es) h))
 
-    nothing_in_fields : (own : Scope) (scopes : List Scope) (fs : Fields) → fields_have fs ≡ false → inside_fields nowhere i own scopes fs ≡ []
+    nothing_in_fields : (own : Scope) (scopes : List Scope) (fs : Fields) → fields_have fs ≡ false → inside_fields nowhere nobody i own scopes fs ≡ []
     nothing_in_fields own scopes no_field h = refl
     nothing_in_fields own scopes (field l m e fs) h =
         let here = left_of (is_some l.scoped || has_name e) (fields_have fs) h in
         let inner = value_scope l own ∷ scopes in
-        nothing (label_definitions nowhere own l (resolved nowhere i inner e) (inside nowhere i inner e)) (inside_fields nowhere i own scopes fs)
-        (no_definition own l (resolved nowhere i inner e) (inside nowhere i inner e) (left_of (is_some l.scoped) (has_name e) here) ∙ nothing_inside inner e (right_of (is_some l.scoped) (has_name e) here))
+        nothing (label_definitions nowhere own l (resolved nowhere nobody i inner e) (inside nowhere nobody i inner e)) (inside_fields nowhere nobody i own scopes fs)
+        (no_definition own l (resolved nowhere nobody i inner e) (inside nowhere nobody i inner e) (left_of (is_some l.scoped) (has_name e) here) ∙ nothing_inside inner e (right_of (is_some l.scoped) (has_name e) here))
         (nothing_in_fields own scopes fs (right_of (is_some l.scoped || has_name e) (fields_have fs) h))
 
-    nothing_in_declarations : (own : Scope) (scopes : List Scope) (ds : Declarations) → declarations_have ds ≡ false → inside_declarations nowhere i own scopes ds ≡ []
+    nothing_in_declarations : (own : Scope) (scopes : List Scope) (ds : Declarations) → declarations_have ds ≡ false → inside_declarations nowhere nobody i own scopes ds ≡ []
     nothing_in_declarations own scopes no_declaration h = refl
     nothing_in_declarations own scopes (declared l m e ds) h =
         let here = left_of (is_some l.scoped || has_name e) (declarations_have ds) h in
         let inner = value_scope l own ∷ scopes in
-        nothing (label_definitions nowhere own l (resolved nowhere i inner e) (inside nowhere i inner e)) (inside_declarations nowhere i own scopes ds)
-        (no_definition own l (resolved nowhere i inner e) (inside nowhere i inner e) (left_of (is_some l.scoped) (has_name e) here) ∙ nothing_inside inner e (right_of (is_some l.scoped) (has_name e) here))
+        nothing (label_definitions nowhere own l (resolved nowhere nobody i inner e) (inside nowhere nobody i inner e)) (inside_declarations nowhere nobody i own scopes ds)
+        (no_definition own l (resolved nowhere nobody i inner e) (inside nowhere nobody i inner e) (left_of (is_some l.scoped) (has_name e) here) ∙ nothing_inside inner e (right_of (is_some l.scoped) (has_name e) here))
         (nothing_in_declarations own scopes ds (right_of (is_some l.scoped || has_name e) (declarations_have ds) h))
     nothing_in_declarations own scopes (embedded o e ds) h =
-        nothing (inside nowhere i (own ∷ scopes) e) (inside_declarations nowhere i own scopes ds) (nothing_inside (own ∷ scopes) e (left_of (has_name e) (declarations_have ds) h))
+        nothing (inside nowhere nobody i (own ∷ scopes) e) (inside_declarations nowhere nobody i own scopes ds) (nothing_inside (own ∷ scopes) e (left_of (has_name e) (declarations_have ds) h))
         (nothing_in_declarations own scopes ds (right_of (has_name e) (declarations_have ds) h))
     nothing_in_declarations own scopes (conditional o cs e ds) h =
-        nothing (inside nowhere i (own ∷ scopes) e) (inside_declarations nowhere i own scopes ds) (nothing_inside (own ∷ scopes) e (left_of (has_name e) (declarations_have ds) h))
+        nothing (inside nowhere nobody i (own ∷ scopes) e) (inside_declarations nowhere nobody i own scopes ds) (nothing_inside (own ∷ scopes) e (left_of (has_name e) (declarations_have ds) h))
         (nothing_in_declarations own scopes ds (right_of (has_name e) (declarations_have ds) h))
 
-    nothing_in_end : (scopes : List Scope) (end : End) → end_has end ≡ false → inside_end nowhere i scopes end ≡ []
+    nothing_in_end : (scopes : List Scope) (end : End) → end_has end ≡ false → inside_end nowhere nobody i scopes end ≡ []
     nothing_in_end scopes closed h = refl
     nothing_in_end scopes any h = refl
     nothing_in_end scopes (each e) h = nothing_inside scopes e h
 
-  definitions_stay : (scopes : List Scope) (ds : List DefinitionTree) → list_any (λ d. has_name (body d)) ds ≡ false → of_definitions nowhere i scopes ds ≡ ds
+  definitions_stay : (scopes : List Scope) (ds : List DefinitionTree) → list_any (λ d. has_name (body d)) ds ≡ false → of_definitions nowhere nobody i scopes ds ≡ ds
   definitions_stay scopes [] h = refl
   definitions_stay scopes (definition s o e ∷ ds) h =
       let here = left_of (has_name e) (list_any (λ x. has_name (body x)) ds) h in
       let whole = definitions_stay scopes ds (right_of (has_name e) (list_any (λ x. has_name (body x)) ds) h) in
       ap₂ (λ x xs. definition s o x ∷ xs) (stays scopes e here) (ap₂ (λ xs ys. xs ++ ys) (nothing_inside scopes e here) whole)
 
-files_stay : (every : Scope) (i : ℕ) (fs : List FileTree) → have_names fs ≡ false → named_from nowhere every i fs ≡ fs
+files_stay : (every : Scope) (i : ℕ) (fs : List FileTree) → have_names fs ≡ false → named_from nowhere nobody every i fs ≡ fs
 files_stay every i [] h = refl
 files_stay every i (file p ds [] ∷ fs) h =
     ap₂ (λ f gs. f ∷ gs)
-    (ap (λ xs. file p xs []) (append-nil (of_definitions nowhere i ([] ∷ every ∷ []) ds) ∙ definitions_stay i ([] ∷ every ∷ []) ds (left_of (list_any (λ d. has_name (body d)) ds) (have_names fs) h)))
+    (ap (λ xs. file p xs []) (append-nil (of_definitions nowhere nobody i ([] ∷ every ∷ []) ds) ∙ definitions_stay i ([] ∷ every ∷ []) ds (left_of (list_any (λ d. has_name (body d)) ds) (have_names fs) h)))
     (files_stay every (suc i) fs (right_of (list_any (λ d. has_name (body d)) ds) (have_names fs) h))
 files_stay every i (file p ds (n ∷ ns) ∷ fs) h = cc
 
@@ -326,9 +344,9 @@ files_stand fs h =
     let none = nothing_lifted fs h in
     record {
       faultless =
-          ap (λ ts. flaws_from ts (shared fs) 0 fs ++ (unused (references_in true (named_from (known ts) (shared fs) 0 fs)) ts ++ joined (named_from (known ts) (shared fs) 0 fs) ts)) none
-          ∙ faultless_both (flaws_from [] (shared fs) 0 fs) (joined (named_from nowhere (shared fs) 0 fs) [])
-          (files_faultless (shared fs) 0 fs h) (nothing_joined (named_from nowhere (shared fs) 0 fs));
+          ap (λ ts. flaws_from ts (shared fs) 0 fs ++ (unused (references_in true (named_from (known ts) (is_open ts) (shared fs) 0 fs)) ts ++ joined (named_from (known ts) (is_open ts) (shared fs) 0 fs) ts)) none
+          ∙ faultless_both (flaws_from [] (shared fs) 0 fs) (joined (named_from nowhere nobody (shared fs) 0 fs) [])
+          (files_faultless (shared fs) 0 fs h) (nothing_joined (named_from nowhere nobody (shared fs) 0 fs));
       apart = rw none (nothing_apart (all_definitions fs));
-      named = sym (ap (λ ts. named_from (known ts) (shared fs) 0 fs) none ∙ files_stay (shared fs) 0 fs h);
+      named = sym (ap (λ ts. named_from (known ts) (is_open ts) (shared fs) 0 fs) none ∙ files_stay (shared fs) 0 fs h);
     }

@@ -3,16 +3,17 @@ use Rattle.std.proofs.Common.{◌≡◌, ◌⊎◌, inl, inr, ℕ, suc, Bool, tr
 use Rattle.std.specs.List.{AllByRecursion, list_any, flat_map}
 use Rattle.std.specs.Option.{unwrap_or}
 use Rattle.cs_grammar.specs.Namable.{IsHiddenName, IsOperandName, IsLabelIn, IsNamableLabel, IsNamable, IsNamableWide, AreNamable, AreNamableFields, AreNamableDeclarations, IsNamableEnd, IsNamableDefinition, IsNamableName, IsNamableFile, IsScopeName}
-use Rattle.cs_grammar.specs.Tree.{Label, Tree, atom, named, reference, conjunction, disjunction, paren, struct, list, wide, Wide, marked, merged, shut, selected, Declarations, no_declaration, declared, embedded, conditional, Trees, none, more, Fields, no_field, field, End, closed, any, each, DefinitionTree, definition, body, NameTree, FileTree, file}
+use Rattle.cs_grammar.specs.Tree.{Label, Selector, Tree, atom, named, reference, conjunction, disjunction, paren, struct, list, wide, Wide, marked, merged, shut, selected, Declarations, no_declaration, declared, embedded, conditional, Trees, none, more, Fields, no_field, field, End, closed, any, each, DefinitionTree, definition, body, NameTree, FileTree, file}
 use Rattle.cs_grammar.specs.Written.{Place, by_itself, of_bar, of_amp, IsDefinitionName, IsWrittenLabel, AreTwo, IsWritten, IsWrittenWide, AreWritten, AreWrittenFields, AreWrittenDeclarations, IsWrittenEnd, IsWrittenDefinition, IsWrittenFile}
 use Rattle.cs_grammar.specs.declared.ast.FieldMark.{FieldMark}
 use Rattle.cs_grammar.specs.declared.ast.FieldMark.TheVariants.{Regular, Optional, Required, Every}
-use Rattle.cs_names.specs.Flaws.{unknown_if, operand_flaws, is_field, let_flaws, bound_flaws, name_flaws, flaws, flaws_wide, flaws_each, flaws_fields, flaws_declarations, flaws_end, flaws_from, flaws_in, unmeant_flaws}
+use Rattle.cs_names.specs.Flaws.{unknown_if, operand_flaws, let_flaws, bound_flaws, name_flaws, flaws, flaws_wide, flaws_each, flaws_fields, flaws_declarations, flaws_end, flaws_from, flaws_in, is_undeclared, unmeant_flaws}
 use Rattle.cs_names.specs.Having.{is_hidden, has_name, wide_has, some_has, fields_have, declarations_have, end_has, have_names}
-use Rattle.cs_names.specs.Lifted.{Lifts, Lifted, known, is_place, is_lifted, is_taken, inner_name, top_name, free, with_lifted, origin_of, own_place, lift_own, within, lift_in, lift_wide, lift_each, lift_fields, lift_declarations, lift_end, top_place, top_origin, lift_top, lift_tops, lift_names, lift_bodies, lift_values, lift_files, lifts, shared, all_definitions, drop_byte}
-use Rattle.cs_names.specs.Named.{at_place, meant, refer, defining, keep_field, keep_declared, offset_of, label_definitions, resolved, resolved_wide, resolved_each, resolved_fields, resolved_declarations, resolved_end, inside, inside_wide, inside_each, inside_fields, inside_declarations, inside_end, of_definitions, of_name, of_names, named_from, base}
+use Rattle.cs_names.specs.Lifted.{Lifts, Lifted, known, is_place, is_lifted, is_taken, inner_name, top_name, free, with_lifted, origin_of, own_place, lift_own, within, lift_in, lift_wide, lift_each, lift_fields, lift_declarations, lift_end, top_place, top_origin, lift_top, lift_tops, lift_names, lift_bodies, lift_values, lift_files, lifts, shared, all_definitions, drop_byte, is_open}
+use Rattle.cs_names.specs.Named.{at_place, meant, refer, defining, keep_field, keep_declared, offset_of, label_definitions, resolved, resolved_wide, resolved_each, resolved_fields, resolved_declarations, resolved_end, inside, inside_wide, inside_each, inside_fields, inside_declarations, inside_end, of_definitions, of_name, of_names, named_from, base, led, select, together, embedding, are_unclosed, some_reference, first_beginning}
 use Rattle.cs_names.specs.Names.{AreNamed}
-use Rattle.cs_names.specs.Scopes.{Scope, begins_hash, denoted, first_place, value_scope, name_scope, scope_of_fields, scope_of_declarations, bound_scope}
+use Rattle.cs_names.specs.Nested.{path}
+use Rattle.cs_names.specs.Scopes.{Scope, begins_hash, denoted, is_field, first_place, value_scope, name_scope, scope_of_fields, scope_of_declarations, bound_scope}
 use Rattle.cs_names.specs.Scopes as scopes
 use Rattle.cs_names.specs.Selecting.{head, referring, referring_each, referring_fields, referring_declarations, referring_end, referring_definition, IsSelectingFile}
 use Rattle.cs_names.specs.declared.flaws.Flaw.{Flaw}
@@ -197,11 +198,11 @@ module _ (all : List DefinitionTree) where
   module _ (every : Scope) where
     good_tops : (bound : Scope) (ns : List NameTree) (ts : Lifts) → AreGood ts → AllByRecursion IsNamableName ns → AreGood (lift_tops all every bound ns ts)
     good_tops bound [] ts h n = h
-    good_tops bound (m ∷ ns) ts h n = good_tops bound ns (lift_top all (top_place every bound m) m ts) (by (top_place every bound m)) n.1
+    good_tops bound (m ∷ ns) ts h n = good_tops bound ns (lift_top all every (top_place every bound m) m ts) (by (top_place every bound m)) n.1
       where
-        by : (p : Option scopes.Place) → AreGood (lift_top all p m ts)
+        by : (p : Option scopes.Place) → AreGood (lift_top all every p m ts)
         by None = h
-        by (Some p) = good_lifted ts p m.name (top_name m.name) (top_origin m) h (top_good m.name (file_name m.is_bound m.name n.0.0))
+        by (Some p) = good_lifted ts p m.name (top_name m.name) (top_origin every m) h (top_good m.name (file_name m.is_bound m.name n.0.0))
 
     good_names : (i : ℕ) (fs : List FileTree) (ts : Lifts) → AreGood ts → AllByRecursion IsNamableFile fs → AreGood (lift_names all every i fs ts)
     good_names i [] ts h n = h
@@ -253,9 +254,39 @@ selecting_all : (ds : List DefinitionTree) → AllByRecursion IsSelecting ds →
 selecting_all [] h = tt
 selecting_all (d ∷ ds) h = (h.0, selecting_all ds h.1)
 
+-- ---- operands of `&` that are put into one literal
+
+and_right : (a b : Bool) → (a && b) ≡ true → b ≡ true
+and_right true b h = h
+and_right false b h = cc
+
+module _ (opens : List ℕ → Bool) where
+  embedding_written : (es : Trees) → are_unclosed opens es ≡ true → AreWritten of_amp (referring_each head es) → AreWrittenDeclarations (referring_declarations head (embedding es))
+  embedding_written none h n = tt
+  embedding_written (more (reference s o) es) h n = (n.0, embedding_written es (and_right (opens s) (are_unclosed opens es) h) n.1)
+  embedding_written (more (struct o fs b) es) h n = (n.0, embedding_written es h n.1)
+  embedding_written (more (atom a) es) h n = cc
+  embedding_written (more (named s o) es) h n = cc
+  embedding_written (more (conjunction fs) es) h n = cc
+  embedding_written (more (disjunction fs) es) h n = cc
+  embedding_written (more (paren e) es) h n = cc
+  embedding_written (more (list fs end) es) h n = cc
+  embedding_written (more (wide v) es) h n = cc
+
+  together_written : (p : Place) (es : Trees) → IsWritten p (referring head (conjunction es)) → IsWritten p (referring head (together opens es))
+  together_written p es n = by (some_reference es && are_unclosed opens es) refl
+    where
+      by : (b : Bool) → (some_reference es && are_unclosed opens es) ≡ b
+          → IsWritten p (referring head (cond b (wide (merged (first_beginning es) (embedding es) false)) (conjunction es)))
+      by true e = embedding_written es (and_right (some_reference es) (are_unclosed opens es) e) n.2
+      by false e = n
+
 module _ (ts : Lifts) (good : AreGood ts) where
   abbrev by : scopes.Place → Option (List ℕ)
   by p = known ts p
+
+  abbrev opens : List ℕ → Bool
+  opens s = is_open ts s
 
   good_at : (p : Option scopes.Place) (s : List ℕ) → at_place by p ≡ Some s → IsDefinitionName s
   good_at None s h = cc
@@ -287,9 +318,9 @@ module _ (ts : Lifts) (good : AreGood ts) where
   defined_written (Some d) o e ds g h k = ((g d refl, h), k)
 
   -- the name before the labels of a selector that isn't at fault is that of a definition
-  base_written : (t : Option (List ℕ)) (ss : List Scope) (s : List ℕ) (o : ℕ) → meant by ss s ≡ t → cond (is_some t) [] (unmeant_flaws ts ss s o) ≡ [] → IsOperandName s ⊎ IsScopeName s → IsDefinitionName (base t s)
-  base_written (Some d) ss s o e h n = good_at (denoted ss s) d e
-  base_written None ss s o e h n = by_hash (begins_hash s) refl h
+  base_written : (t : Option (List ℕ)) (ss : List Scope) (s : List ℕ) (ls : List Selector) (o : ℕ) → meant by ss s ≡ t → cond (is_some t) [] (unmeant_flaws ts ss s ls o) ≡ [] → IsOperandName s ⊎ IsScopeName s → IsDefinitionName (base t s)
+  base_written (Some d) ss s ls o e h n = good_at (denoted ss s) d e
+  base_written None ss s ls o e h n = by_hash (begins_hash s) refl h
     where
       never : (b c : Bool) → cond b (Flaws.Field o ∷ []) (cond c (Flaws.Unknown o ∷ []) (Flaws.LeftOut o ∷ [])) ≡ [] → ⊥
       never true c k = cc
@@ -297,10 +328,27 @@ module _ (ts : Lifts) (good : AreGood ts) where
       never false false k = cc
 
       by_hash : (b : Bool) → begins_hash s ≡ b
-          → cond b (unknown_if (is_lifted ts (drop_byte 35 s)) o) (cond (is_field ss s) (Flaws.Field o ∷ []) (cond (is_hidden s) (Flaws.Unknown o ∷ []) (Flaws.LeftOut o ∷ []))) ≡ []
+          → cond b (unknown_if (is_lifted ts (drop_byte 35 s) || is_undeclared ts ss s ls) o) (cond (is_field ss s) (Flaws.Field o ∷ []) (cond (is_hidden s) (Flaws.Unknown o ∷ []) (Flaws.LeftOut o ∷ []))) ≡ []
           → IsDefinitionName (drop_byte 35 s)
       by_hash true q k = hash_name s n q
       by_hash false q k = absurd (never (is_field ss s) (is_hidden s) k)
+
+  -- a nested definition that a selector leads to is lifted
+  good_led : (ss : List Scope) (s : List ℕ) (ls : List Selector) (d : List ℕ) → led by ss s ls ≡ Some d → IsDefinitionName d
+  good_led ss s [] d h = cc
+  good_led ss s (l ∷ ls) d h = by_test ((l.quotes || is_some (meant by ss s)) || is_field ss (path s [])) h
+    where
+      by_test : (b : Bool) → cond b None (meant by ss (path s l.text)) ≡ Some d → IsDefinitionName d
+      by_test true k = cc
+      by_test false k = good_at (denoted ss (path s l.text)) d k
+
+  -- what stands there refers to that, or to the definition before the labels
+  selected_written : (p : Place) (t : Option (List ℕ)) (s : List ℕ) (o : ℕ) (ls : List Selector) → ((d : List ℕ) → t ≡ Some d → IsDefinitionName d) → IsDefinitionName s
+      → IsWritten p (referring head (select t s o ls))
+  selected_written p None s o ls g h = h
+  selected_written p (Some d) s o [] g h = g d refl
+  selected_written p (Some d) s o (l ∷ []) g h = g d refl
+  selected_written p (Some d) s o (l ∷ m ∷ ls) g h = g d refl
 
   module _ (i : ℕ) where
     -- a name that isn't at fault is no hidden one without a definition
@@ -311,17 +359,17 @@ module _ (ts : Lifts) (good : AreGood ts) where
         by_test true k = cc
         by_test false k = unflawed (is_hidden s && not (is_some (meant by ss s))) o k
 
-    two : (ss : List Scope) (es : Trees) → AreTwo es → AreTwo (referring_each head (resolved_each by i ss es))
+    two : (ss : List Scope) (es : Trees) → AreTwo es → AreTwo (referring_each head (resolved_each by opens i ss es))
     two ss none h = h
     two ss (more e none) h = h
     two ss (more e (more f es)) h = h
 
     mutual
-      written : (p : Place) (b : Bool) (ss : List Scope) (e : Tree) → flaws ts i b ss e ≡ [] → IsNamable p e → IsWritten p (referring head (resolved by i ss e))
+      written : (p : Place) (b : Bool) (ss : List Scope) (e : Tree) → flaws ts i b ss e ≡ [] → IsNamable p e → IsWritten p (referring head (resolved by opens i ss e))
       written p b ss (atom a) h n = n
       written p b ss (named s o) h n = name_written p (meant by ss s) s o (λ d q. good_at (denoted ss s) d q) (unheard b ss s o h) n
       written p b ss (reference s o) h n = reference_written p (meant by ss (35 ∷ s)) s o (λ d q. good_at (denoted ss (35 ∷ s)) d q) n
-      written p b ss (conjunction es) h n = (n.0, two ss es n.1, written_each of_amp b ss es h n.2)
+      written p b ss (conjunction es) h n = together_written opens p (resolved_each by opens i ss es) (n.0, two ss es n.1, written_each of_amp b ss es h n.2)
       written p b ss (disjunction es) h n = (n.0, two ss es n.1, written_each of_bar b ss es h n.2)
       written p b ss (paren e) h n = written by_itself b ss e h n
       written p b ss (struct o fs opened) h n = written_fields b (scope_of_fields i fs) ss fs h n
@@ -329,29 +377,30 @@ module _ (ts : Lifts) (good : AreGood ts) where
           (written_each by_itself b ss es (left_empty (flaws_each ts i b ss es) (flaws_end ts i b ss end) h) n.0, written_end b ss end (right_empty (flaws_each ts i b ss es) (flaws_end ts i b ss end) h) n.1)
       written p b ss (wide w) h n = written_wide p b ss w h n
 
-      written_wide : (p : Place) (b : Bool) (ss : List Scope) (w : Wide) → flaws_wide ts i b ss w ≡ [] → IsNamableWide p w → IsWritten p (referring head (wide (resolved_wide by i ss w)))
+      written_wide : (p : Place) (b : Bool) (ss : List Scope) (w : Wide) → flaws_wide ts i b ss w ≡ [] → IsNamableWide p w → IsWritten p (referring head (resolved_wide by opens i ss w))
       written_wide p b ss (marked o e) h n = written p b ss e h n
       written_wide p b ss (merged o ds opened) h n = written_declarations b (scope_of_declarations i ds) ss ds h n
       written_wide p b ss (shut o e) h n = written by_itself b ss e h n
-      written_wide p b ss (selected o s ls) h n = base_written (meant by ss s) ss s o refl h n.0
+      written_wide p b ss (selected o s ls) h n =
+          selected_written p (led by ss s ls) (base (meant by ss s) s) o ls (good_led ss s ls) (base_written (meant by ss s) ss s ls o refl h n.0)
 
-      written_each : (p : Place) (b : Bool) (ss : List Scope) (es : Trees) → flaws_each ts i b ss es ≡ [] → AreNamable p es → AreWritten p (referring_each head (resolved_each by i ss es))
+      written_each : (p : Place) (b : Bool) (ss : List Scope) (es : Trees) → flaws_each ts i b ss es ≡ [] → AreNamable p es → AreWritten p (referring_each head (resolved_each by opens i ss es))
       written_each p b ss none h n = tt
       written_each p b ss (more e es) h n =
           (written p b ss e (left_empty (flaws ts i b ss e) (flaws_each ts i b ss es) h) n.0, written_each p b ss es (right_empty (flaws ts i b ss e) (flaws_each ts i b ss es) h) n.1)
 
-      written_fields : (b : Bool) (own : Scope) (ss : List Scope) (fs : Fields) → flaws_fields ts i b own ss fs ≡ [] → AreNamableFields fs → AreWrittenFields (referring_fields head (resolved_fields by i own ss fs))
+      written_fields : (b : Bool) (own : Scope) (ss : List Scope) (fs : Fields) → flaws_fields ts i b own ss fs ≡ [] → AreNamableFields fs → AreWrittenFields (referring_fields head (resolved_fields by opens i own ss fs))
       written_fields b own ss no_field h n = tt
       written_fields b own ss (field l m e fs) h n =
           let here = let_flaws own l ++ flaws ts i (b || is_some l.scoped) (value_scope l own ∷ ss) e in
-          field_kept l.scoped l m (resolved by i (value_scope l own ∷ ss) e) (resolved_fields by i own ss fs) (placed_label l m l.scoped refl n.0)
+          field_kept l.scoped l m (resolved by opens i (value_scope l own ∷ ss) e) (resolved_fields by opens i own ss fs) (placed_label l m l.scoped refl n.0)
           (written by_itself (b || is_some l.scoped) (value_scope l own ∷ ss) e (right_empty (let_flaws own l) (flaws ts i (b || is_some l.scoped) (value_scope l own ∷ ss) e) (left_empty here (flaws_fields ts i b own ss fs) h)) n.1) (written_fields b own ss fs (right_empty here (flaws_fields ts i b own ss fs) h) n.2)
 
-      written_declarations : (b : Bool) (own : Scope) (ss : List Scope) (ds : Declarations) → flaws_declarations ts i b own ss ds ≡ [] → AreNamableDeclarations ds → AreWrittenDeclarations (referring_declarations head (resolved_declarations by i own ss ds))
+      written_declarations : (b : Bool) (own : Scope) (ss : List Scope) (ds : Declarations) → flaws_declarations ts i b own ss ds ≡ [] → AreNamableDeclarations ds → AreWrittenDeclarations (referring_declarations head (resolved_declarations by opens i own ss ds))
       written_declarations b own ss no_declaration h n = tt
       written_declarations b own ss (declared l m e ds) h n =
           let here = let_flaws own l ++ flaws ts i (b || is_some l.scoped) (value_scope l own ∷ ss) e in
-          declaration_kept l.scoped l m (resolved by i (value_scope l own ∷ ss) e) (resolved_declarations by i own ss ds) (placed_label l m l.scoped refl n.0)
+          declaration_kept l.scoped l m (resolved by opens i (value_scope l own ∷ ss) e) (resolved_declarations by opens i own ss ds) (placed_label l m l.scoped refl n.0)
           (written by_itself (b || is_some l.scoped) (value_scope l own ∷ ss) e (right_empty (let_flaws own l) (flaws ts i (b || is_some l.scoped) (value_scope l own ∷ ss) e) (left_empty here (flaws_declarations ts i b own ss ds) h)) n.1) (written_declarations b own ss ds (right_empty here (flaws_declarations ts i b own ss ds) h) n.2)
       written_declarations b own ss (embedded o e ds) h n =
           let here = flaws ts i b (own ∷ ss) e in
@@ -360,7 +409,7 @@ module _ (ts : Lifts) (good : AreGood ts) where
           let here = flaws ts i b (own ∷ ss) e in
           (n.0, written by_itself b (own ∷ ss) e (left_empty here (flaws_declarations ts i b own ss ds) h) n.1, written_declarations b own ss ds (right_empty here (flaws_declarations ts i b own ss ds) h) n.2)
 
-      written_end : (b : Bool) (ss : List Scope) (end : End) → flaws_end ts i b ss end ≡ [] → IsNamableEnd end → IsWrittenEnd (referring_end head (resolved_end by i ss end))
+      written_end : (b : Bool) (ss : List Scope) (end : End) → flaws_end ts i b ss end ≡ [] → IsNamableEnd end → IsWrittenEnd (referring_end head (resolved_end by opens i ss end))
       written_end b ss closed h n = tt
       written_end b ss any h n = tt
       written_end b ss (each e) h n = written by_itself b ss e h n
@@ -368,14 +417,14 @@ module _ (ts : Lifts) (good : AreGood ts) where
     abbrev Written : List DefinitionTree → Type 0
     Written ds = AllByRecursion IsSelecting ds
 
-    label_written : (own : Scope) (ss : List Scope) (l : Label) (e : Tree) → IsWritten by_itself (referring head (resolved by i (value_scope l own ∷ ss) e)) → Written (inside by i (value_scope l own ∷ ss) e)
-        → Written (label_definitions by own l (resolved by i (value_scope l own ∷ ss) e) (inside by i (value_scope l own ∷ ss) e))
+    label_written : (own : Scope) (ss : List Scope) (l : Label) (e : Tree) → IsWritten by_itself (referring head (resolved by opens i (value_scope l own ∷ ss) e)) → Written (inside by opens i (value_scope l own ∷ ss) e)
+        → Written (label_definitions by own l (resolved by opens i (value_scope l own ∷ ss) e) (inside by opens i (value_scope l own ∷ ss) e))
     label_written own ss l e h k =
         let inner = value_scope l own ∷ ss in
-        defined_written (at_place by (own_place own l)) (offset_of l.scoped) (resolved by i inner e) (inside by i inner e) (λ d q. good_at (own_place own l) d q) h k
+        defined_written (at_place by (own_place own l)) (offset_of l.scoped) (resolved by opens i inner e) (inside by opens i inner e) (λ d q. good_at (own_place own l) d q) h k
 
     mutual
-      inside_written : (p : Place) (b : Bool) (ss : List Scope) (e : Tree) → flaws ts i b ss e ≡ [] → IsNamable p e → Written (inside by i ss e)
+      inside_written : (p : Place) (b : Bool) (ss : List Scope) (e : Tree) → flaws ts i b ss e ≡ [] → IsNamable p e → Written (inside by opens i ss e)
       inside_written p b ss (atom a) h n = tt
       inside_written p b ss (named s o) h n = tt
       inside_written p b ss (reference s o) h n = tt
@@ -384,73 +433,73 @@ module _ (ts : Lifts) (good : AreGood ts) where
       inside_written p b ss (paren e) h n = inside_written by_itself b ss e h n
       inside_written p b ss (struct o fs opened) h n = inside_fields_written b (scope_of_fields i fs) ss fs h n
       inside_written p b ss (list es end) h n =
-          both_all IsSelecting (inside_each by i ss es) (inside_end by i ss end) (inside_each_written by_itself b ss es (left_empty (flaws_each ts i b ss es) (flaws_end ts i b ss end) h) n.0)
+          both_all IsSelecting (inside_each by opens i ss es) (inside_end by opens i ss end) (inside_each_written by_itself b ss es (left_empty (flaws_each ts i b ss es) (flaws_end ts i b ss end) h) n.0)
           (inside_end_written b ss end (right_empty (flaws_each ts i b ss es) (flaws_end ts i b ss end) h) n.1)
       inside_written p b ss (wide w) h n = inside_wide_written p b ss w h n
 
-      inside_wide_written : (p : Place) (b : Bool) (ss : List Scope) (w : Wide) → flaws_wide ts i b ss w ≡ [] → IsNamableWide p w → Written (inside_wide by i ss w)
+      inside_wide_written : (p : Place) (b : Bool) (ss : List Scope) (w : Wide) → flaws_wide ts i b ss w ≡ [] → IsNamableWide p w → Written (inside_wide by opens i ss w)
       inside_wide_written p b ss (marked o e) h n = inside_written p b ss e h n
       inside_wide_written p b ss (merged o ds opened) h n = inside_declarations_written b (scope_of_declarations i ds) ss ds h n
       inside_wide_written p b ss (shut o e) h n = inside_written by_itself b ss e h n
       inside_wide_written p b ss (selected o s ls) h n = tt
 
-      inside_each_written : (p : Place) (b : Bool) (ss : List Scope) (es : Trees) → flaws_each ts i b ss es ≡ [] → AreNamable p es → Written (inside_each by i ss es)
+      inside_each_written : (p : Place) (b : Bool) (ss : List Scope) (es : Trees) → flaws_each ts i b ss es ≡ [] → AreNamable p es → Written (inside_each by opens i ss es)
       inside_each_written p b ss none h n = tt
       inside_each_written p b ss (more e es) h n =
-          both_all IsSelecting (inside by i ss e) (inside_each by i ss es) (inside_written p b ss e (left_empty (flaws ts i b ss e) (flaws_each ts i b ss es) h) n.0)
+          both_all IsSelecting (inside by opens i ss e) (inside_each by opens i ss es) (inside_written p b ss e (left_empty (flaws ts i b ss e) (flaws_each ts i b ss es) h) n.0)
           (inside_each_written p b ss es (right_empty (flaws ts i b ss e) (flaws_each ts i b ss es) h) n.1)
 
-      inside_fields_written : (b : Bool) (own : Scope) (ss : List Scope) (fs : Fields) → flaws_fields ts i b own ss fs ≡ [] → AreNamableFields fs → Written (inside_fields by i own ss fs)
+      inside_fields_written : (b : Bool) (own : Scope) (ss : List Scope) (fs : Fields) → flaws_fields ts i b own ss fs ≡ [] → AreNamableFields fs → Written (inside_fields by opens i own ss fs)
       inside_fields_written b own ss no_field h n = tt
       inside_fields_written b own ss (field l m e fs) h n =
           let here = let_flaws own l ++ flaws ts i (b || is_some l.scoped) (value_scope l own ∷ ss) e in
-          both_all IsSelecting (label_definitions by own l (resolved by i (value_scope l own ∷ ss) e) (inside by i (value_scope l own ∷ ss) e)) (inside_fields by i own ss fs)
+          both_all IsSelecting (label_definitions by own l (resolved by opens i (value_scope l own ∷ ss) e) (inside by opens i (value_scope l own ∷ ss) e)) (inside_fields by opens i own ss fs)
           (label_written own ss l e (written by_itself (b || is_some l.scoped) (value_scope l own ∷ ss) e (right_empty (let_flaws own l) (flaws ts i (b || is_some l.scoped) (value_scope l own ∷ ss) e) (left_empty here (flaws_fields ts i b own ss fs) h)) n.1)
           (inside_written by_itself (b || is_some l.scoped) (value_scope l own ∷ ss) e (right_empty (let_flaws own l) (flaws ts i (b || is_some l.scoped) (value_scope l own ∷ ss) e) (left_empty here (flaws_fields ts i b own ss fs) h)) n.1)) (inside_fields_written b own ss fs (right_empty here (flaws_fields ts i b own ss fs) h) n.2)
 
-      inside_declarations_written : (b : Bool) (own : Scope) (ss : List Scope) (ds : Declarations) → flaws_declarations ts i b own ss ds ≡ [] → AreNamableDeclarations ds → Written (inside_declarations by i own ss ds)
+      inside_declarations_written : (b : Bool) (own : Scope) (ss : List Scope) (ds : Declarations) → flaws_declarations ts i b own ss ds ≡ [] → AreNamableDeclarations ds → Written (inside_declarations by opens i own ss ds)
       inside_declarations_written b own ss no_declaration h n = tt
       inside_declarations_written b own ss (declared l m e ds) h n =
           let here = let_flaws own l ++ flaws ts i (b || is_some l.scoped) (value_scope l own ∷ ss) e in
-          both_all IsSelecting (label_definitions by own l (resolved by i (value_scope l own ∷ ss) e) (inside by i (value_scope l own ∷ ss) e)) (inside_declarations by i own ss ds)
+          both_all IsSelecting (label_definitions by own l (resolved by opens i (value_scope l own ∷ ss) e) (inside by opens i (value_scope l own ∷ ss) e)) (inside_declarations by opens i own ss ds)
           (label_written own ss l e (written by_itself (b || is_some l.scoped) (value_scope l own ∷ ss) e (right_empty (let_flaws own l) (flaws ts i (b || is_some l.scoped) (value_scope l own ∷ ss) e) (left_empty here (flaws_declarations ts i b own ss ds) h)) n.1)
           (inside_written by_itself (b || is_some l.scoped) (value_scope l own ∷ ss) e (right_empty (let_flaws own l) (flaws ts i (b || is_some l.scoped) (value_scope l own ∷ ss) e) (left_empty here (flaws_declarations ts i b own ss ds) h)) n.1))
           (inside_declarations_written b own ss ds (right_empty here (flaws_declarations ts i b own ss ds) h) n.2)
       inside_declarations_written b own ss (embedded o e ds) h n =
           let here = flaws ts i b (own ∷ ss) e in
-          both_all IsSelecting (inside by i (own ∷ ss) e) (inside_declarations by i own ss ds) (inside_written by_itself b (own ∷ ss) e (left_empty here (flaws_declarations ts i b own ss ds) h) n.0)
+          both_all IsSelecting (inside by opens i (own ∷ ss) e) (inside_declarations by opens i own ss ds) (inside_written by_itself b (own ∷ ss) e (left_empty here (flaws_declarations ts i b own ss ds) h) n.0)
           (inside_declarations_written b own ss ds (right_empty here (flaws_declarations ts i b own ss ds) h) n.1)
       inside_declarations_written b own ss (conditional o cs e ds) h n =
           let here = flaws ts i b (own ∷ ss) e in
-          both_all IsSelecting (inside by i (own ∷ ss) e) (inside_declarations by i own ss ds) (inside_written by_itself b (own ∷ ss) e (left_empty here (flaws_declarations ts i b own ss ds) h) n.1)
+          both_all IsSelecting (inside by opens i (own ∷ ss) e) (inside_declarations by opens i own ss ds) (inside_written by_itself b (own ∷ ss) e (left_empty here (flaws_declarations ts i b own ss ds) h) n.1)
           (inside_declarations_written b own ss ds (right_empty here (flaws_declarations ts i b own ss ds) h) n.2)
 
-      inside_end_written : (b : Bool) (ss : List Scope) (end : End) → flaws_end ts i b ss end ≡ [] → IsNamableEnd end → Written (inside_end by i ss end)
+      inside_end_written : (b : Bool) (ss : List Scope) (end : End) → flaws_end ts i b ss end ≡ [] → IsNamableEnd end → Written (inside_end by opens i ss end)
       inside_end_written b ss closed h n = tt
       inside_end_written b ss any h n = tt
       inside_end_written b ss (each e) h n = inside_written by_itself b ss e h n
 
-    definitions_written : (ss : List Scope) (ds : List DefinitionTree) → flat_map (λ d. flaws ts i false ss (body d)) ds ≡ [] → AllByRecursion IsNamableDefinition ds → Written (of_definitions by i ss ds)
+    definitions_written : (ss : List Scope) (ds : List DefinitionTree) → flat_map (λ d. flaws ts i false ss (body d)) ds ≡ [] → AllByRecursion IsNamableDefinition ds → Written (of_definitions by opens i ss ds)
     definitions_written ss [] h n = tt
     definitions_written ss (definition s o e ∷ ds) h n =
         let here = left_empty (flaws ts i false ss e) (flat_map (λ d. flaws ts i false ss (body d)) ds) h in (
           (n.0.0, written by_itself false ss e here n.0.1),
-          both_all IsSelecting (inside by i ss e) (of_definitions by i ss ds) (inside_written by_itself false ss e here n.0.1)
+          both_all IsSelecting (inside by opens i ss e) (of_definitions by opens i ss ds) (inside_written by_itself false ss e here n.0.1)
               (definitions_written ss ds (right_empty (flaws ts i false ss e) (flat_map (λ d. flaws ts i false ss (body d)) ds) h) n.1),
         )
 
-    names_written : (every bound : Scope) (ns : List NameTree) → flat_map (name_flaws ts i every bound) ns ≡ [] → AllByRecursion IsNamableName ns → Written (of_names by i every bound ns)
+    names_written : (every bound : Scope) (ns : List NameTree) → flat_map (name_flaws ts i every bound) ns ≡ [] → AllByRecursion IsNamableName ns → Written (of_names by opens i every bound ns)
     names_written every bound [] h n = tt
     names_written every bound (m ∷ ns) h n =
         let inner = name_scope m bound ∷ every ∷ [] in
         let here = left_empty (name_flaws ts i every bound m) (flat_map (name_flaws ts i every bound) ns) h in
         let well = right_empty (bound_flaws ts i every bound m) (flaws ts i true inner m.value) here in
-        both_all IsSelecting (of_name by i every bound m) (of_names by i every bound ns)
-        (defined_written (at_place by (top_place every bound m)) m.at (resolved by i inner m.value) (inside by i inner m.value) (λ d q. good_at (top_place every bound m) d q)
+        both_all IsSelecting (of_name by opens i every bound m) (of_names by opens i every bound ns)
+        (defined_written (at_place by (top_place every bound m)) m.at (resolved by opens i inner m.value) (inside by opens i inner m.value) (λ d q. good_at (top_place every bound m) d q)
         (written by_itself true inner m.value well n.0.1) (inside_written by_itself true inner m.value well n.0.1))
         (names_written every bound ns (right_empty (name_flaws ts i every bound m) (flat_map (name_flaws ts i every bound) ns) h) n.1)
 
-  files_written : (every : Scope) (i : ℕ) (fs : List FileTree) → flaws_from ts every i fs ≡ [] → AllByRecursion IsNamableFile fs → AllByRecursion IsSelectingFile (named_from by every i fs)
+  files_written : (every : Scope) (i : ℕ) (fs : List FileTree) → flaws_from ts every i fs ≡ [] → AllByRecursion IsNamableFile fs → AllByRecursion IsSelectingFile (named_from by opens every i fs)
   files_written every i [] h n = tt
   files_written every i (file c ds ns ∷ fs) h n =
       let bound = bound_scope i ns in
@@ -461,7 +510,7 @@ module _ (ts : Lifts) (good : AreGood ts) where
       let own = unmapped {Y = ℕ × Flaw} (λ x. (i, x)) (first ++ second) (left_empty numbered (flaws_from ts every (suc i) fs) h) in (
         (
           n.0.0,
-          selecting_all (of_definitions by i ss ds ++ of_names by i every bound ns) (both_all IsSelecting (of_definitions by i ss ds) (of_names by i every bound ns)
+          selecting_all (of_definitions by opens i ss ds ++ of_names by opens i every bound ns) (both_all IsSelecting (of_definitions by opens i ss ds) (of_names by opens i every bound ns)
               (definitions_written i ss ds (left_empty first second own) n.0.1) (names_written i every bound ns (right_empty first second own) n.0.2)),
           refl,
         ),

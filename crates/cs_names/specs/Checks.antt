@@ -15,10 +15,12 @@ use Rattle.cs_names.specs.Flaws.{flaws, let_flaws}
 use Rattle.cs_names.specs.Having.{has_name}
 use Rattle.cs_names.specs.Joined.{is_among, is_reference, references}
 use Rattle.cs_names.specs.Lifted as S
-use Rattle.cs_names.specs.Lifted.{Lifts, AreApart, known, is_defined, is_lifted, lift_in, lift_own, own_place, within}
+use Rattle.cs_names.specs.Lifted.{Lifts, AreApart, known, is_lifted, is_open, lift_in, lift_own, own_place, within}
 use Rattle.cs_names.specs.Named.{resolved, inside, label_definitions}
+use Rattle.cs_names.specs.Nested.{nested_by, untold}
 use Rattle.cs_names.specs.Scopes as M
 use Rattle.cs_names.specs.Scopes.{Place, entry, declared_by, value_scope}
+use Rattle.cs_names.specs.Taken.{TellsTaken}
 use Rattle.cs_names.specs.declared.fault.NameFault.{NameFault}
 use Rattle.cs_names.specs.declared.fault.NameFault.TheVariants as refused
 use Rattle.cs_names.specs.declared.flaws.Flaw.{Flaw}
@@ -27,6 +29,7 @@ use Rattle.cs_names.specs.declared.flaws.Stop.{Stop}
 use Rattle.cs_names.specs.declared.flaws.Stop.TheVariants as stops
 use Rattle.cs_names.specs.declared.lifting.Lifted as code
 use Rattle.cs_names.specs.declared.lifting.Lifting.{Lifting}
+use Rattle.cs_names.specs.declared.nested.Path.{Path}
 use Rattle.cs_names.specs.declared.scopes.Around.{Around}
 use Rattle.cs_names.specs.declared.scopes.Entry.{Entry}
 use Rattle.cs_names.specs.declared.scopes.Scope.{Scope}
@@ -85,6 +88,15 @@ declared_seen i (field_seen f) = declared_by i f.label
 declared_seen i (embedding_seen o e) = []
 declared_seen i (conditional_seen o cs e) = []
 
+-- a nested definition, as all files share it; and those of one declaration
+abbrev pub path_view : Path → M.Declared
+path_view p = record { name = string_bytes p.text; place = p.place }
+
+abbrev pub nested_seen : ℕ → List ℕ → SeenDeclaration → M.Scope
+nested_seen i s (field_seen f) = nested_by i s f.label
+nested_seen i s (embedding_seen o e) = untold i s
+nested_seen i s (conditional_seen o cs e) = []
+
 -- ---- what is lifted
 
 abbrev pub place_cmp : Place → Place → Ordering
@@ -95,9 +107,9 @@ lifted_view t = record { place = t.place; text = t.text.now; name = string_bytes
 
 -- the tables have what is lifted, beside the definitions of all files
 pub record TellsLifts (l : Lifting) (all : List DefinitionTree) (ts : Lifts) : Type 0 where
-  pub defined : (s : List ℕ) → sorted.contains_by (λ k. slice_cmp nat_cmp s k.now) l.defined ≡ is_defined all s
-  pub names : (s : List ℕ) → sorted.contains_text l.names s ≡ is_lifted ts s
+  pub names : TellsTaken l.names all (is_lifted ts)
   pub known : (p : Place) → option_map string_bytes (tree.get place_cmp l.known p) ≡ known ts p
+  pub opens : (s : List ℕ) → sorted.contains_text l.unclosed s ≡ is_open ts s
   pub order : map lifted_view l.order.items ≡ ts
   pub apart : AreApart all ts
 
@@ -123,23 +135,23 @@ flaws_seen ts i inner own scopes (conditional_seen o cs e) = flaws ts i inner (o
 
 -- ---- expressions without names
 
-module _ (by : Place → Option (List ℕ)) (i : ℕ) (own : M.Scope) (scopes : List M.Scope) where
+module _ (by : Place → Option (List ℕ)) (opens : List ℕ → Bool) (i : ℕ) (own : M.Scope) (scopes : List M.Scope) where
   abbrev pub resolved_field_seen : Seen → Seen
-  resolved_field_seen f = record { label = f.label; mark = f.mark; value = resolved by i (value_scope f.label own ∷ scopes) f.value }
+  resolved_field_seen f = record { label = f.label; mark = f.mark; value = resolved by opens i (value_scope f.label own ∷ scopes) f.value }
 
   -- a declaration that is kept
   abbrev pub resolved_seen : SeenDeclaration → SeenDeclaration
   resolved_seen (field_seen f) = field_seen (resolved_field_seen f)
-  resolved_seen (embedding_seen o e) = embedding_seen o (resolved by i (own ∷ scopes) e)
-  resolved_seen (conditional_seen o cs e) = conditional_seen o cs (resolved by i (own ∷ scopes) e)
+  resolved_seen (embedding_seen o e) = embedding_seen o (resolved by opens i (own ∷ scopes) e)
+  resolved_seen (conditional_seen o cs e) = conditional_seen o cs (resolved by opens i (own ∷ scopes) e)
 
   abbrev pub inside_field_seen : Seen → List DefinitionTree
-  inside_field_seen f = label_definitions by own f.label (resolved by i (value_scope f.label own ∷ scopes) f.value) (inside by i (value_scope f.label own ∷ scopes) f.value)
+  inside_field_seen f = label_definitions by own f.label (resolved by opens i (value_scope f.label own ∷ scopes) f.value) (inside by opens i (value_scope f.label own ∷ scopes) f.value)
 
   abbrev pub inside_seen : SeenDeclaration → List DefinitionTree
   inside_seen (field_seen f) = inside_field_seen f
-  inside_seen (embedding_seen o e) = inside by i (own ∷ scopes) e
-  inside_seen (conditional_seen o cs e) = inside by i (own ∷ scopes) e
+  inside_seen (embedding_seen o e) = inside by opens i (own ∷ scopes) e
+  inside_seen (conditional_seen o cs e) = inside by opens i (own ∷ scopes) e
 
 -- a declaration is one of a name, and none of the data
 abbrev pub is_scoped_seen : SeenDeclaration → Bool

@@ -1,54 +1,47 @@
 -- Which names are at fault by themselves (CUE, references, let clauses): those that nothing declares, a `let` beside another declaration of its name, and
--- fields that the value of a name refers to. Selectors select from definitions alone (own rule).
-use Rattle.std.specs.Prelude.{ℕ, suc, Bool, true, false, ◌&&◌, ◌||◌, not, List, [], ◌∷◌, ◌++◌, map, Option, Some, None, is_some, if◌then◌else◌}
+-- fields that the value of a name refers to. Selectors select from definitions alone (own rule), and nested definitions from the literals that declare them
+-- (CUE, selectors).
+use Rattle.std.specs.Prelude.{ℕ, suc, Bool, true, false, ◌&&◌, ◌||◌, not, List, [], ◌∷◌, ◌++◌, map, is_some, if◌then◌else◌}
 use Rattle.std.specs.List.{flat_map}
-use Rattle.cs_grammar.specs.Tree.{Label, Tree, atom, named, reference, conjunction, disjunction, paren, struct, list, wide, Wide, marked, merged, shut, selected, Declarations, no_declaration, declared, embedded, conditional, Trees, none, more, Fields, no_field, field, End, closed, any, each, body, NameTree, FileTree, definitions, names}
+use Rattle.cs_grammar.specs.Tree.{Label, Selector, Tree, atom, named, reference, conjunction, disjunction, paren, struct, list, wide, Wide, marked, merged, shut, selected, Declarations, no_declaration, declared, embedded, conditional, Trees, none, more, Fields, no_field, field, End, closed, any, each, body, NameTree, FileTree, definitions, names}
 use Rattle.cs_names.specs.Having.{is_hidden}
 use Rattle.cs_names.specs.Lifted.{Lifts, drop_byte, known, is_lifted, lifts, shared}
-use Rattle.cs_names.specs.Named.{meant, offset_of}
-use Rattle.cs_names.specs.Scopes.{Scope, begins_hash, declares, entry, scope_of_fields, scope_of_declarations, value_scope, name_scope, is_let, bound_scope}
+use Rattle.cs_names.specs.Named.{led, meant, offset_of}
+use Rattle.cs_names.specs.Nested.{path}
+use Rattle.cs_names.specs.Scopes.{Scope, begins_hash, declares, is_field, is_repeated, scope_of_fields, scope_of_declarations, value_scope, name_scope, is_let, bound_scope}
 use Rattle.cs_names.specs.declared.flaws.Flaw.{Flaw}
 use Rattle.cs_names.specs.declared.flaws.Flaw.TheVariants.{LeftOut, Unknown, Field}
-use Rattle.cs_names.specs.declared.scopes.Entry.{Entry}
 
 -- it is at fault, at this offset
 abbrev pub unknown_if : Bool → ℕ → List Flaw
 unknown_if true o = Unknown o ∷ []
 unknown_if false o = []
 
-abbrev pub has_others : Option Entry → Bool
-has_others None = false
-has_others (Some e) = e.is_repeated
-
-abbrev pub or_field : Option Entry → Bool → Bool
-or_field None outside = outside
-or_field (Some e) outside = not (is_some e.place)
-
--- a name stands for a field of a literal, in the innermost scope that declares it
-abbrev pub is_field : List Scope → List ℕ → Bool
-is_field [] s = false
-is_field (ds ∷ scopes) s = or_field (entry ds s) (is_field scopes s)
-
 -- an operand that is a name. A field of a literal around the value of a name would be lost where that is lifted, or be another name there; and a hidden
 -- name is declared somewhere (CUE, identifiers)
 abbrev pub operand_flaws : Lifts → Bool → List Scope → List ℕ → ℕ → List Flaw
 operand_flaws ts inner scopes s o = if inner && is_field scopes s then Field o ∷ [] else unknown_if (is_hidden s && not (is_some (meant (known ts) scopes s))) o
 
--- the name before the labels of a selector, which stands for nothing: a definition is at fault as a reference to it is, and another name that nothing
--- declares is that of an import
-abbrev pub unmeant_flaws : Lifts → List Scope → List ℕ → ℕ → List Flaw
-unmeant_flaws ts scopes s o =
-    if begins_hash s then unknown_if (is_lifted ts (drop_byte 35 s)) o else (
+-- the first label asks for a nested definition
+abbrev pub asks_nested : List Selector → Bool
+asks_nested [] = false
+asks_nested (l ∷ ls) = begins_hash l.text && not l.quotes
+
+-- it does, and each body of the definition before it is a struct literal that declares none such: none is led to, and all that the bodies declare is told
+abbrev pub is_undeclared : Lifts → List Scope → List ℕ → List Selector → Bool
+is_undeclared ts scopes s ls = (asks_nested ls && not (is_some (led (known ts) scopes s ls))) && not (is_field scopes (path s []))
+
+-- the name before the labels of a selector, which stands for nothing: a definition is at fault as a reference to it is, or where it doesn't declare the
+-- nested one that is asked for, and another name that nothing declares is that of an import
+abbrev pub unmeant_flaws : Lifts → List Scope → List ℕ → List Selector → ℕ → List Flaw
+unmeant_flaws ts scopes s ls o =
+    if begins_hash s then unknown_if (is_lifted ts (drop_byte 35 s) || is_undeclared ts scopes s ls) o else (
     if is_field scopes s then Field o ∷ [] else (
     if is_hidden s then Unknown o ∷ [] else
     LeftOut o ∷ []))
 
-abbrev pub base_flaws : Lifts → List Scope → List ℕ → ℕ → List Flaw
-base_flaws ts scopes s o = if is_some (meant (known ts) scopes s) then [] else unmeant_flaws ts scopes s o
-
--- the scope declares the name more than once
-abbrev pub is_repeated : Scope → List ℕ → Bool
-is_repeated scope s = has_others (entry scope s)
+abbrev pub base_flaws : Lifts → List Scope → List ℕ → List Selector → ℕ → List Flaw
+base_flaws ts scopes s ls o = if is_some (meant (known ts) scopes s) then [] else unmeant_flaws ts scopes s ls o
 
 -- a `let` in a literal with that scope
 abbrev pub let_flaws : Scope → Label → List Flaw
@@ -74,7 +67,7 @@ module _ (ts : Lifts) (i : ℕ) where
     flaws_wide inner scopes (marked o e) = flaws inner scopes e
     flaws_wide inner scopes (merged o ds b) = flaws_declarations inner (scope_of_declarations i ds) scopes ds
     flaws_wide inner scopes (shut o e) = flaws inner scopes e
-    flaws_wide inner scopes (selected o s ls) = base_flaws ts scopes s o
+    flaws_wide inner scopes (selected o s ls) = base_flaws ts scopes s ls o
 
     pub flaws_each : Bool → List Scope → Trees → List Flaw
     flaws_each inner scopes none = []

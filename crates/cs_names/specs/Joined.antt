@@ -1,14 +1,13 @@
 -- Which names are at fault by what else stands in the files: a `let` that nothing names (CUE, let clauses); and in files that join literals a name that
 -- two literals declare (own rule: CUE joins what such names were declared as, and what names them in one literal would be changed by the other), and
--- one that is no definition and holds a literal, unless it is embedded (own rule: CUE joins that literal with others before it is closed).
+-- one that is no definition and holds a literal, unless it is embedded, also by `&` (own rule: CUE joins that literal with others before it is closed).
 use Rattle.std.specs.Prelude.{ℕ, Bool, true, false, ◌&&◌, ◌||◌, not, List, [], ◌∷◌, ◌++◌, map, if◌then◌else◌}
 use Rattle.std.specs.List.{list_any, flat_map}
 use Rattle.std.specs.Str.{bytes_eq}
 use Rattle.cs_grammar.specs.declared.ast.FieldMark.{FieldMark}
 use Rattle.cs_grammar.specs.declared.ast.FieldMark.TheVariants.{Regular, Optional, Required, Every}
 use Rattle.cs_grammar.specs.Tree.{Tree, atom, named, reference, conjunction, disjunction, paren, struct, list, wide, Wide, marked, merged, shut, selected, Declarations, no_declaration, declared, embedded, conditional, Trees, none, more, Fields, no_field, field, End, closed, any, each, DefinitionTree, defined_name, body, FileTree, definitions}
-use Rattle.cs_names.specs.Lifted.{Lifts, Lifted, drop_byte, all_definitions}
-use Rattle.cs_names.specs.Scopes.{begins_hash}
+use Rattle.cs_names.specs.Lifted.{Lifts, Lifted, is_definition, all_definitions}
 use Rattle.cs_names.specs.declared.flaws.Flaw.{Flaw}
 use Rattle.cs_names.specs.declared.flaws.Flaw.TheVariants.{Unknown, Again}
 use Rattle.cs_names.specs.declared.lifting.Origin.{Origin}
@@ -79,6 +78,7 @@ is_among ss s = list_any (λ r. bytes_eq r s) ss
 abbrev pub is_bound : Origin → Bool
 is_bound origins.Let = true
 is_bound origins.File = false
+is_bound origins.Unclosed = false
 is_bound origins.Literal = false
 
 -- what is bound by `let`, and isn't referred to
@@ -185,6 +185,7 @@ abbrev pub is_inner : Origin → Bool
 is_inner origins.Literal = true
 is_inner origins.Let = false
 is_inner origins.File = false
+is_inner origins.Unclosed = false
 
 abbrev pub inner_text : Lifted → List (List ℕ)
 inner_text t = if is_inner t.origin then t.text ∷ [] else []
@@ -196,10 +197,6 @@ again ss (t ∷ ts) =
     if is_inner t.origin && is_among ss t.text then (t.place.0, Again t.place.1) ∷ again ss ts else again (ss ++ inner_text t) ts
 
 -- ---- what isn't closed
-
--- a name of a definition begins with `#`, or with a `_` (95) and it (CUE, definitions and hidden fields)
-abbrev pub is_definition : List ℕ → Bool
-is_definition s = begins_hash (drop_byte 95 s)
 
 abbrev mutual
   -- a literal of a struct or a list stands in it, but for what it refers to

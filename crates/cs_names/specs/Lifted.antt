@@ -1,14 +1,15 @@
 -- The definitions that names are lifted by (own rule): each name of a scope is a definition of its own. Those of files come first, then those of
 -- literals in the order of the text; one that is declared inside of `#P` has `P_` before it. Where its name is taken, by a definition of the files or by
 -- one lifted before, the least number from 1 stands behind it.
-use Rattle.std.specs.Prelude.{◌≡◌, ℕ, zero, suc, ◌+◌, Bool, false, ◌==◌, ◌&&◌, ◌||◌, List, [], ◌∷◌, ◌++◌, Option, Some, None, is_some, if◌then◌else◌}
+use Rattle.std.specs.Prelude.{◌≡◌, ℕ, zero, suc, ◌+◌, Bool, true, false, ◌==◌, ◌&&◌, ◌||◌, not, List, [], ◌∷◌, ◌++◌, Option, Some, None, is_some, if◌then◌else◌}
 use Rattle.std.specs.Fmt.{decimal}
 use Rattle.std.specs.List.{list_any, flat_map}
 use Rattle.std.specs.Option.{unwrap_or}
 use Rattle.std.specs.Str.{bytes_eq}
 use Rattle.cs_grammar.specs.Spelling.{begins_definition}
 use Rattle.cs_grammar.specs.Tree.{Label, Tree, atom, named, reference, conjunction, disjunction, paren, struct, list, wide, Wide, marked, merged, shut, selected, Declarations, no_declaration, declared, embedded, conditional, Trees, none, more, Fields, no_field, field, End, closed, any, each, DefinitionTree, defined_name, body, NameTree, FileTree, definitions, names}
-use Rattle.cs_names.specs.Scopes.{Place, Scope, first_byte, first_place, is_marked, bound_scope, shared_from, scope_of_fields, scope_of_declarations}
+use Rattle.cs_names.specs.Nested.{nested_from}
+use Rattle.cs_names.specs.Scopes.{Place, Scope, begins_hash, first_byte, first_place, is_marked, is_repeated, bound_scope, shared_from, scope_of_fields, scope_of_declarations}
 use Rattle.cs_names.specs.declared.lifting.Origin.{Origin}
 use Rattle.cs_names.specs.declared.lifting.Origin.TheVariants as origins
 
@@ -21,6 +22,10 @@ drop_byte b (x ∷ xs) = if x == b then xs else x ∷ xs
 -- a name without the `_` (95) and then the `#` (35) that it begins with
 abbrev pub bare : List ℕ → List ℕ
 bare s = drop_byte 35 (drop_byte 95 s)
+
+-- a name of a definition begins with `#`, or with a `_` and it (CUE, definitions and hidden fields)
+abbrev pub is_definition : List ℕ → Bool
+is_definition s = begins_hash (drop_byte 95 s)
 
 abbrev pub begins : Option ℕ → Bool
 begins None = false
@@ -79,6 +84,16 @@ is_lifted ts s = list_any (λ t. bytes_eq t.name s) ts
 
 abbrev pub is_taken : List DefinitionTree → Lifts → List ℕ → Bool
 is_taken all ts s = is_defined all s || is_lifted ts s
+
+abbrev pub is_open_origin : Origin → Bool
+is_open_origin origins.Unclosed = true
+is_open_origin origins.File = false
+is_open_origin origins.Let = false
+is_open_origin origins.Literal = false
+
+-- the definition that such a name is lifted by: what it holds isn't closed before it is joined (CUE, definitions and hidden fields)
+abbrev pub is_open : Lifts → List ℕ → Bool
+is_open ts s = list_any (λ t. is_open_origin t.origin && bytes_eq t.name s) ts
 
 -- no two places have one definition's name, and none that of a definition of the files
 pub record AreApart (all : List DefinitionTree) (ts : Lifts) : Type 0 where
@@ -154,21 +169,36 @@ module _ (all : List DefinitionTree) (i : ℕ) where
 
 -- ---- names of files
 
-abbrev pub top_origin : NameTree → Origin
-top_origin n = if n.is_bound then origins.Let else origins.File
+abbrev pub is_literal : Tree → Bool
+is_literal (struct o fs b) = true
+is_literal (atom a) = false
+is_literal (named s o) = false
+is_literal (reference s o) = false
+is_literal (conjunction es) = false
+is_literal (disjunction es) = false
+is_literal (paren e) = false
+is_literal (list es end) = false
+is_literal (wide w) = false
+
+-- a name that is no definition, and that is declared once, as a literal which embeds nothing
+abbrev pub is_unclosed : Scope → NameTree → Bool
+is_unclosed shared n = is_literal n.value && (not (is_definition n.name) && not (is_repeated shared n.name))
+
+abbrev pub top_origin : Scope → NameTree → Origin
+top_origin shared n = if n.is_bound then origins.Let else (if is_unclosed shared n then origins.Unclosed else origins.File)
 
 -- where a name of a file is declared first: for its file alone, or for all files
 abbrev pub top_place : Scope → Scope → NameTree → Option Place
 top_place shared bound n = first_place (if n.is_bound then bound else shared) n.name
 
-abbrev pub lift_top : List DefinitionTree → Option Place → NameTree → Lifts → Lifts
-lift_top all None n ts = ts
-lift_top all (Some p) n ts = with_lifted all ts p n.name (top_name n.name) (top_origin n)
+abbrev pub lift_top : List DefinitionTree → Scope → Option Place → NameTree → Lifts → Lifts
+lift_top all shared None n ts = ts
+lift_top all shared (Some p) n ts = with_lifted all ts p n.name (top_name n.name) (top_origin shared n)
 
 module _ (all : List DefinitionTree) (shared : Scope) where
   abbrev pub lift_tops : Scope → List NameTree → Lifts → Lifts
   lift_tops bound [] ts = ts
-  lift_tops bound (n ∷ ns) ts = lift_tops bound ns (lift_top all (top_place shared bound n) n ts)
+  lift_tops bound (n ∷ ns) ts = lift_tops bound ns (lift_top all shared (top_place shared bound n) n ts)
 
   -- of files whose numbers count from i
   abbrev pub lift_names : ℕ → List FileTree → Lifts → Lifts
@@ -190,8 +220,9 @@ module _ (all : List DefinitionTree) (shared : Scope) where
 abbrev pub all_definitions : List FileTree → List DefinitionTree
 all_definitions fs = flat_map definitions fs
 
+-- what all files share: their names, and behind these the paths of nested definitions
 abbrev pub shared : List FileTree → Scope
-shared fs = shared_from 0 fs
+shared fs = shared_from 0 fs ++ nested_from 0 fs
 
 -- all that is lifted, in order
 abbrev pub lifts : List FileTree → Lifts

@@ -1,12 +1,14 @@
--- What files stand for without names: each name is the reference to the definition that it is lifted by, selectors select from definitions, and behind each
--- definition stand those that are declared inside of it.
-use Rattle.std.specs.Prelude.{ℕ, suc, List, [], ◌∷◌, ◌++◌, Option, Some, None}
+-- What files stand for without names: each name, and each selector of a nested definition, is the reference to the definition that it is lifted by, other
+-- selectors select from definitions, and behind each definition stand those that are declared inside of it.
+use Rattle.std.specs.Prelude.{ℕ, suc, Bool, true, false, ◌&&◌, ◌||◌, List, [], ◌∷◌, ◌++◌, Option, Some, None, is_some, if◌then◌else◌}
 use Rattle.std.specs.List.{flat_map}
 use Rattle.std.specs.Option.{unwrap_or}
-use Rattle.cs_grammar.specs.Tree.{Label, Tree, atom, named, reference, conjunction, disjunction, paren, struct, list, wide, Wide, marked, merged, shut, selected, Declarations, no_declaration, declared, embedded, conditional, Trees, none, more, Fields, no_field, field, End, closed, any, each, DefinitionTree, definition, NameTree, FileTree, file, package_name, definitions, names}
+use Rattle.cs_grammar.specs.Tree.{Label, Selector, Tree, atom, named, reference, conjunction, disjunction, paren, struct, list, wide, Wide, marked, merged, shut, selected, Declarations, no_declaration, declared, embedded, conditional, Trees, none, more, Fields, no_field, field, End, closed, any, each, DefinitionTree, definition, NameTree, FileTree, file, package_name, definitions, names}
 use Rattle.cs_grammar.specs.declared.ast.FieldMark.{FieldMark}
-use Rattle.cs_names.specs.Lifted.{drop_byte, known, lifts, shared, own_place, top_place}
-use Rattle.cs_names.specs.Scopes.{Place, Scope, denoted, scope_of_fields, scope_of_declarations, value_scope, name_scope, bound_scope}
+use Rattle.cs_names.specs.Joined.{is_reference}
+use Rattle.cs_names.specs.Lifted.{drop_byte, known, is_open, lifts, shared, own_place, top_place}
+use Rattle.cs_names.specs.Nested.{path}
+use Rattle.cs_names.specs.Scopes.{Place, Scope, denoted, is_field, scope_of_fields, scope_of_declarations, value_scope, name_scope, bound_scope}
 
 -- the definition of a place, where these are known
 abbrev pub at_place : (Place → Option (List ℕ)) → Option Place → Option (List ℕ)
@@ -26,6 +28,26 @@ refer (Some t) o e = reference t o
 abbrev pub base : Option (List ℕ) → List ℕ → List ℕ
 base None s = drop_byte 35 s
 base (Some t) s = t
+
+-- the nested definition that a name before labels leads to by the first of them, if it has one by that path, and all that its bodies declare is told. What
+-- a literal declares under the name is none of the files, and a label in quotes is a field.
+abbrev pub led : (Place → Option (List ℕ)) → List Scope → List ℕ → List Selector → Option (List ℕ)
+led by scopes s [] = None
+led by scopes s (l ∷ ls) = if (l.quotes || is_some (meant by scopes s)) || is_field scopes (path s []) then None else meant by scopes (path s l.text)
+
+-- what is selected from a definition by labels: itself where there are none
+abbrev pub selecting : List ℕ → ℕ → List Selector → Tree
+selecting t o [] = reference t o
+selecting t o (l ∷ ls) = wide (selected o t (l ∷ ls))
+
+abbrev pub behind_first : List Selector → List Selector
+behind_first [] = []
+behind_first (l ∷ ls) = ls
+
+-- a selector, by the nested definition that its first label leads to, or else by the one before its labels
+abbrev pub select : Option (List ℕ) → List ℕ → ℕ → List Selector → Tree
+select None t o ls = wide (selected o t ls)
+select (Some t) s o ls = selecting t o (behind_first ls)
 
 -- a definition, if its name is known, and others behind it
 abbrev pub defining : Option (List ℕ) → ℕ → Tree → List DefinitionTree → List DefinitionTree
@@ -49,26 +71,72 @@ offset_of o = unwrap_or o 0
 abbrev pub label_definitions : (Place → Option (List ℕ)) → Scope → Label → Tree → List DefinitionTree → List DefinitionTree
 label_definitions by own l e ds = defining (at_place by (own_place own l)) (offset_of l.scoped) e ds
 
--- where definitions are known by these names, in the file i
-module _ (by : Place → Option (List ℕ)) (i : ℕ) where
+-- ---- operands of `&` that aren't closed
+
+-- a literal, or the reference to a definition that isn't closed
+abbrev pub is_unclosed_operand : (List ℕ → Bool) → Tree → Bool
+is_unclosed_operand opens (reference s o) = opens s
+is_unclosed_operand opens (struct o fs b) = true
+is_unclosed_operand opens (atom a) = false
+is_unclosed_operand opens (named s o) = false
+is_unclosed_operand opens (conjunction es) = false
+is_unclosed_operand opens (disjunction es) = false
+is_unclosed_operand opens (paren e) = false
+is_unclosed_operand opens (list es end) = false
+is_unclosed_operand opens (wide w) = false
+
+abbrev pub are_unclosed : (List ℕ → Bool) → Trees → Bool
+are_unclosed opens none = true
+are_unclosed opens (more e es) = is_unclosed_operand opens e && are_unclosed opens es
+
+abbrev pub some_reference : Trees → Bool
+some_reference none = false
+some_reference (more e es) = is_reference e || some_reference es
+
+-- where one of them begins
+abbrev pub beginning : Tree → ℕ
+beginning (reference s o) = o
+beginning (struct o fs b) = o
+beginning (atom a) = 0
+beginning (named s o) = 0
+beginning (conjunction es) = 0
+beginning (disjunction es) = 0
+beginning (paren e) = 0
+beginning (list es end) = 0
+beginning (wide w) = 0
+
+abbrev pub first_beginning : Trees → ℕ
+first_beginning none = 0
+first_beginning (more e es) = beginning e
+
+abbrev pub embedding : Trees → Declarations
+embedding none = no_declaration
+embedding (more e es) = embedded (beginning e) e (embedding es)
+
+-- operands of `&` are the literal that embeds them, where none is closed and one is a name (own rule: CUE joins what they hold, and closes it then)
+abbrev pub together : (List ℕ → Bool) → Trees → Tree
+together opens es = if some_reference es && are_unclosed opens es then wide (merged (first_beginning es) (embedding es) false) else conjunction es
+
+-- where definitions are known by these names, and some of them aren't closed, in the file i
+module _ (by : Place → Option (List ℕ)) (opens : List ℕ → Bool) (i : ℕ) where
   -- an expression in these scopes, from the innermost on, without names
   abbrev mutual
     pub resolved : List Scope → Tree → Tree
     resolved scopes (atom a) = atom a
     resolved scopes (named s o) = refer (meant by scopes s) o (named s o)
     resolved scopes (reference s o) = refer (meant by scopes (35 ∷ s)) o (reference s o)
-    resolved scopes (conjunction es) = conjunction (resolved_each scopes es)
+    resolved scopes (conjunction es) = together opens (resolved_each scopes es)
     resolved scopes (disjunction es) = disjunction (resolved_each scopes es)
     resolved scopes (paren e) = paren (resolved scopes e)
     resolved scopes (struct o fs b) = struct o (resolved_fields (scope_of_fields i fs) scopes fs) b
     resolved scopes (list es end) = list (resolved_each scopes es) (resolved_end scopes end)
-    resolved scopes (wide w) = wide (resolved_wide scopes w)
+    resolved scopes (wide w) = resolved_wide scopes w
 
-    pub resolved_wide : List Scope → Wide → Wide
-    resolved_wide scopes (marked o e) = marked o (resolved scopes e)
-    resolved_wide scopes (merged o ds b) = merged o (resolved_declarations (scope_of_declarations i ds) scopes ds) b
-    resolved_wide scopes (shut o e) = shut o (resolved scopes e)
-    resolved_wide scopes (selected o s ls) = selected o (base (meant by scopes s) s) ls
+    pub resolved_wide : List Scope → Wide → Tree
+    resolved_wide scopes (marked o e) = wide (marked o (resolved scopes e))
+    resolved_wide scopes (merged o ds b) = wide (merged o (resolved_declarations (scope_of_declarations i ds) scopes ds) b)
+    resolved_wide scopes (shut o e) = wide (shut o (resolved scopes e))
+    resolved_wide scopes (selected o s ls) = select (led by scopes s ls) (base (meant by scopes s) s) o ls
 
     pub resolved_each : List Scope → Trees → Trees
     resolved_each scopes none = none
@@ -153,10 +221,10 @@ module _ (by : Place → Option (List ℕ)) (i : ℕ) where
       (of_definitions (bound_scope i (names f) ∷ shared ∷ []) (definitions f) ++ of_names shared (bound_scope i (names f)) (names f)) []
 
 -- of files whose numbers count from i
-abbrev pub named_from : (Place → Option (List ℕ)) → Scope → ℕ → List FileTree → List FileTree
-named_from by shared i [] = []
-named_from by shared i (f ∷ fs) = named_file by i shared f ∷ named_from by shared (suc i) fs
+abbrev pub named_from : (Place → Option (List ℕ)) → (List ℕ → Bool) → Scope → ℕ → List FileTree → List FileTree
+named_from by opens shared i [] = []
+named_from by opens shared i (f ∷ fs) = named_file by opens i shared f ∷ named_from by opens shared (suc i) fs
 
 -- what files stand for
 abbrev pub named_files : List FileTree → List FileTree
-named_files fs = named_from (known (lifts fs)) (shared fs) 0 fs
+named_files fs = named_from (known (lifts fs)) (is_open (lifts fs)) (shared fs) 0 fs

@@ -68,6 +68,14 @@ abbrev pub entry : Scope → List ℕ → Option Entry
 entry [] s = None
 entry (d ∷ ds) s = if bytes_eq d.name s then Some (record { place = d.place; is_repeated = declares ds s }) else entry ds s
 
+abbrev pub has_others : Option Entry → Bool
+has_others None = false
+has_others (Some e) = e.is_repeated
+
+-- the scope declares the name more than once
+abbrev pub is_repeated : Scope → List ℕ → Bool
+is_repeated scope s = has_others (entry scope s)
+
 abbrev pub place_in : Option Entry → Option Place
 place_in None = None
 place_in (Some e) = e.place
@@ -85,6 +93,15 @@ or_outside (Some e) outside = e.place
 abbrev pub denoted : List Scope → List ℕ → Option Place
 denoted [] s = None
 denoted (ds ∷ scopes) s = or_outside (entry ds s) (denoted scopes s)
+
+abbrev pub or_field : Option Entry → Bool → Bool
+or_field None outside = outside
+or_field (Some e) outside = not (is_some e.place)
+
+-- a name stands for a field of a literal, in the innermost scope that declares it
+abbrev pub is_field : List Scope → List ℕ → Bool
+is_field [] s = false
+is_field (ds ∷ scopes) s = or_field (entry ds s) (is_field scopes s)
 
 -- ---- let clauses
 

@@ -11,12 +11,13 @@ pub enum NameFault {
     OutOfMemory,
     /// The form at the offset, a selector from a name that nothing declares, is left out.
     LeftOut { file: usize, offset: usize },
-    /// The name at the offset isn't declared; or what `let` binds there is named by nothing, or declared beside it.
+    /// The name at the offset isn't declared, or declares no such nested definition as is selected; or what `let` binds there is named by nothing, or
+    /// declared beside it.
     UnknownName { file: usize, offset: usize },
     /// The name at the offset, in the value of another name or before a selector, stands for a field of a literal around it.
     NamesField { file: usize, offset: usize },
     /// The files join literals, and the name that is declared at the offset is declared by another literal too, or is no definition, holds a literal and is
-    /// named otherwise than as an embedding.
+    /// named otherwise than as an embedding, or as an operand of `&` beside such names and literals.
     Redeclared { file: usize, offset: usize },
 }
 

@@ -8,25 +8,27 @@ use crate::flaws::check_files;
 use crate::inside::named_files;
 use crate::joined::check_named;
 use crate::lifting::Lifting;
+use crate::nested::paths_in;
 use crate::scopes::Scope;
 use cs_grammar::File;
 use std::alloc::Global;
 
 /// The files that files of the wide profile stand for, each at its place: each name of a scope is a definition of its own, and what names it refers to
-/// that (CUE, declarations and scopes, definitions and hidden fields, let clauses). Selectors, which select from definitions then, conditions, embeddings and
-/// marks of defaults stay.
+/// that (CUE, declarations and scopes, definitions and hidden fields, let clauses), a selector of a nested definition too (CUE, selectors). Other selectors,
+/// which select from definitions then, conditions, embeddings and marks of defaults stay.
 ///
 /// # Errors
 /// `LeftOut`, `UnknownName` or `NamesField` with the first name or selector at fault by itself, by file and then by text; `UnknownName` with the first
 /// `let` that nothing names; `Redeclared`, in files that join literals, with the first name that a literal declares again, or else the first that is no
-/// definition, holds a literal and is named otherwise than as an embedding. `OutOfMemory`.
+/// definition, holds a literal and is named otherwise than as an embedding, or as an operand of `&` beside such names and literals. `OutOfMemory`.
 pub fn without_names(alloc: Global, files: &[File]) -> Result<Vec<File>, NameFault>
     ensures found { IfOk result (λ v. AreNamed (map file_view files.now) (map file_view v.items)) }
     ensures refused { IfErr result (λ e. IsRefusal e (map file_view files.now)) }
     ensures only { name_faults (map file_view files.now) ≡ []
         → IsOkUnless result NameFault.OutOfMemory }
 {
-    let shared = Scope::shared(alloc, files)?;
+    let paths = paths_in(alloc, files)?;
+    let shared = Scope::shared(alloc, files, &paths)?;
     let lifting = Lifting::of(alloc, &shared, files)?;
     check_files(&lifting, &shared, files)?;
     let named = named_files(&lifting, &shared, files)?;

@@ -1,8 +1,8 @@
 // Which names are at fault by themselves.
-ghost use Rattle.std.specs.Prelude.{◌≡◌, ◌||◌, ◌∷◌, [], ℕ, Bool, List, false, map};
+ghost use Rattle.std.specs.Prelude.{◌≡◌, ◌||◌, ◌∷◌, [], ℕ, Bool, List, false, map, IfOk};
 ghost use Rattle.std.specs.List.{flat_map};
 ghost use Rattle.cs_grammar.specs.Tree.{DefinitionTree, body, reference};
-ghost use Rattle.cs_grammar.specs.View.{expr_view, exprs_view, field_view, fields_view, declaration_view, declarations_view, end_view, wide_view, definition_view, name_view, file_view};
+ghost use Rattle.cs_grammar.specs.View.{expr_view, exprs_view, field_view, fields_view, declaration_view, declarations_view, end_view, wide_view, definition_view, name_view, file_view, selector_view};
 ghost use Rattle.cs_names.specs.Checks as Check;
 ghost use Rattle.cs_names.specs.Checks.{TellsLifts, TellsScope, TellScopes, Finds, FindsAny, flaws_field_seen, flaws_seen};
 ghost use Rattle.cs_names.specs.Flaws as Spec;
@@ -15,7 +15,7 @@ use crate::lifting::Lifting;
 use crate::resolved::Naming;
 use crate::scopes::{Around, Scope, is_field, is_let};
 use crate::texts::{begins_hash, behind_hash, is_hidden};
-use cs_grammar::{Declaration, Definition, Expr, Field, File, ListEnd, Name, Wide, atom};
+use cs_grammar::{Declaration, Definition, Expr, Field, File, ListEnd, Name, Selector, Wide, atom};
 use std::alloc::AllocError;
 
 /// What is at fault, and the offset.
@@ -23,7 +23,7 @@ use std::alloc::AllocError;
 pub enum Flaw {
     /// A form that is left out: a selector from what nothing declares.
     LeftOut { at: usize },
-    /// A name that isn't declared, that nothing names, or that is declared beside a `let`.
+    /// A name that isn't declared, that nothing names, or that is declared beside a `let`; or a selector of a nested definition that isn't declared.
     Unknown { at: usize },
     /// A name that stands for a field of a literal, or a selector from one.
     Field { at: usize },
@@ -63,8 +63,8 @@ fn unknown_if(is_flawed: bool, at: usize) -> Result<(), Stop>
 }
 
 /// Whether a scope declares the name more than once.
-fn is_repeated(scope: &Scope<'_>, name: &str) -> bool
-    ensures { (ds : Scopes.Scope) → TellsScope scope.now ds → result ≡ Spec.is_repeated ds name.now }
+pub(crate) fn is_repeated(scope: &Scope<'_>, name: &str) -> bool
+    ensures { (ds : Scopes.Scope) → TellsScope scope.now ds → result ≡ Scopes.is_repeated ds name.now }
 {
     match scope.entry(name) {
         Some(entry) => entry.is_repeated,
@@ -78,6 +78,16 @@ fn check_let(own: &Scope<'_>, field: &Field) -> Result<(), Stop>
 {
     let is_flawed = is_let(field) && is_repeated(own, &field.label);
     unknown_if(is_flawed, field.scoped.unwrap_or(0))
+}
+
+/// Whether the first label asks for a nested definition.
+fn asks_nested(labels: &[Selector]) -> bool
+    ensures { result ≡ Spec.asks_nested (map selector_view labels.now) }
+{
+    match labels.first() {
+        Some(first) => begins_hash(&first.label) && !first.quoted,
+        None => false,
+    }
 }
 
 impl<'a> Naming<'_, 'a> {
@@ -108,13 +118,38 @@ impl<'a> Naming<'_, 'a> {
         unknown_if(is_unmeant && self.lifting.is_lifted(name), at)
     }
 
-    /// Looks for what is at fault with the name before the labels of a selector, which stands for nothing.
-    fn check_unmeant(&self, scopes: &[Around<'_, 'a>], name: &str, at: usize) -> Result<(), Stop>
+    /// Whether the first label asks for a nested definition that no body of the one before it declares, each of which is a struct literal.
+    fn is_undeclared(
+        &self,
+        scopes: &[Around<'_, 'a>],
+        name: &str,
+        labels: &[Selector],
+    ) -> Result<bool, AllocError>
         ensures { (all : List DefinitionTree) (ts : Lifts) (ss : List Scopes.Scope) → TellsLifts self.now.lifting.now all ts → TellScopes scopes.now ss
-            → Finds result (unmeant_flaws ts ss name.now at) }
+            → IfOk result (λ b. b ≡ Spec.is_undeclared ts ss name.now (map selector_view labels.now)) }
+    {
+        let is_led = self.led(scopes, name, labels)?.is_some();
+        let is_untold = self.is_untold(scopes, name)?;
+        Ok(asks_nested(labels) && !is_led && !is_untold)
+    }
+
+    /// Looks for what is at fault with the name before the labels of a selector, which stands for nothing.
+    fn check_unmeant(
+        &self,
+        scopes: &[Around<'_, 'a>],
+        name: &str,
+        labels: &[Selector],
+        at: usize,
+    ) -> Result<(), Stop>
+        ensures { (all : List DefinitionTree) (ts : Lifts) (ss : List Scopes.Scope) → TellsLifts self.now.lifting.now all ts → TellScopes scopes.now ss
+            → Finds result (unmeant_flaws ts ss name.now (map selector_view labels.now) at) }
     {
         if begins_hash(name) {
-            return unknown_if(self.lifting.is_lifted(behind_hash(name)), at);
+            let is_undeclared = self.is_undeclared(scopes, name, labels)?;
+            return unknown_if(
+                self.lifting.is_lifted(behind_hash(name)) || is_undeclared,
+                at,
+            );
         }
         let flaw = if is_field(scopes, name) {
             Flaw::Field { at }
@@ -127,14 +162,20 @@ impl<'a> Naming<'_, 'a> {
     }
 
     /// Looks for what is at fault with the name before the labels of a selector.
-    fn check_base(&self, scopes: &[Around<'_, 'a>], name: &str, at: usize) -> Result<(), Stop>
+    fn check_base(
+        &self,
+        scopes: &[Around<'_, 'a>],
+        name: &str,
+        labels: &[Selector],
+        at: usize,
+    ) -> Result<(), Stop>
         ensures { (all : List DefinitionTree) (ts : Lifts) (ss : List Scopes.Scope) → TellsLifts self.now.lifting.now all ts → TellScopes scopes.now ss
-            → Finds result (base_flaws ts ss name.now at) }
+            → Finds result (base_flaws ts ss name.now (map selector_view labels.now) at) }
     {
         if self.meant(scopes, name).is_some() {
             return Ok(());
         }
-        self.check_unmeant(scopes, name, at)
+        self.check_unmeant(scopes, name, labels, at)
     }
 
     /// Looks for what is at fault in an expression in these scopes. `Err` has the first.
@@ -179,7 +220,7 @@ impl<'a> Naming<'_, 'a> {
                 let own = Scope::of_declarations(self.alloc, self.file, declarations)?;
                 self.check_declarations(is_inner, &own, scopes, declarations)
             }
-            Wide::Selected { at, name, .. } => self.check_base(scopes, name, *at),
+            Wide::Selected { at, name, labels } => self.check_base(scopes, name, labels, *at),
         }
     }
 
@@ -351,7 +392,7 @@ impl<'a> Naming<'_, 'a> {
 /// Whether a file binds a name more than once, or all files share it.
 fn is_beside(shared: &Scope<'_>, bound: &Scope<'_>, name: &str) -> bool
     ensures { (every own : Scopes.Scope) → TellsScope shared.now every → TellsScope bound.now own
-        → result ≡ (Spec.is_repeated own name.now || Scopes.declares every name.now) }
+        → result ≡ (Scopes.is_repeated own name.now || Scopes.declares every name.now) }
 {
     is_repeated(bound, name) || shared.declares(name)
 }

@@ -4,7 +4,7 @@ ghost use Rattle.cs_grammar.specs.Tree.{DefinitionTree, definition, definitions}
 ghost use Rattle.cs_grammar.specs.View.{expr_view, exprs_view, field_view, fields_view, declaration_view, declarations_view, end_view, wide_view, definition_view, name_view, file_view};
 ghost use Rattle.cs_names.specs.Checks.{TellsLifts, TellsScope, TellScopes, inside_field_seen, inside_seen};
 ghost use Rattle.cs_names.specs.Lifted as Lifted;
-ghost use Rattle.cs_names.specs.Lifted.{Lifts, known};
+ghost use Rattle.cs_names.specs.Lifted.{Lifts, known, is_open};
 ghost use Rattle.cs_names.specs.Named as Spec;
 ghost use Rattle.cs_names.specs.Named.{at_place, of_definition, of_definitions, of_name, of_names, named_file, named_from};
 ghost use Rattle.cs_names.specs.Scopes as Scopes;
@@ -53,7 +53,7 @@ impl<'l, 'a> Naming<'l, 'a> {
         expr: &'a Expr,
     ) -> Result<(), AllocError>
         ensures { OnOk result ((all : List DefinitionTree) (ts : Lifts) (ss : List Scopes.Scope) → TellsLifts self.now.lifting.now all ts → TellScopes scopes.now ss
-            → map definition_view found.new.items ≡ map definition_view found.old.items ++ Spec.inside (known ts) self.now.file ss (expr_view expr.now)) }
+            → map definition_view found.new.items ≡ map definition_view found.old.items ++ Spec.inside (known ts) (is_open ts) self.now.file ss (expr_view expr.now)) }
     {
         match expr {
             Expr::And(operands) | Expr::Or(operands) => self.add_each(found, scopes, operands),
@@ -79,7 +79,7 @@ impl<'l, 'a> Naming<'l, 'a> {
         form: &'a Wide,
     ) -> Result<(), AllocError>
         ensures { OnOk result ((all : List DefinitionTree) (ts : Lifts) (ss : List Scopes.Scope) → TellsLifts self.now.lifting.now all ts → TellScopes scopes.now ss
-            → map definition_view found.new.items ≡ map definition_view found.old.items ++ Spec.inside_wide (known ts) self.now.file ss (wide_view form.now)) }
+            → map definition_view found.new.items ≡ map definition_view found.old.items ++ Spec.inside_wide (known ts) (is_open ts) self.now.file ss (wide_view form.now)) }
     {
         match form {
             Wide::Marked { value, .. } | Wide::Shut { value, .. } => {
@@ -101,7 +101,7 @@ impl<'l, 'a> Naming<'l, 'a> {
         exprs: &'a [Expr],
     ) -> Result<(), AllocError>
         ensures { OnOk result ((all : List DefinitionTree) (ts : Lifts) (ss : List Scopes.Scope) → TellsLifts self.now.lifting.now all ts → TellScopes scopes.now ss
-            → map definition_view found.new.items ≡ map definition_view found.old.items ++ Spec.inside_each (known ts) self.now.file ss (exprs_view exprs.now)) }
+            → map definition_view found.new.items ≡ map definition_view found.old.items ++ Spec.inside_each (known ts) (is_open ts) self.now.file ss (exprs_view exprs.now)) }
     {
         for expr in exprs {
             self.add_inside(found, scopes, expr)?;
@@ -120,7 +120,7 @@ impl<'l, 'a> Naming<'l, 'a> {
     ) -> Result<(), AllocError>
         ensures { OnOk result ((all : List DefinitionTree) (ts : Lifts) (scope : Scopes.Scope) (ss : List Scopes.Scope) → TellsLifts self.now.lifting.now all ts
             → TellsScope own.now scope → TellScopes outside.now ss
-            → map definition_view found.new.items ≡ map definition_view found.old.items ++ Spec.inside_fields (known ts) self.now.file scope ss (fields_view fields.now)) }
+            → map definition_view found.new.items ≡ map definition_view found.old.items ++ Spec.inside_fields (known ts) (is_open ts) self.now.file scope ss (fields_view fields.now)) }
     {
         for field in fields {
             self.add_field(found, own, outside, field)?;
@@ -139,7 +139,7 @@ impl<'l, 'a> Naming<'l, 'a> {
     ) -> Result<(), AllocError>
         ensures { OnOk result ((all : List DefinitionTree) (ts : Lifts) (scope : Scopes.Scope) (ss : List Scopes.Scope) → TellsLifts self.now.lifting.now all ts
             → TellsScope own.now scope → TellScopes outside.now ss
-            → map definition_view found.new.items ≡ map definition_view found.old.items ++ inside_field_seen (known ts) self.now.file scope ss (field_view field.now)) }
+            → map definition_view found.new.items ≡ map definition_view found.old.items ++ inside_field_seen (known ts) (is_open ts) self.now.file scope ss (field_view field.now)) }
     {
         let scopes = Around::of_value(&*own, &*field).and(self.alloc, &*outside)?;
         if let Some(name) = self.definition_of(own, field) {
@@ -160,7 +160,7 @@ impl<'l, 'a> Naming<'l, 'a> {
         ensures { OnOk result ((all : List DefinitionTree) (ts : Lifts) (scope : Scopes.Scope) (ss : List Scopes.Scope) → TellsLifts self.now.lifting.now all ts
             → TellsScope own.now scope → TellScopes outside.now ss
             → map definition_view found.new.items
-            ≡ map definition_view found.old.items ++ Spec.inside_declarations (known ts) self.now.file scope ss (declarations_view declarations.now)) }
+            ≡ map definition_view found.old.items ++ Spec.inside_declarations (known ts) (is_open ts) self.now.file scope ss (declarations_view declarations.now)) }
     {
         for declaration in declarations {
             self.add_declaration(found, own, outside, declaration)?;
@@ -178,7 +178,7 @@ impl<'l, 'a> Naming<'l, 'a> {
     ) -> Result<(), AllocError>
         ensures { OnOk result ((all : List DefinitionTree) (ts : Lifts) (scope : Scopes.Scope) (ss : List Scopes.Scope) → TellsLifts self.now.lifting.now all ts
             → TellsScope own.now scope → TellScopes outside.now ss
-            → map definition_view found.new.items ≡ map definition_view found.old.items ++ inside_seen (known ts) self.now.file scope ss (declaration_view declaration.now)) }
+            → map definition_view found.new.items ≡ map definition_view found.old.items ++ inside_seen (known ts) (is_open ts) self.now.file scope ss (declaration_view declaration.now)) }
     {
         match declaration {
             Declaration::Field(field) => self.add_field(found, own, outside, field),
@@ -197,7 +197,7 @@ impl<'l, 'a> Naming<'l, 'a> {
         end: &'a ListEnd,
     ) -> Result<(), AllocError>
         ensures { OnOk result ((all : List DefinitionTree) (ts : Lifts) (ss : List Scopes.Scope) → TellsLifts self.now.lifting.now all ts → TellScopes scopes.now ss
-            → map definition_view found.new.items ≡ map definition_view found.old.items ++ Spec.inside_end (known ts) self.now.file ss (end_view end.now)) }
+            → map definition_view found.new.items ≡ map definition_view found.old.items ++ Spec.inside_end (known ts) (is_open ts) self.now.file ss (end_view end.now)) }
     {
         match end {
             ListEnd::Closed | ListEnd::Any => Ok(()),
@@ -216,7 +216,7 @@ impl<'l, 'a> Naming<'l, 'a> {
     ) -> Result<(), AllocError>
         ensures { OnOk result ((all : List DefinitionTree) (ts : Lifts) (ss : List Scopes.Scope) → TellsLifts self.now.lifting.now all ts → TellScopes scopes.now ss
             → map definition_view found.new.items
-            ≡ map definition_view found.old.items ++ of_definition (known ts) self.now.file ss (definition_view definition.now)) }
+            ≡ map definition_view found.old.items ++ of_definition (known ts) (is_open ts) self.now.file ss (definition_view definition.now)) }
     {
         let body = self.resolved(scopes, &definition.body)?;
         self.add_definition(found, &definition.name, definition.at, body)?;
@@ -231,7 +231,7 @@ impl<'l, 'a> Naming<'l, 'a> {
     ) -> Result<(), AllocError>
         ensures { OnOk result ((all : List DefinitionTree) (ts : Lifts) (ss : List Scopes.Scope) → TellsLifts self.now.lifting.now all ts → TellScopes scopes.now ss
             → map definition_view found.new.items
-            ≡ map definition_view found.old.items ++ of_definitions (known ts) self.now.file ss (map definition_view definitions.now)) }
+            ≡ map definition_view found.old.items ++ of_definitions (known ts) (is_open ts) self.now.file ss (map definition_view definitions.now)) }
     {
         for definition in definitions {
             self.add_whole(found, scopes, definition)?;
@@ -267,7 +267,7 @@ impl<'l, 'a> Naming<'l, 'a> {
         ensures { OnOk result ((all : List DefinitionTree) (ts : Lifts) (every own : Scopes.Scope) → TellsLifts self.now.lifting.now all ts
             → TellsScope shared.now every → TellsScope bound.now own
             → map definition_view found.new.items
-            ≡ map definition_view found.old.items ++ of_name (known ts) self.now.file every own (name_view name.now)) }
+            ≡ map definition_view found.old.items ++ of_name (known ts) (is_open ts) self.now.file every own (name_view name.now)) }
     {
         let outside = [Around::whole(shared)];
         let scopes = Around::of_name(bound, name).and(self.alloc, &outside)?;
@@ -288,7 +288,7 @@ impl<'l, 'a> Naming<'l, 'a> {
         ensures { OnOk result ((all : List DefinitionTree) (ts : Lifts) (every own : Scopes.Scope) → TellsLifts self.now.lifting.now all ts
             → TellsScope shared.now every → TellsScope bound.now own
             → map definition_view found.new.items
-            ≡ map definition_view found.old.items ++ of_names (known ts) self.now.file every own (map name_view names.now)) }
+            ≡ map definition_view found.old.items ++ of_names (known ts) (is_open ts) self.now.file every own (map name_view names.now)) }
     {
         for name in names {
             self.add_name(found, shared, bound, name)?;
@@ -299,7 +299,7 @@ impl<'l, 'a> Naming<'l, 'a> {
     /// The definitions of the file, and then its other names.
     fn definitions(&self, shared: &Scope<'a>, file: &'a File) -> Result<Vec<Definition>, AllocError>
         ensures { (all : List DefinitionTree) (ts : Lifts) (every : Scopes.Scope) → TellsLifts self.now.lifting.now all ts → TellsScope shared.now every
-            → IfOk result (λ v. map definition_view v.items ≡ definitions (named_file (known ts) self.now.file every (file_view file.now))) }
+            → IfOk result (λ v. map definition_view v.items ≡ definitions (named_file (known ts) (is_open ts) self.now.file every (file_view file.now))) }
     {
         let bound = Scope::bound(self.alloc, self.file, &file.names)?;
         let outside = [Around::whole(shared)];
@@ -313,7 +313,7 @@ impl<'l, 'a> Naming<'l, 'a> {
     /// The file without names.
     fn named_file(&self, shared: &Scope<'a>, file: &'a File) -> Result<File, AllocError>
         ensures { (all : List DefinitionTree) (ts : Lifts) (every : Scopes.Scope) → TellsLifts self.now.lifting.now all ts → TellsScope shared.now every
-            → IfOk result (λ f. file_view f ≡ named_file (known ts) self.now.file every (file_view file.now)) }
+            → IfOk result (λ f. file_view f ≡ named_file (known ts) (is_open ts) self.now.file every (file_view file.now)) }
     {
         let definitions = self.definitions(shared, file)?;
         let package = match &file.package {
@@ -335,7 +335,7 @@ pub(crate) fn named_files<'a>(
     files: &'a [File],
 ) -> Result<Vec<File>, AllocError>
     ensures { (all : List DefinitionTree) (ts : Lifts) (every : Scopes.Scope) → TellsLifts lifting.now all ts → TellsScope shared.now every
-        → IfOk result (λ v. map file_view v.items ≡ named_from (known ts) every 0 (map file_view files.now)) }
+        → IfOk result (λ v. map file_view v.items ≡ named_from (known ts) (is_open ts) every 0 (map file_view files.now)) }
 {
     let alloc = lifting.alloc;
     let mut named = Vec::with_capacity(alloc, files.len())?;

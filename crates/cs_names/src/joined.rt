@@ -23,7 +23,7 @@ fn is_unused(referred: &BTreeSet<&str>, lifted: &Lifted<'_>) -> bool
 {
     match lifted.origin {
         Origin::Let => !referred.contains(lifted.name.as_str()),
-        Origin::File | Origin::Literal => false,
+        Origin::File | Origin::Unclosed | Origin::Literal => false,
     }
 }
 
@@ -46,7 +46,7 @@ fn is_inner(origin: Origin) -> bool
 {
     match origin {
         Origin::Literal => true,
-        Origin::File | Origin::Let => false,
+        Origin::File | Origin::Unclosed | Origin::Let => false,
     }
 }
 

@@ -6,7 +6,7 @@ ghost use Rattle.cs_grammar.specs.Namable.{IsNamableFile};
 ghost use Rattle.cs_grammar.specs.Tree.{FileTree};
 ghost use Rattle.cs_grammar.specs.Written.{IsWrittenFile};
 ghost use Rattle.cs_names.specs.Having.{have_names};
-ghost use Rattle.cs_names.specs.Lifted.{lifts, known, all_definitions};
+ghost use Rattle.cs_names.specs.Lifted.{lifts, known, all_definitions, is_open};
 ghost use Rattle.cs_names.specs.Named.{resolved};
 ghost use Rattle.cs_names.specs.Names.{AreNamed};
 ghost use Rattle.cs_names.specs.Reading.{values_at};
@@ -31,5 +31,5 @@ pub fn named_files_can_be_written()
 /// A law: the definition that a name is lifted by has just the values that are declared at its place, each as it is in its scopes without names.
 pub fn lifted_definitions_are_read_directly()
     ensures { (fs gs : List FileTree) (p : Place) (s : List ℕ) → AreNamed fs gs → known (lifts fs) p ≡ Some s
-        → bodies s (all_definitions gs) ≡ map (λ v. resolved (known (lifts fs)) v.file v.scopes v.value) (values_at p fs) }
+        → bodies s (all_definitions gs) ≡ map (λ v. resolved (known (lifts fs)) (is_open (lifts fs)) v.file v.scopes v.value) (values_at p fs) }
 {}

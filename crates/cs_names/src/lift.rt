@@ -166,7 +166,7 @@ impl<'a> Lifting<'a> {
     {
         for name in names {
             if let Some(place) = top_place(shared, bound, name) {
-                self.lift_top(place, name)?;
+                self.lift_top(shared, place, name)?;
             }
         }
         Ok(())

@@ -1,18 +1,20 @@
 // Expressions in which each name is the reference to the definition that it is lifted by.
-ghost use Rattle.std.specs.Prelude.{◌≡◌, List, ◌∷◌, map, IfOk, option_map, string_bytes};
-ghost use Rattle.cs_grammar.specs.Tree.{DefinitionTree, named, reference};
-ghost use Rattle.cs_grammar.specs.View.{expr_view, exprs_view, field_view, fields_view, declaration_view, declarations_view, condition_view, test_view, end_view, wide_view};
+ghost use Rattle.std.specs.Prelude.{◌≡◌, List, [], ◌∷◌, map, IfOk, option_map, string_bytes};
+ghost use Rattle.cs_grammar.specs.Tree.{DefinitionTree, named, reference, selected};
+ghost use Rattle.cs_grammar.specs.View.{expr_view, exprs_view, field_view, fields_view, declaration_view, declarations_view, condition_view, test_view, end_view, wide_view, selector_view};
 ghost use Rattle.cs_names.specs.Checks.{TellsLifts, TellsScope, TellScopes, resolved_field_seen, resolved_seen, is_scoped_seen};
-ghost use Rattle.cs_names.specs.Lifted.{Lifts, known};
+ghost use Rattle.cs_names.specs.Lifted.{Lifts, known, is_open};
 ghost use Rattle.cs_names.specs.Named as Spec;
 ghost use Rattle.cs_names.specs.Named.{refer};
+ghost use Rattle.cs_names.specs.Nested as Nested;
 ghost use Rattle.cs_names.specs.Scopes as Scopes;
 
 use crate::lifting::Lifting;
-use crate::scopes::{Around, Scope, denoted};
-use crate::texts::{behind_hash, with_mark};
+use crate::scopes::{Around, Scope, denoted, is_field};
+use crate::texts::{behind_hash, path, with_mark};
 use cs_grammar::{
-    Condition, Declaration, Expr, Field, ListEnd, Scalar, Test, Wide, atom, copied_selectors,
+    Condition, Declaration, Expr, Field, ListEnd, Scalar, Selector, Test, Wide, atom,
+    copied_selectors,
 };
 use std::alloc::{AllocError, Global};
 
@@ -70,6 +72,16 @@ pub fn copy_conditions(
         copied.push(copy_condition(condition)?)?;
     }
     Ok(copied)
+}
+
+/// The labels behind the first one.
+fn behind_first(labels: &[Selector]) -> &[Selector]
+    ensures { map selector_view result.now ≡ Spec.behind_first (map selector_view labels.now) }
+{
+    match labels.split_first() {
+        Some((_, behind)) => behind,
+        None => labels,
+    }
 }
 
 impl<'l, 'a> Naming<'l, 'a> {
@@ -142,6 +154,70 @@ impl<'l, 'a> Naming<'l, 'a> {
         }
     }
 
+    /// Whether a body of a definition may declare nested ones that aren't told, and have alternatives.
+    pub(crate) fn is_untold(
+        &self,
+        scopes: &[Around<'_, 'a>],
+        name: &str,
+    ) -> Result<bool, AllocError>
+        ensures { (ss : List Scopes.Scope) → TellScopes scopes.now ss → IfOk result (λ b. b ≡ Scopes.is_field ss (Nested.path name.now [])) }
+    {
+        let path = path(self.alloc, name, "")?;
+        Ok(is_field(scopes, &path))
+    }
+
+    /// The nested definition that a name before labels leads to by the first of them (CUE, selectors).
+    pub(crate) fn led(
+        &self,
+        scopes: &[Around<'_, 'a>],
+        name: &str,
+        labels: &[Selector],
+    ) -> Result<Option<&'l str>, AllocError>
+        ensures { (all : List DefinitionTree) (ts : Lifts) (ss : List Scopes.Scope) → TellsLifts self.now.lifting.now all ts → TellScopes scopes.now ss
+            → IfOk result (λ r. option_map (λ n. n.now) r ≡ Spec.led (known ts) ss name.now (map selector_view labels.now)) }
+    {
+        let Some(first) = labels.first() else {
+            return Ok(None);
+        };
+        let is_untold = self.is_untold(scopes, name)?;
+        if first.quoted || self.meant(scopes, name).is_some() || is_untold {
+            return Ok(None);
+        }
+        let path = path(self.alloc, name, &first.label)?;
+        Ok(self.meant(scopes, &path))
+    }
+
+    /// What labels select from a nested definition: the definition itself where there are none.
+    fn selecting(&self, nested: &str, labels: &[Selector], at: usize) -> Result<Expr, AllocError>
+        ensures { IfOk result (λ e. expr_view e ≡ Spec.selecting nested.now at (map selector_view labels.now)) }
+    {
+        let name = String::from_str(self.alloc, nested)?;
+        if labels.is_empty() {
+            return Ok(Expr::Reference { text: name, at });
+        }
+        let labels = copied_selectors(self.alloc, labels)?;
+        Ok(Expr::Wide(Wide::Selected { at, name, labels }))
+    }
+
+    /// A selector, or the reference to the nested definition that it leads to.
+    fn selector(
+        &self,
+        scopes: &[Around<'_, 'a>],
+        name: &str,
+        labels: &[Selector],
+        at: usize,
+    ) -> Result<Expr, AllocError>
+        ensures { (all : List DefinitionTree) (ts : Lifts) (ss : List Scopes.Scope) → TellsLifts self.now.lifting.now all ts → TellScopes scopes.now ss
+            → IfOk result (λ e. expr_view e ≡ Spec.resolved_wide (known ts) (is_open ts) self.now.file ss (selected at name.now (map selector_view labels.now))) }
+    {
+        if let Some(nested) = self.led(scopes, name, labels)? {
+            return self.selecting(nested, behind_first(labels), at);
+        }
+        let name = self.base(scopes, name)?;
+        let labels = copied_selectors(self.alloc, labels)?;
+        Ok(Expr::Wide(Wide::Selected { at, name, labels }))
+    }
+
     /// The expression in these scopes, without names.
     #[cycle(resolve)]
     pub(crate) fn resolved(
@@ -150,10 +226,10 @@ impl<'l, 'a> Naming<'l, 'a> {
         expr: &'a Expr,
     ) -> Result<Expr, AllocError>
         ensures { (all : List DefinitionTree) (ts : Lifts) (ss : List Scopes.Scope) → TellsLifts self.now.lifting.now all ts → TellScopes scopes.now ss
-            → IfOk result (λ e. expr_view e ≡ Spec.resolved (known ts) self.now.file ss (expr_view expr.now)) }
+            → IfOk result (λ e. expr_view e ≡ Spec.resolved (known ts) (is_open ts) self.now.file ss (expr_view expr.now)) }
     {
         match expr {
-            Expr::And(operands) => Ok(Expr::And(self.resolved_each(scopes, operands)?)),
+            Expr::And(operands) => self.lifting.together(self.resolved_each(scopes, operands)?),
             Expr::Or(operands) => Ok(Expr::Or(self.resolved_each(scopes, operands)?)),
             Expr::Paren(inside) => {
                 let inside = self.resolved(scopes, inside)?;
@@ -170,7 +246,7 @@ impl<'l, 'a> Naming<'l, 'a> {
                 let end = self.resolved_end(scopes, end)?;
                 Ok(Expr::List { front, end })
             }
-            Expr::Wide(form) => Ok(Expr::Wide(self.resolved_wide(scopes, form)?)),
+            Expr::Wide(form) => self.resolved_wide(scopes, form),
             atom!() => expr.copy_atom(),
             Expr::Name { text, at } => self.name(scopes, text, *at),
             Expr::Reference { text, at } => self.reference(scopes, text, *at),
@@ -178,16 +254,16 @@ impl<'l, 'a> Naming<'l, 'a> {
     }
 
     #[cycle(resolve)]
-    fn resolved_wide(&self, scopes: &[Around<'_, 'a>], form: &'a Wide) -> Result<Wide, AllocError>
+    fn resolved_wide(&self, scopes: &[Around<'_, 'a>], form: &'a Wide) -> Result<Expr, AllocError>
         ensures { (all : List DefinitionTree) (ts : Lifts) (ss : List Scopes.Scope) → TellsLifts self.now.lifting.now all ts → TellScopes scopes.now ss
-            → IfOk result (λ w. wide_view w ≡ Spec.resolved_wide (known ts) self.now.file ss (wide_view form.now)) }
+            → IfOk result (λ e. expr_view e ≡ Spec.resolved_wide (known ts) (is_open ts) self.now.file ss (wide_view form.now)) }
     {
         match form {
             Wide::Marked { at, value } => {
                 let at = *at;
                 let value = self.resolved(scopes, value)?;
                 let value = Box::new(self.alloc, value)?;
-                Ok(Wide::Marked { at, value })
+                Ok(Expr::Wide(Wide::Marked { at, value }))
             }
             Wide::Merged {
                 at,
@@ -197,24 +273,19 @@ impl<'l, 'a> Naming<'l, 'a> {
                 let (at, opened) = (*at, *opened);
                 let own = Scope::of_declarations(self.alloc, self.file, declarations)?;
                 let declarations = self.resolved_declarations(&own, scopes, declarations)?;
-                Ok(Wide::Merged {
+                Ok(Expr::Wide(Wide::Merged {
                     at,
                     declarations,
                     opened,
-                })
+                }))
             }
             Wide::Shut { at, value } => {
                 let at = *at;
                 let value = self.resolved(scopes, value)?;
                 let value = Box::new(self.alloc, value)?;
-                Ok(Wide::Shut { at, value })
+                Ok(Expr::Wide(Wide::Shut { at, value }))
             }
-            Wide::Selected { at, name, labels } => {
-                let at = *at;
-                let name = self.base(scopes, name)?;
-                let labels = copied_selectors(self.alloc, labels)?;
-                Ok(Wide::Selected { at, name, labels })
-            }
+            Wide::Selected { at, name, labels } => self.selector(scopes, name, labels, *at),
         }
     }
 
@@ -225,7 +296,7 @@ impl<'l, 'a> Naming<'l, 'a> {
         exprs: &'a [Expr],
     ) -> Result<Vec<Expr>, AllocError>
         ensures { (all : List DefinitionTree) (ts : Lifts) (ss : List Scopes.Scope) → TellsLifts self.now.lifting.now all ts → TellScopes scopes.now ss
-            → IfOk result (λ v. exprs_view v.items ≡ Spec.resolved_each (known ts) self.now.file ss (exprs_view exprs.now)) }
+            → IfOk result (λ v. exprs_view v.items ≡ Spec.resolved_each (known ts) (is_open ts) self.now.file ss (exprs_view exprs.now)) }
     {
         let mut resolved = Vec::with_capacity(self.alloc, exprs.len())?;
         for expr in exprs {
@@ -244,7 +315,7 @@ impl<'l, 'a> Naming<'l, 'a> {
     ) -> Result<Vec<Field>, AllocError>
         ensures { (all : List DefinitionTree) (ts : Lifts) (scope : Scopes.Scope) (ss : List Scopes.Scope) → TellsLifts self.now.lifting.now all ts
             → TellsScope own.now scope → TellScopes outside.now ss
-            → IfOk result (λ v. fields_view v.items ≡ Spec.resolved_fields (known ts) self.now.file scope ss (fields_view fields.now)) }
+            → IfOk result (λ v. fields_view v.items ≡ Spec.resolved_fields (known ts) (is_open ts) self.now.file scope ss (fields_view fields.now)) }
     {
         let mut resolved = Vec::new(self.alloc);
         for field in fields {
@@ -264,7 +335,7 @@ impl<'l, 'a> Naming<'l, 'a> {
     ) -> Result<Field, AllocError>
         ensures { (all : List DefinitionTree) (ts : Lifts) (scope : Scopes.Scope) (ss : List Scopes.Scope) → TellsLifts self.now.lifting.now all ts
             → TellsScope own.now scope → TellScopes outside.now ss
-            → IfOk result (λ f. field_view f ≡ resolved_field_seen (known ts) self.now.file scope ss (field_view field.now)) }
+            → IfOk result (λ f. field_view f ≡ resolved_field_seen (known ts) (is_open ts) self.now.file scope ss (field_view field.now)) }
     {
         let value = self.resolved_value(own, outside, field)?;
         let label = field.label.clone()?;
@@ -289,7 +360,7 @@ impl<'l, 'a> Naming<'l, 'a> {
     ) -> Result<Expr, AllocError>
         ensures { (all : List DefinitionTree) (ts : Lifts) (scope : Scopes.Scope) (ss : List Scopes.Scope) → TellsLifts self.now.lifting.now all ts
             → TellsScope own.now scope → TellScopes outside.now ss
-            → IfOk result (λ e. expr_view e ≡ (resolved_field_seen (known ts) self.now.file scope ss (field_view field.now)).value) }
+            → IfOk result (λ e. expr_view e ≡ (resolved_field_seen (known ts) (is_open ts) self.now.file scope ss (field_view field.now)).value) }
     {
         let scopes = Around::of_value(&*own, &*field).and(self.alloc, &*outside)?;
         self.resolved(&scopes, &field.value)
@@ -305,7 +376,7 @@ impl<'l, 'a> Naming<'l, 'a> {
         ensures { (all : List DefinitionTree) (ts : Lifts) (scope : Scopes.Scope) (ss : List Scopes.Scope) → TellsLifts self.now.lifting.now all ts
             → TellsScope own.now scope → TellScopes outside.now ss
             → IfOk result (λ v. declarations_view v.items
-            ≡ Spec.resolved_declarations (known ts) self.now.file scope ss (declarations_view declarations.now)) }
+            ≡ Spec.resolved_declarations (known ts) (is_open ts) self.now.file scope ss (declarations_view declarations.now)) }
     {
         let mut resolved = Vec::new(self.alloc);
         for declaration in declarations {
@@ -325,7 +396,7 @@ impl<'l, 'a> Naming<'l, 'a> {
     ) -> Result<Declaration, AllocError>
         ensures { (all : List DefinitionTree) (ts : Lifts) (scope : Scopes.Scope) (ss : List Scopes.Scope) → TellsLifts self.now.lifting.now all ts
             → TellsScope own.now scope → TellScopes outside.now ss
-            → IfOk result (λ d. declaration_view d ≡ resolved_seen (known ts) self.now.file scope ss (declaration_view declaration.now)) }
+            → IfOk result (λ d. declaration_view d ≡ resolved_seen (known ts) (is_open ts) self.now.file scope ss (declaration_view declaration.now)) }
     {
         match declaration {
             Declaration::Field(field) => {
@@ -364,7 +435,7 @@ impl<'l, 'a> Naming<'l, 'a> {
     ) -> Result<Expr, AllocError>
         ensures { (all : List DefinitionTree) (ts : Lifts) (scope : Scopes.Scope) (ss : List Scopes.Scope) → TellsLifts self.now.lifting.now all ts
             → TellsScope own.now scope → TellScopes outside.now ss
-            → IfOk result (λ e. expr_view e ≡ Spec.resolved (known ts) self.now.file (scope ∷ ss) (expr_view expr.now)) }
+            → IfOk result (λ e. expr_view e ≡ Spec.resolved (known ts) (is_open ts) self.now.file (scope ∷ ss) (expr_view expr.now)) }
     {
         let scopes = Around::whole(&*own).and(self.alloc, &*outside)?;
         self.resolved(&scopes, expr)
@@ -377,7 +448,7 @@ impl<'l, 'a> Naming<'l, 'a> {
         end: &'a ListEnd,
     ) -> Result<ListEnd, AllocError>
         ensures { (all : List DefinitionTree) (ts : Lifts) (ss : List Scopes.Scope) → TellsLifts self.now.lifting.now all ts → TellScopes scopes.now ss
-            → IfOk result (λ e. end_view e ≡ Spec.resolved_end (known ts) self.now.file ss (end_view end.now)) }
+            → IfOk result (λ e. end_view e ≡ Spec.resolved_end (known ts) (is_open ts) self.now.file ss (end_view end.now)) }
     {
         match end {
             ListEnd::Closed => Ok(ListEnd::Closed),

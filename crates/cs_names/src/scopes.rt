@@ -3,11 +3,13 @@ ghost use Rattle.std.specs.Prelude.{◌≡◌, ◌++◌, ◌∷◌, [], List, ma
 ghost use Rattle.cs_grammar.specs.View.{field_view, fields_view, declaration_view, declarations_view, name_view, file_view};
 ghost use Rattle.cs_grammar.specs.Tree.{names};
 ghost use Rattle.cs_names.specs.Checks as Check;
-ghost use Rattle.cs_names.specs.Checks.{TellsScope, TellsAround, TellScopes, declared_seen};
-ghost use Rattle.cs_names.specs.Flaws.{is_field};
+ghost use Rattle.cs_names.specs.Checks.{TellsScope, TellsAround, TellScopes, declared_seen, path_view};
+ghost use Rattle.cs_names.specs.Lifted as Lifted;
+ghost use Rattle.cs_names.specs.Nested.{nested_from};
 ghost use Rattle.cs_names.specs.Scopes as Spec;
-ghost use Rattle.cs_names.specs.Scopes.{scope_of_fields, scope_of_declarations, declared_by, place_of, bound_scope, open_scope, shared_from, value_scope, name_scope};
+ghost use Rattle.cs_names.specs.Scopes.{is_field, scope_of_fields, scope_of_declarations, declared_by, place_of, bound_scope, open_scope, shared_from, value_scope, name_scope};
 
+use crate::nested::Path;
 use crate::texts::is_marked;
 use cs_grammar::{Declaration, Field, File, Name};
 use std::alloc::{AllocError, Global};
@@ -42,7 +44,7 @@ pub(crate) fn is_let(field: &Field) -> bool
 }
 
 /// Where a label is declared, if it is a name of its literal's scope.
-fn place_of(file: usize, field: &Field) -> Option<(usize, usize)>
+pub(crate) fn place_of(file: usize, field: &Field) -> Option<(usize, usize)>
     ensures { result ≡ place_of file (field_view field.now).label }
 {
     match field.scoped {
@@ -198,14 +200,38 @@ impl<'a> Scope<'a> {
         Ok(())
     }
 
-    /// What files share.
-    pub(crate) fn shared(alloc: Global, files: &'a [File]) -> Result<Scope<'a>, AllocError>
+    /// The names that files share.
+    fn open(alloc: Global, files: &'a [File]) -> Result<Scope<'a>, AllocError>
         ensures { IfOk result (λ t. TellsScope t (shared_from 0 (map file_view files.now))) }
     {
         let mut scope = Scope::new(alloc);
         for (file, parsed) in files.iter().enumerate() {
             scope.add_open(file, &parsed.names)?;
         }
+        Ok(scope)
+    }
+
+    /// Adds nested definitions by their paths.
+    fn add_paths(&mut self, paths: &'a [Path]) -> Result<(), AllocError>
+        ensures { OnOk result ((ds : Spec.Scope) → TellsScope self.old ds → TellsScope self.new (ds ++ map path_view paths.now)) }
+    {
+        for path in paths {
+            self.add(&path.text, path.place)?;
+        }
+        Ok(())
+    }
+
+    /// What files share, of which these are the nested definitions.
+    pub(crate) fn shared(
+        alloc: Global,
+        files: &'a [File],
+        paths: &'a [Path],
+    ) -> Result<Scope<'a>, AllocError>
+        ensures { map path_view paths.now ≡ nested_from 0 (map file_view files.now)
+            → IfOk result (λ t. TellsScope t (Lifted.shared (map file_view files.now))) }
+    {
+        let mut scope = Scope::open(alloc, files)?;
+        scope.add_paths(paths)?;
         Ok(scope)
     }
 }

@@ -1,8 +1,8 @@
 // Names as texts: how they begin, and the names of definitions that are made of them.
 ghost use Rattle.std.specs.Prelude.{◌≡◌, ◌∷◌, IfOk, string_bytes};
 ghost use Rattle.cs_names.specs.Having as Having;
-ghost use Rattle.cs_names.specs.Joined as Joined;
 ghost use Rattle.cs_names.specs.Lifted as Spec;
+ghost use Rattle.cs_names.specs.Nested as Nested;
 ghost use Rattle.cs_names.specs.Scopes as Scopes;
 
 use itoa::Buffer;
@@ -77,7 +77,7 @@ fn bare(name: &str) -> &str
 
 /// Whether a name is one of a definition: it begins with `#`, or with a `_` and that (CUE, definitions and hidden fields).
 pub(crate) fn is_definition(name: &str) -> bool
-    ensures { result ≡ Joined.is_definition name.now }
+    ensures { result ≡ Spec.is_definition name.now }
 {
     begins_hash(behind_underscore(name))
 }
@@ -103,6 +103,17 @@ pub(crate) fn inner_name(alloc: Global, outer: &str, name: &str) -> Result<Strin
     text.push_str(outer)?;
     text.push_str("_")?;
     text.push_str(bare(name))?;
+    Ok(text)
+}
+
+/// The path of a nested definition: the name of its definition, a `.` and its own, each as it is written (CUE, selectors).
+pub(crate) fn path(alloc: Global, outer: &str, name: &str) -> Result<String, AllocError>
+    ensures { IfOk result (λ s. string_bytes s ≡ Nested.path outer.now name.now) }
+{
+    let mut text = String::new(alloc);
+    text.push_str(outer)?;
+    text.push_str(".")?;
+    text.push_str(name)?;
     Ok(text)
 }
 

@@ -146,10 +146,12 @@ fn number_at(inner: &[usize], place: usize) -> usize
 fn numbers_at(alloc: Global, inner: &[usize], places: &[usize]) -> Made<Vec<usize>>
     ensures { IfOk result (λ v. v.items ≡ map (slice_index inner.now) places.now) }
 {
-    places
-        .iter()
-        .map(|place| number_at(inner, *place))
-        .collect(alloc)
+    // `collect` would ask for the room of all of them first, and go on where that is refused.
+    let mut numbers = Vec::with_capacity(alloc, places.len())?;
+    for place in places {
+        numbers.push(number_at(inner, *place))?;
+    }
+    Ok(numbers)
 }
 
 fn fields_at<'a>(alloc: Global, inner: &[usize], fields: &[Field<'a>]) -> Made<Vec<Field<'a>>>

@@ -319,6 +319,15 @@ fn cost_of(places: usize, chosen: usize) -> usize {
     (places.saturating_add(chosen) / COPIES).saturating_add(1)
 }
 
+/// The numbers of so many rules.
+fn numbers_of(alloc: Global, rules: usize) -> Made<Vec<usize>> {
+    let mut numbers = Vec::with_capacity(alloc, rules)?;
+    for number in 0..rules {
+        numbers.push(number)?;
+    }
+    Ok(numbers)
+}
+
 /// A choice of one way for each rule, such that there can be values as all places ask.
 ///
 /// # Errors
@@ -340,7 +349,7 @@ pub(crate) fn choice<'a>(
     let mut states = Vec::new(effort.alloc);
     states.push(State {
         chosen: Vec::new(effort.alloc),
-        left: (0..demands.rules.len()).collect(effort.alloc)?,
+        left: numbers_of(effort.alloc, demands.rules.len())?,
         further: Vec::new(effort.alloc),
     })?;
     for _ in 0..MOST_STEPS {

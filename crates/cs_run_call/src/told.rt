@@ -183,8 +183,10 @@ fn is_joined(alloc: Global, fault: &Fault, about: About<'_>) -> Result<bool, All
     let (Fault::NotOpened { file, offset }, Profile::Default) = (fault, about.profile) else {
         return Ok(false);
     };
-    let texts = about.sources.iter().map(|source| source.text);
-    let texts: Vec<&[u8]> = texts.collect(alloc)?;
+    let mut texts = Vec::with_capacity(alloc, about.sources.len())?;
+    for source in about.sources {
+        texts.push(source.text)?;
+    }
     match stands_for_in(alloc, Profile::Wide, &texts) {
         Err(Fault::OutOfMemory) => Err(AllocError),
         Err(

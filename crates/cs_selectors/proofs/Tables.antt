@@ -3,7 +3,6 @@ use Rattle.std.proofs.Common.{◌≡◌, Ordering, Less, Equal, Greater, ℕ, Bo
 use Rattle.std.specs.Borrow.{Bor}
 use Rattle.std.specs.BTreeMap as tree
 use Rattle.std.specs.BTreeMap.{BTreeMap}
-use Rattle.std.specs.BTreeSet as sorted
 use Rattle.std.specs.Cmp.Lexicographic.{slice_cmp, pointwise_decides}
 use Rattle.std.specs.Map.{update, lookup, IsKeyTest, AreApart as Separate, KeepsOthers}
 use Rattle.std.specs.Option.{option_map, unwrap_or}
@@ -16,6 +15,8 @@ use Rattle.std.proofs.lemmas.Map.Text.{is_eq-slice_cmp}
 use Rattle.std.proofs.lemmas.Slice.Eq.{bytes_eq-Decides}
 use Rattle.cs_grammar.specs.Tree.{DefinitionTree}
 use Rattle.cs_names.specs.Lifted.{is_defined}
+use Rattle.cs_names.specs.Taken.{TellsTaken}
+use Rattle.cs_names.proofs.Free.{told_same}
 use Rattle.cs_names.proofs.Tables.{or_nothing, or_true}
 use Rattle.cs_selectors.specs.Checks.{TellsBodies, TellsGifts, TellsNames, body_view, entry_items, given_view, name_at, path_cmp, texts_at, lack_on}
 use Rattle.cs_selectors.specs.Given as G
@@ -229,25 +230,20 @@ nothing_apart all = record { paths = λ p q s h k. cc; undefined = λ p s h. cc 
 
 -- one more is made
 pub gifts_added : (m n : Giving) (all : List DefinitionTree) (bs : List U.Body) (gs : List G.Given) (g : G.Given) → TellsGifts m all bs gs → known gs g.path ≡ None → is_taken all gs g.name ≡ false → lack_on bs g.path ≡ None
-    → n.bodies ≡ m.bodies → n.defined ≡ m.defined
-    → ((s : List ℕ) → sorted.contains_text n.names s ≡ cond (bytes_eq g.name s) true (sorted.contains_text m.names s))
+    → n.bodies ≡ m.bodies
+    → TellsTaken n.names all (λ s. is_given gs s || bytes_eq g.name s)
     → ((p : Path) → name_at n p ≡ cond (is_path g.path p) (Some g.name) (name_at m p))
     → map given_view n.order.items ≡ map given_view m.order.items ++ g ∷ []
     → TellsGifts n all bs (gs ++ g ∷ [])
-gifts_added m n all bs gs g told new free reached held same named placed grown = record {
+gifts_added m n all bs gs g told new free reached held named placed grown = record {
   bodies = subst (λ b. TellsBodies b.now bs) (sym held) told.bodies;
-  defined = λ s. rw same (told.defined s);
-  names = λ s. named s ∙ by_name s (bytes_eq g.name s) ∙ sym (given_push gs g s);
+  names = told_same n.names all (λ s. is_given gs s || bytes_eq g.name s) (is_given (gs ++ g ∷ [])) (λ s. sym (given_push gs g s)) named;
   known = λ p. placed p ∙ by_path p (is_path g.path p) refl ∙ sym (known_push gs g p);
   order = grown ∙ ap (λ us. us ++ g ∷ []) told.order;
   apart = apart_push all gs g told.apart free;
   well = λ p s h. well_by p s (known_by gs g p s h);
 }
   where
-    by_name : (s : List ℕ) (b : Bool) → cond b true (sorted.contains_text m.names s) ≡ (is_given gs s || b)
-    by_name s true = sym (or_true (is_given gs s))
-    by_name s false = told.names s ∙ sym (or_nothing (is_given gs s))
-
     held_so : (o : Option (List ℕ)) → o ≡ first_of o None
     held_so None = refl
     held_so (Some s) = refl
@@ -259,6 +255,18 @@ gifts_added m n all bs gs g told new free reached held same named placed grown =
     well_by : (p : Path) (s : List ℕ) → KnownBy gs g p s → lack_on bs p ≡ None
     well_by p s (before h) = told.well p s h
     well_by p s (there e is) = rw (← e) reached
+
+-- another table of the names that are taken tells as much
+pub named_again : (m n : Giving) (all : List DefinitionTree) (bs : List U.Body) (gs : List G.Given) → TellsGifts m all bs gs → TellsTaken n.names all (is_given gs)
+    → n.bodies ≡ m.bodies → n.known ≡ m.known → n.order ≡ m.order → TellsGifts n all bs gs
+named_again m n all bs gs told names bodies known order = record {
+  bodies = subst (λ b. TellsBodies b.now bs) (sym bodies) told.bodies;
+  names = names;
+  known = λ p. ap (λ k. option_map string_bytes (at_path p k)) known ∙ told.known p;
+  order = ap (λ v. map given_view v.items) order ∙ told.order;
+  apart = told.apart;
+  well = told.well;
+}
 
 pub name_put : (m n : Known) (k : Key) (v : String Global) → tree.Updates key_cmp m n k (Some v)
     → (p : Path) → option_map string_bytes (at_path p n) ≡ cond (is_path (texts_at k.items) p) (Some (string_bytes v)) (option_map string_bytes (at_path p m))

@@ -1,6 +1,7 @@
 -- What can be written down but for selectors can be written down without them.
 use Rattle.std.proofs.Common.{◌≡◌, ℕ, suc, Bool, true, false, ◌||◌, ◌&&◌, ◌==◌, not, cond, List, [], ◌∷◌, ◌++◌, Option, Some, None, is_some, map, refl, sym, subst}
 use Rattle.std.specs.List.{AllByRecursion, list_all, list_any, flat_map}
+use Rattle.std.proofs.lemmas.List.{append_assoc, append-nil}
 use Rattle.std.specs.Option.{unwrap_or}
 use Rattle.std.specs.Str.{bytes_eq}
 use Rattle.cs_grammar.specs.Spelling.{is_name_byte}
@@ -220,8 +221,8 @@ labels_bytes (l ∷ ls) h = (label_bytes l (first (is_left_out l) (list_any is_l
     second false b k = k
 
 wanted_good : (s : List ℕ) (ts : List (List ℕ)) → IsDefinitionName s → AllByRecursion AreNameBytes ts → IsDefinitionName (wanted s ts)
-wanted_good s [] h k = h
-wanted_good s (t ∷ ts) h k = wanted_good (s ++ 95 ∷ t) ts (longer s (95 ∷ t) h k.0) k.1
+wanted_good s [] h k = subst IsDefinitionName (sym (append-nil s)) h
+wanted_good s (t ∷ ts) h k = subst IsDefinitionName (append_assoc s (95 ∷ t) (flat_map (λ r. 95 ∷ r) ts)) (wanted_good (s ++ 95 ∷ t) ts (longer s (95 ∷ t) h k.0) k.1)
 
 -- ---- definitions that are made
 

@@ -2,7 +2,6 @@
 use Rattle.std.specs.Prelude.{◌≡◌, ℕ, Bool, ◌||◌, List, [], ◌∷◌, map, Option, Some, None, Result, Ok, Err, slice_get, string_bytes, if◌then◌else◌}
 use Rattle.std.specs.Borrow.{Bor}
 use Rattle.std.specs.BTreeMap as tree
-use Rattle.std.specs.BTreeSet as sorted
 use Rattle.std.specs.Cmp.Lexicographic.{slice_cmp}
 use Rattle.std.specs.Option.{option_map, unwrap_or}
 use Rattle.std.specs.Ordering.{nat_cmp}
@@ -15,8 +14,8 @@ use Rattle.cs_grammar.specs.View.{Seen, SeenDeclaration, field_seen, embedding_s
 use Rattle.cs_grammar.specs.declared.ast.Expr.{Expr}
 use Rattle.cs_grammar.specs.declared.ast.Field.{Field}
 use Rattle.cs_names.specs.Joined.{is_every}
-use Rattle.cs_names.specs.Lifted.{is_defined}
 use Rattle.cs_names.specs.Selecting.{referring}
+use Rattle.cs_names.specs.Taken.{TellsTaken}
 use Rattle.cs_selectors.specs.Given as G
 use Rattle.cs_selectors.specs.Given.{Path, AreApart, is_given}
 use Rattle.cs_selectors.specs.Having.{has_selector}
@@ -131,8 +130,7 @@ lack_on bs (s ∷ ss) = lack_in (values_of s bs) ss
 -- the tables have what is made, beside the definitions of all files, which have these bodies
 pub record TellsGifts (g : Giving) (all : List DefinitionTree) (bs : List U.Body) (gs : List G.Given) : Type 0 where
   pub bodies : TellsBodies g.bodies.now bs
-  pub defined : (s : List ℕ) → sorted.contains_by (λ k. slice_cmp nat_cmp s k.now) g.defined ≡ is_defined all s
-  pub names : (s : List ℕ) → sorted.contains_text g.names s ≡ is_given gs s
+  pub names : TellsTaken g.names all (is_given gs)
   pub known : (p : Path) → name_at g p ≡ G.known gs p
   pub order : map given_view g.order.items ≡ gs
   pub apart : AreApart all gs

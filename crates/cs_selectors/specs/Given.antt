@@ -2,7 +2,7 @@
 -- the files or of another selector. Selectors with one definition and equal labels have one.
 use Rattle.std.specs.Prelude.{◌≡◌, ℕ, Bool, false, ◌||◌, List, [], ◌∷◌, ◌++◌, Option, Some, None, is_some, if◌then◌else◌}
 use Rattle.std.specs.Cmp.Lexicographic.{pointwise}
-use Rattle.std.specs.List.{list_any}
+use Rattle.std.specs.List.{list_any, flat_map}
 use Rattle.std.specs.Str.{bytes_eq}
 use Rattle.cs_grammar.specs.Tree.{Tree, DefinitionTree, FileTree}
 use Rattle.cs_names.specs.Lifted.{free, is_defined, all_definitions}
@@ -33,8 +33,7 @@ known (g ∷ gs) p = if is_path g.path p then Some g.name else known gs p
 
 -- `_` (95) before each label
 abbrev pub wanted : List ℕ → List (List ℕ) → List ℕ
-wanted s [] = s
-wanted s (t ∷ ts) = wanted (s ++ 95 ∷ t) ts
+wanted s ts = s ++ flat_map (λ t. 95 ∷ t) ts
 
 abbrev pub is_given : List Given → List ℕ → Bool
 is_given gs s = list_any (λ g. bytes_eq g.name s) gs

@@ -17,9 +17,9 @@ use crate::lack::{Lack, Stop};
 use crate::reached::{reached, some_left_out};
 use crate::uses::Use;
 use cs_grammar::{Expr, File, Selector};
-use cs_names::{defined_in, free_name};
+use cs_names::TakenNames;
 use std::alloc::{AllocError, Global};
-use std::collections::{BTreeMap, BTreeSet};
+use std::collections::BTreeMap;
 
 /// A definition that is made.
 #[derive(Drop)]
@@ -38,11 +38,9 @@ pub(crate) struct Given<'a> {
 pub(crate) struct Giving<'b, 'a> {
     pub(crate) alloc: Global,
     bodies: &'b Bodies<'a>,
-    /// The names of the definitions of the files.
-    defined: BTreeSet<&'a str>,
-    /// The names of those that are made.
-    names: BTreeSet<String>,
-    /// The same by the definition before the labels, and these.
+    /// The names of the definitions of the files, and of those that are made.
+    names: TakenNames<'a>,
+    /// The latter by the definition before the labels, and these.
     known: BTreeMap<Vec<&'a str>, String>,
     /// All of them, in order.
     pub(crate) order: Vec<Given<'a>>,
@@ -101,8 +99,7 @@ impl<'b, 'a> Giving<'b, 'a> {
         Ok(Giving {
             alloc,
             bodies,
-            defined: defined_in(alloc, files)?,
-            names: BTreeSet::new(alloc),
+            names: TakenNames::of(alloc, files)?,
             known: BTreeMap::new(alloc),
             order: Vec::new(alloc),
         })
@@ -131,7 +128,7 @@ impl<'b, 'a> Giving<'b, 'a> {
             → TellsGifts self.new all bs
             (gs ++ record { path = texts_at path.entry.items; name = string_bytes name; home = home; values = map tree_at values.entry.items } ∷ [])) }
     {
-        self.names.insert(name.clone()?)?;
+        self.names.give(name.clone()?)?;
         self.known.insert(path.clone()?, name.clone()?)?;
         self.order.push(Given {
             path,
@@ -155,7 +152,7 @@ impl<'b, 'a> Giving<'b, 'a> {
             → TellsGifts self.new all bs (gs ++ Spec.given all bs gs (use_view selector.now) ∷ [])) }
     {
         let wanted = wanted(self.alloc, selector.head, selector.labels)?;
-        let name = free_name(self.alloc, &self.defined, &self.names, wanted)?;
+        let name = self.names.free(wanted)?;
         self.add(path, name, selector.place, values)
     }
 

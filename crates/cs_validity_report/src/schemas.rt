@@ -112,8 +112,10 @@ impl<'t> Schemas<'t> {
     /// That a key isn't allowed.
     fn extra(&mut self, keywords: &Keywords, item: usize, key: &str) -> Made<Finding<'t>> {
         let most = MOST_NAMES.min(self.comparisons);
-        let names = keywords.properties.keys().take(most);
-        let names: Vec<&str> = names.map(|name| name.as_str()).collect(self.alloc)?;
+        let mut names = Vec::new(self.alloc);
+        for name in keywords.properties.keys().take(most) {
+            names.push(name.as_str())?;
+        }
         self.comparisons = self.comparisons.saturating_sub(names.len());
         Finding::extra(self.alloc, item_at(self.flat, item), key, &names)
     }

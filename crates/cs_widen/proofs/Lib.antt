@@ -1,6 +1,7 @@
 -- What is meant can be printed and is read again (`Printed`), and has the nodes that are counted without embeddings (`Sizes`), what is accepted in
--- the default profile stands for itself (`DefaultRule`, `DefaultFiles`, `Default`), sources declare one environment in a profile (`Once`), which refusal is which (`Refusals`), what is printed declares the same environment
--- (`printed_package` in `UnplacedPackages`, `Judged`), and so what a call answers of it is the answer in the profile (`Judgements`).
+-- the default profile stands for itself (`DefaultRule`, `DefaultFiles`, `Default`), sources declare one environment in a profile (`Once`), which refusal is
+-- which (`Refusals`), what is printed declares the same environment (`printed_package` in `UnplacedPackages`, `Judged`), and so what a call answers of it is
+-- the answer in the profile (`Judgements`).
 mod Printed
 mod Sizes
 mod Once

@@ -1,5 +1,5 @@
 -- Which refusal of each stage is which refusal of the sources.
-use Rattle.std.proofs.Common.{ℕ, List, Result, Ok, Err, IfErr, inl, inr, refl}
+use Rattle.std.proofs.Common.{IfOk, ℕ, List, Result, Ok, Err, IfErr, inl, inr, refl}
 use Rattle.cs_grammar.specs.Tree.{FileTree}
 use Rattle.cs_grammar.specs.declared.profile.Profile.{Profile}
 use Rattle.cs_grammar.specs.declared.profile.Profile.TheVariants as profiles
@@ -38,6 +38,10 @@ use Rattle.cs_tool.specs.declared.fault.Fault.{Fault}
 use Rattle.cs_tool.specs.declared.fault.Fault.TheVariants.{SourcesTooLong, NotUtf8, NoToken, Syntax, LeftOut, IntegerRange, TooHigh, OutOfMemory}
 use Rattle.cs_widen.specs.Refused.{of_name, of_selector, of_condition, of_embedding, of_mark, IsNameRefusal, IsSelectorRefusal, IsConditionRefusal, IsEmbeddingRefusal, IsMarkRefusal, IsNoPackageIn, IsUnguardedIn, RefusalIn}
 use Rattle.cs_widen.specs.Stands.{AreMeantBy}
+
+pub accepted_as : {X : Type 0} (r : Result X Fault) (P Q : X → Type 0) → ((x : X) → P x → Q x) → IfOk r P → IfOk r Q
+accepted_as (Ok x) P Q f h = f x h
+accepted_as (Err e) P Q f h = h
 
 pub refused_as : {X : Type 0} (r : Result X Fault) (P Q : Fault → Type 0) → ((e : Fault) → P e → Q e) → IfErr r P → IfErr r Q
 refused_as (Ok x) P Q f h = h

@@ -37,8 +37,8 @@ use Rattle.cs_tool.specs.declared.fault.Fault.TheVariants.{SourcesTooLong, NotUt
 use Rattle.cs_widen.specs.Meant.{IsMeantIn}
 use Rattle.cs_widen.specs.Stands.{AreMeantIn}
 
--- a selector from what nothing declares is a form that is left out; a name that nothing declares is unknown, and so is one that is bound and not named; what a name stands
--- for names no field around it; and a name that two literals declare isn't opened where files join literals
+-- a selector from what nothing declares is a form that is left out; a name that nothing declares is unknown, and so is one that is bound and not named; what
+-- a name stands for names no field around it; and a name that two literals declare isn't opened where files join literals
 abbrev pub of_name : NameFault → Fault
 of_name scopes.OutOfMemory = OutOfMemory
 of_name (scopes.LeftOut file offset) = LeftOut file offset
@@ -46,8 +46,8 @@ of_name (scopes.UnknownName file offset) = UnknownName file offset
 of_name (scopes.NamesField file offset) = FieldReference file offset
 of_name (scopes.Redeclared file offset) = NotOpened file offset
 
--- a selector that looks into what doesn't tell its fields is a form that is left out, one whose label nothing declares is unknown, and one whose label no regular field
--- declares is one of a field that may be absent
+-- a selector that looks into what doesn't tell its fields is a form that is left out, one whose label nothing declares is unknown, and one whose label no
+-- regular field declares is one of a field that may be absent
 abbrev pub of_selector : SelectorFault → Fault
 of_selector selections.OutOfMemory = OutOfMemory
 of_selector (selections.LeftOut file offset) = LeftOut file offset

@@ -1,6 +1,6 @@
 -- Which files files of a profile stand for. Those of the default profile stand for themselves. Those of the wide one have no names but definitions
--- first, then no selectors, then no conditions, then no embeddings, and no operands of `&` or declarations of one label that are put together, and then no marks of
--- defaults; what the default profile accepts stands for itself there too.
+-- first, then no selectors, then no conditions, then no embeddings, and no operands of `&` or declarations of one label that are put together, and then no
+-- marks of defaults; what the default profile accepts stands for itself there too.
 use Rattle.std.specs.Prelude.{◌≡◌, ℕ, ◌≤◌, List}
 use Rattle.std.specs.List.{flat_map}
 use Rattle.cs_grammar.specs.Height.{height_definitions}

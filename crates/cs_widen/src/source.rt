@@ -55,8 +55,8 @@ pub fn widen(alloc: Global, sources: &[&[u8]]) -> Result<String, Fault>
 ///
 /// # Errors
 /// The first condition that the sources fail, as the clause `refused` says: their size and characters, then those that spell no file in
-/// the profile, the first name of a scope at fault, the first selector at fault, the first condition of an `if` at fault, what is embedded and can't be, the first mark of a
-/// default at fault, and then why what they stand for is no package, or isn't guarded. `OutOfMemory`.
+/// the profile, the first name of a scope at fault, the first selector at fault, the first condition of an `if` at fault, what is embedded and can't be, the
+/// first mark of a default at fault, and then why what they stand for is no package, or isn't guarded. `OutOfMemory`.
 pub fn widen_in(alloc: Global, profile: Profile, sources: &[&[u8]]) -> Result<String, Fault>
     ensures found { IfOk result (λ s. IsMeantIn profile (bytes_in sources.now) (string_bytes s)) }
     ensures refused { IfErr result (λ e. RefusalIn profile (bytes_in sources.now) e) }

@@ -1,7 +1,7 @@
 use Rattle.std.proofs.Common.{◌≡◌, true, [], ◌++◌, map, ap, ◌∙◌, subst}
 use Rattle.std.proofs.lemmas.Result.{err_from_is_err_and}
 use Rattle.cs_grammar.specs.View.{file_view}
-use Rattle.cs_names.specs.Checks.{FailsAny}
+use Rattle.cs_names.specs.Checks.{FailsAny, path_view}
 use Rattle.cs_names.specs.Flaws.{flaws_in}
 use Rattle.cs_names.specs.Joined.{unused, joined, references_in}
 use Rattle.cs_names.specs.Lifted.{all_definitions, lifts, shared}
@@ -18,7 +18,8 @@ returns-in_err-check_files-clause-refused c =
     let ts = lifts fs in
     let e = c.in_err-check_files.field-0.0 in
     let p = err_from_is_err_and c.from_residual-in_err-check_files.result c.from_residual-in_err-check_files.ensures.1 in
-    let here = c.in_err-check_files.ensures (all_definitions fs) ts (shared fs) (c.in_ok-lifting.ensures c.in_ok-shared.ensures) c.in_ok-shared.ensures in
+    let told = c.in_ok-shared.ensures (ap (map path_view) c.deref.ensures.value ∙ c.in_ok-paths.ensures) in
+    let here = c.in_err-check_files.ensures (all_definitions fs) ts (shared fs) (c.in_ok-lifting.ensures told) told in
     rw (p.1, p.2) (refusal e fs (fails_left e (flaws_in fs) (unused (references_in true gs) ts ++ joined gs ts) here))
 
 pub returns-in_err-check_files-clause-only : goal.returns-in_err-check_files-clause-only
@@ -28,7 +29,8 @@ returns-in_err-check_files-clause-only c none =
     let ts = lifts fs in
     let e = c.in_err-check_files.field-0.0 in
     let p = err_from_is_err_and c.from_residual-in_err-check_files.result c.from_residual-in_err-check_files.ensures.1 in
-    let here = c.in_err-check_files.ensures (all_definitions fs) ts (shared fs) (c.in_ok-lifting.ensures c.in_ok-shared.ensures) c.in_ok-shared.ensures in
+    let told = c.in_ok-shared.ensures (ap (map path_view) c.deref.ensures.value ∙ c.in_ok-paths.ensures) in
+    let here = c.in_err-check_files.ensures (all_definitions fs) ts (shared fs) (c.in_ok-lifting.ensures told) told in
     rw (p.1, p.2) (no_fault e (name_faults fs) none (fails_left e (flaws_in fs) (unused (references_in true gs) ts ++ joined gs ts) here))
 
 pub returns-in_err-check_named-clause-refused : goal.returns-in_err-check_named-clause-refused
@@ -39,9 +41,9 @@ returns-in_err-check_named-clause-refused c =
     let ts = lifts fs in
     let e = c.in_err-check_named.field-0.0 in
     let p = err_from_is_err_and c.from_residual-in_err-check_named.result c.from_residual-in_err-check_named.ensures.1 in
-    let told = c.in_ok-shared.ensures in
+    let told = c.in_ok-shared.ensures (ap (map path_view) c.deref.ensures.value ∙ c.in_ok-paths.ensures) in
     let tells = c.in_ok-lifting.ensures told in
-    let is : map file_view c.deref.result.now ≡ gs = ap (map file_view) c.deref.ensures.value ∙ c.in_ok-named.ensures all ts (shared fs) tells told in
+    let is : map file_view c.deref-2.result.now ≡ gs = ap (map file_view) c.deref-2.ensures.value ∙ c.in_ok-named.ensures all ts (shared fs) tells told in
     let here = subst (λ xs. FailsAny e (unused (references_in true xs) ts ++ joined xs ts)) is (c.in_err-check_named.ensures all ts tells) in
     rw (p.1, p.2) (refusal e fs (fails_right e (flaws_in fs) (unused (references_in true gs) ts ++ joined gs ts) (c.in_ok-check_files.ensures all ts (shared fs) tells told) here))
 
@@ -51,10 +53,10 @@ returns-clause-found c =
     let gs = named_files fs in
     let all = all_definitions fs in
     let ts = lifts fs in
-    let told = c.in_ok-shared.ensures in
+    let told = c.in_ok-shared.ensures (ap (map path_view) c.deref.ensures.value ∙ c.in_ok-paths.ensures) in
     let tells = c.in_ok-lifting.ensures told in
     let named = c.in_ok-named.ensures all ts (shared fs) tells told in
-    let is : map file_view c.deref.result.now ≡ gs = ap (map file_view) c.deref.ensures.value ∙ named in
+    let is : map file_view c.deref-2.result.now ≡ gs = ap (map file_view) c.deref-2.ensures.value ∙ named in
     let rest = subst (λ xs. unused (references_in true xs) ts ++ joined xs ts ≡ []) is (c.in_ok-check_named.ensures all ts tells) in record {
       faultless = none_left (flaws_in fs) (unused (references_in true gs) ts ++ joined gs ts) (c.in_ok-check_files.ensures all ts (shared fs) tells told) ∙ rest;
       apart = tells.apart;

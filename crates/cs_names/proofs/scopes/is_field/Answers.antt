@@ -1,6 +1,5 @@
 use Rattle.std.proofs.Common.{◌≡◌, Bool, true, false, not, None, Some, drop, ◌+◌, sym, ap, ◌∙◌}
-use Rattle.cs_names.specs.Flaws.{is_field, or_field}
-use Rattle.cs_names.specs.Scopes.{entry}
+use Rattle.cs_names.specs.Scopes.{entry, is_field, or_field}
 use Rattle.cs_names.proofs.Tables.{scopes_at, scopes_end}
 use Rattle.cs_names.proofs.scopes.is_field.Goals as goal
 

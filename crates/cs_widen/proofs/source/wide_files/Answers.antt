@@ -3,11 +3,12 @@ use Rattle.std.proofs.lemmas.Result.{err_from_is_err_and}
 use Rattle.cs_grammar.specs.View.{file_view}
 use Rattle.cs_grammar.specs.declared.profile.Profile.TheVariants as profiles
 use Rattle.cs_conditions.specs.Conditions.{AreChosen}
-use Rattle.cs_embeddings.specs.Without.{IsJoined}
+use Rattle.cs_embeddings.specs.Without.{IsJoined, IsWithin}
 use Rattle.cs_tool.specs.Given.{bytes_in}
 use Rattle.cs_widen.proofs.Once.{no_name_fault, few_selectors, no_selector_fault, no_condition_fault, no_flaw, no_clash, within, no_fault}
 use Rattle.cs_widen.specs.Refused.{RefusalIn}
-use Rattle.cs_widen.proofs.Refusals.{by_mark, refused_as}
+use Rattle.cs_widen.specs.Stands.{AreMeantBy}
+use Rattle.cs_widen.proofs.Refusals.{by_mark, accepted_as, refused_as}
 use Rattle.cs_widen.proofs.source.wide_files.Goals as goal
 
 pub returns-in_err-named-clause-only : goal.returns-in_err-named-clause-only
@@ -53,6 +54,31 @@ returns-in_err-joined-clause-only c = λ E accepted.
     let flawless = no_flaw ss fs spelled E accepted ns named us unselected cs chosen in
     let apart = no_clash ss fs spelled E accepted ns named us unselected cs chosen in
     rw (r.1, r.2) (c.in_err-joined.ensures.only flawless apart (within ss fs spelled E accepted ns named us unselected cs chosen))
+
+pub returns-clause-found : goal.returns-clause-found
+returns-clause-found c =
+    let ss = bytes_in c.args.sources.now in
+    let cs = map file_view c.deref.result.now in
+    let chosen = subst (λ zs. AreChosen (map file_view c.in_ok-unselected.unselected.items) (map file_view zs)) (sym c.deref.ensures.value) c.in_ok-chosen.ensures.found in
+    let joined = subst (λ zs. IsJoined cs (map file_view zs)) (sym c.deref-2.ensures.value) c.in_ok-joined.ensures.found in
+    let within_limits = subst (λ zs. IsWithin (map file_view zs)) (sym c.deref-2.ensures.value) c.in_ok-joined.ensures.within in
+    accepted_as c.meant_files.result _ (λ v. AreMeantBy profiles.Wide ss (map file_view v.items)) (λ v h. record {
+      texts = c.in_ok-spelled.ensures.texts;
+      files = map file_view c.in_ok-spelled.spelled.items;
+      spelled = c.in_ok-spelled.ensures.spelled;
+      stand_for = record {
+        named = map file_view c.in_ok-named.named.items;
+        are_named = c.in_ok-named.ensures.found;
+        unselected = map file_view c.in_ok-unselected.unselected.items;
+        are_unselected = c.in_ok-unselected.ensures.found;
+        chosen = cs;
+        are_chosen = chosen;
+        joined = map file_view c.deref-2.result.now;
+        are_joined = joined;
+        low = within_limits.low;
+        unmarked = h;
+      };
+    }) c.meant_files.ensures.found
 
 pub returns-clause-refused : goal.returns-clause-refused
 returns-clause-refused c =

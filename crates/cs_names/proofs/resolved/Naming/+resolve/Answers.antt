@@ -1,11 +1,11 @@
 use Rattle.std.proofs.Common.{rules, ◌≡◌, true, false, [], ◌∷◌, ◌++◌, map, take, refl, sym, ap, ap₂, ◌∙◌, subst, IfOk}
 use Rattle.std.proofs.lemmas.List.{take_all, append-nil, map-append}
 use Rattle.std.specs.List.{flat_map}
-use Rattle.cs_grammar.proofs.Views.{view-Name, view-Reference, view-Struct, view-List, view-Merged, view-value}
+use Rattle.cs_grammar.proofs.Views.{view-Name, view-Reference, view-Struct, view-List, view-Wide, view-Merged, view-Selected, view-value}
 use Rattle.cs_grammar.specs.Tree as T
-use Rattle.cs_grammar.specs.View.{expr_view, exprs_view, trees_of, field_view, fields_view, fields_of, declaration_view, declarations_view, declarations_of, wide_view}
+use Rattle.cs_grammar.specs.View.{expr_view, exprs_view, trees_of, field_view, fields_view, fields_of, declaration_view, declarations_view, declarations_of, wide_view, selector_view}
 use Rattle.cs_names.specs.Checks.{TellsScope}
-use Rattle.cs_names.specs.Lifted.{known}
+use Rattle.cs_names.specs.Lifted.{known, is_open}
 use Rattle.cs_names.specs.Named as Spec
 use Rattle.cs_names.specs.Scopes.{scope_of_fields, scope_of_declarations, value_scope}
 use Rattle.cs_names.proofs.Folds.{gathered_more}
@@ -19,48 +19,48 @@ use Rattle.cs_names.proofs.resolved.Naming.+resolve.Goals.{resolved_declarations
 
 pub resolved_each-loop-expr-preserved : goal.resolved_each-loop-expr-preserved
 resolved_each-loop-expr-preserved t c all ts ss tells told =
-    map_pushed (λ e. Spec.resolved (known ts) c.args.self.now.file ss (expr_view e)) expr_view c.args.exprs.now c.loop-expr.expr-index c.expr-item.result c.loop-expr-test.true c.expr-item.is
+    map_pushed (λ e. Spec.resolved (known ts) (is_open ts) c.args.self.now.file ss (expr_view e)) expr_view c.args.exprs.now c.loop-expr.expr-index c.expr-item.result c.loop-expr-test.true c.expr-item.is
     _ _ _ c.in_ok-push.ensures.items (c.loop-expr.invariant all ts ss tells told) (c.in_ok-resolved-2.ensures all ts ss tells told)
 
 pub resolved_each-returns : goal.resolved_each-returns
 resolved_each-returns t c all ts ss tells told =
     ap trees_of (c.loop-expr.invariant all ts ss tells told)
-    ∙ ap (λ es. trees_of (map (λ e. Spec.resolved (known ts) c.args.self.now.file ss (expr_view e)) es)) (take_all c.loop-expr.expr-index c.args.exprs.now c.loop-expr-test.false)
-    ∙ resolved_trees (known ts) c.args.self.now.file ss c.args.exprs.now
+    ∙ ap (λ es. trees_of (map (λ e. Spec.resolved (known ts) (is_open ts) c.args.self.now.file ss (expr_view e)) es)) (take_all c.loop-expr.expr-index c.args.exprs.now c.loop-expr-test.false)
+    ∙ resolved_trees (known ts) (is_open ts) c.args.self.now.file ss c.args.exprs.now
 
 pub resolved_fields-returns : goal.resolved_fields-returns
 resolved_fields-returns t c all ts scope ss tells own told =
     ap fields_of (c.loop-field.invariant all ts scope ss tells own told)
-    ∙ ap (λ fs. fields_of (flat_map (kept_field (known ts) c.args.self.now.file scope ss) fs)) (take_all c.loop-field.field-index c.args.fields.now c.loop-field-test.false)
-    ∙ kept_fields (known ts) c.args.self.now.file scope ss c.args.fields.now
+    ∙ ap (λ fs. fields_of (flat_map (kept_field (known ts) (is_open ts) c.args.self.now.file scope ss) fs)) (take_all c.loop-field.field-index c.args.fields.now c.loop-field-test.false)
+    ∙ kept_fields (known ts) (is_open ts) c.args.self.now.file scope ss c.args.fields.now
 
 pub resolved_declarations-loop-declaration-preserved : goal.resolved_declarations-loop-declaration-preserved
 resolved_declarations-loop-declaration-preserved t c all ts scope ss tells own told =
-    let by = known ts in
+    let by = known ts in let opens = is_open ts in
     let i = c.args.self.now.file in
     let xs = c.args.declarations.now in
     let k = c.loop-declaration.declaration-index in
     let x = c.declaration-item.result in
-    let done = flat_map (λ d. kept_seen by i scope ss (declaration_view d)) (take k xs) in
-    let more = gathered_more (λ ys. flat_map (λ d. kept_seen by i scope ss (declaration_view d)) ys) (λ d. kept_seen by i scope ss (declaration_view d)) refl (λ d ds. refl) xs k x c.loop-declaration-test.true c.declaration-item.is in
+    let done = flat_map (λ d. kept_seen by opens i scope ss (declaration_view d)) (take k xs) in
+    let more = gathered_more (λ ys. flat_map (λ d. kept_seen by opens i scope ss (declaration_view d)) ys) (λ d. kept_seen by opens i scope ss (declaration_view d)) refl (λ d ds. refl) xs k x c.loop-declaration-test.true c.declaration-item.is in
     let before = c.loop-declaration.invariant all ts scope ss tells own told in
     elim c.if-not-is_scoped.branch [
       | resolved_declarations-then-not-is_scoped+in_ok-resolved_declaration+in_ok-push w ↦
           let no : c.is_scoped.result ≡ false = search (rules, w.if-not-is_scoped.true) in
           ap (λ v. map declaration_view v.items) w.resolved-is ∙ ap (map declaration_view) w.in_ok-push.ensures.items ∙ map-append declaration_view c.loop-declaration.resolved.items _
           ∙ ap₂ (λ ds d. ds ++ d ∷ []) before (w.in_ok-resolved_declaration.ensures all ts scope ss tells own told)
-          ∙ ap (λ ds. done ++ ds) (sym (kept by i scope ss (declaration_view x) (sym c.is_scoped.ensures ∙ no))) ∙ sym more
+          ∙ ap (λ ds. done ++ ds) (sym (kept by opens i scope ss (declaration_view x) (sym c.is_scoped.ensures ∙ no))) ∙ sym more
       | resolved_declarations-else-not-is_scoped w ↦
           let yes : c.is_scoped.result ≡ true = search (rules, w.if-not-is_scoped.false) in
           ap (λ v. map declaration_view v.items) w.resolved-is ∙ before ∙ sym (append-nil done)
-          ∙ ap (λ ds. done ++ ds) (sym (lost by i scope ss (declaration_view x) (sym c.is_scoped.ensures ∙ yes))) ∙ sym more
+          ∙ ap (λ ds. done ++ ds) (sym (lost by opens i scope ss (declaration_view x) (sym c.is_scoped.ensures ∙ yes))) ∙ sym more
     ]
 
 pub resolved_declarations-returns : goal.resolved_declarations-returns
 resolved_declarations-returns t c all ts scope ss tells own told =
     ap declarations_of (c.loop-declaration.invariant all ts scope ss tells own told)
-    ∙ ap (λ ds. declarations_of (flat_map (λ d. kept_seen (known ts) c.args.self.now.file scope ss (declaration_view d)) ds)) (take_all c.loop-declaration.declaration-index c.args.declarations.now c.loop-declaration-test.false)
-    ∙ kept_declarations (known ts) c.args.self.now.file scope ss c.args.declarations.now
+    ∙ ap (λ ds. declarations_of (flat_map (λ d. kept_seen (known ts) (is_open ts) c.args.self.now.file scope ss (declaration_view d)) ds)) (take_all c.loop-declaration.declaration-index c.args.declarations.now c.loop-declaration-test.false)
+    ∙ kept_declarations (known ts) (is_open ts) c.args.self.now.file scope ss c.args.declarations.now
 
 -- ---- values
 
@@ -69,7 +69,7 @@ resolved_value-returns t c all ts scope ss tells own told =
     let f = c.args.field.now in
     let here = value_scope (field_view f).label scope in
     let around = inside_of c.of_value.result here c.args.outside.now c.deref.result.now ss (c.deref.ensures.value ∙ c.in_ok-scopes.ensures) (c.of_value.ensures scope own) told in
-    subst (λ x. IfOk c.resolved.result (λ e. expr_view e ≡ Spec.resolved (known ts) c.args.self.now.file (here ∷ ss) x)) (sym (view-value f)) (c.resolved.ensures all ts (here ∷ ss) tells around)
+    subst (λ x. IfOk c.resolved.result (λ e. expr_view e ≡ Spec.resolved (known ts) (is_open ts) c.args.self.now.file (here ∷ ss) x)) (sym (view-value f)) (c.resolved.ensures all ts (here ∷ ss) tells around)
 
 pub resolved_inside-returns : goal.resolved_inside-returns
 resolved_inside-returns t c all ts scope ss tells own told =
@@ -80,41 +80,53 @@ resolved_inside-returns t c all ts scope ss tells own told =
 
 pub resolved-returns-in_ok-fields-in-Struct : goal.resolved-returns-in_ok-fields-in-Struct
 resolved-returns-in_ok-fields-in-Struct t c all ts ss tells told =
-    let by = known ts in
+    let by = known ts in let opens = is_open ts in
     let i = c.args.self.now.file in
     let o = c.in-Struct.at in
     let b = c.in-Struct.opened in
     let scope = scope_of_fields i (fields_view c.in-Struct.fields.items) in
     let is = ap expr_view c.in-Struct.is ∙ view-Struct o c.in-Struct.fields b in
     let own = subst (λ fs. TellsScope c.in_ok-own-in-Struct.own (scope_of_fields i (fields_view fs))) c.deref-in-Struct.ensures.value c.in_ok-own-in-Struct.ensures in
-    let same = c.in_ok-fields-in-Struct.ensures all ts scope ss tells own told ∙ ap (λ fs. Spec.resolved_fields by i scope ss (fields_view fs)) c.deref-in-Struct-2.ensures.value in
-    view-Struct o c.in_ok-fields-in-Struct.fields b ∙ ap (λ fs. T.struct o fs b) same ∙ sym (ap (Spec.resolved by i ss) is)
+    let same = c.in_ok-fields-in-Struct.ensures all ts scope ss tells own told ∙ ap (λ fs. Spec.resolved_fields by opens i scope ss (fields_view fs)) c.deref-in-Struct-2.ensures.value in
+    view-Struct o c.in_ok-fields-in-Struct.fields b ∙ ap (λ fs. T.struct o fs b) same ∙ sym (ap (Spec.resolved by opens i ss) is)
 
 pub resolved-returns-in_ok-end-in-List : goal.resolved-returns-in_ok-end-in-List
 resolved-returns-in_ok-end-in-List t c all ts ss tells told =
-    let by = known ts in let i = c.args.self.now.file in
+    let by = known ts in let opens = is_open ts in let i = c.args.self.now.file in
     let is = ap expr_view c.in-List.is ∙ view-List c.in-List.front c.in-List.end in
-    let front = c.in_ok-front-in-List.ensures all ts ss tells told ∙ ap (λ es. Spec.resolved_each by i ss (exprs_view es)) c.deref-in-List.ensures.value in
-    view-List c.in_ok-front-in-List.front c.in_ok-end-in-List.end ∙ ap₂ T.list front (c.in_ok-end-in-List.ensures all ts ss tells told) ∙ sym (ap (Spec.resolved by i ss) is)
+    let front = c.in_ok-front-in-List.ensures all ts ss tells told ∙ ap (λ es. Spec.resolved_each by opens i ss (exprs_view es)) c.deref-in-List.ensures.value in
+    view-List c.in_ok-front-in-List.front c.in_ok-end-in-List.end ∙ ap₂ T.list front (c.in_ok-end-in-List.ensures all ts ss tells told) ∙ sym (ap (Spec.resolved by opens i ss) is)
 
 pub resolved-returns-in-Name : goal.resolved-returns-in-Name
 resolved-returns-in-Name t c all ts ss tells told =
     let is = ap expr_view c.in-Name.is ∙ view-Name c.in-Name.text c.in-Name.at in
-    subst (λ e. IfOk c.name.result (λ r. expr_view r ≡ Spec.resolved (known ts) c.args.self.now.file ss e)) (sym is) (c.name.ensures all ts ss tells told)
+    subst (λ e. IfOk c.name.result (λ r. expr_view r ≡ Spec.resolved (known ts) (is_open ts) c.args.self.now.file ss e)) (sym is) (c.name.ensures all ts ss tells told)
 
 pub resolved-returns-in-Reference : goal.resolved-returns-in-Reference
 resolved-returns-in-Reference t c all ts ss tells told =
     let is = ap expr_view c.in-Reference.is ∙ view-Reference c.in-Reference.text c.in-Reference.at in
-    subst (λ e. IfOk c.reference.result (λ r. expr_view r ≡ Spec.resolved (known ts) c.args.self.now.file ss e)) (sym is) (c.reference.ensures all ts ss tells told)
+    subst (λ e. IfOk c.reference.result (λ r. expr_view r ≡ Spec.resolved (known ts) (is_open ts) c.args.self.now.file ss e)) (sym is) (c.reference.ensures all ts ss tells told)
+
+pub resolved-returns-in-Wide : goal.resolved-returns-in-Wide
+resolved-returns-in-Wide t c all ts ss tells told =
+    let is = ap expr_view c.in-Wide.is ∙ view-Wide c.in-Wide.form in
+    subst (λ e. IfOk c.resolved_wide.result (λ r. expr_view r ≡ Spec.resolved (known ts) (is_open ts) c.args.self.now.file ss e)) (sym is) (c.resolved_wide.ensures all ts ss tells told)
+
+pub resolved_wide-returns-in-Selected : goal.resolved_wide-returns-in-Selected
+resolved_wide-returns-in-Selected t c all ts ss tells told =
+    let o = c.in-Selected.at in
+    let is = ap wide_view c.in-Selected.is ∙ view-Selected o c.in-Selected.name c.in-Selected.labels in
+    let same = ap₂ (λ s ls. T.selected o s (map selector_view ls)) c.deref-in-Selected.ensures c.deref-in-Selected-2.ensures.value ∙ sym is in
+    subst (λ w. IfOk c.selector.result (λ r. expr_view r ≡ Spec.resolved_wide (known ts) (is_open ts) c.args.self.now.file ss w)) same (c.selector.ensures all ts ss tells told)
 
 pub resolved_wide-returns-in_ok-declarations-in-Merged : goal.resolved_wide-returns-in_ok-declarations-in-Merged
 resolved_wide-returns-in_ok-declarations-in-Merged t c all ts ss tells told =
-    let by = known ts in
+    let by = known ts in let opens = is_open ts in
     let i = c.args.self.now.file in
     let o = c.in-Merged.at in
     let b = c.in-Merged.opened in
     let scope = scope_of_declarations i (declarations_view c.in-Merged.declarations.items) in
     let is = ap wide_view c.in-Merged.is ∙ view-Merged o c.in-Merged.declarations b in
     let own = subst (λ ds. TellsScope c.in_ok-own-in-Merged.own (scope_of_declarations i (declarations_view ds))) c.deref-in-Merged.ensures.value c.in_ok-own-in-Merged.ensures in
-    let same = c.in_ok-declarations-in-Merged.ensures all ts scope ss tells own told ∙ ap (λ ds. Spec.resolved_declarations by i scope ss (declarations_view ds)) c.deref-in-Merged-2.ensures.value in
-    view-Merged o c.in_ok-declarations-in-Merged.declarations b ∙ ap (λ ds. T.merged o ds b) same ∙ sym (ap (Spec.resolved_wide by i ss) is)
+    let same = c.in_ok-declarations-in-Merged.ensures all ts scope ss tells own told ∙ ap (λ ds. Spec.resolved_declarations by opens i scope ss (declarations_view ds)) c.deref-in-Merged-2.ensures.value in
+    view-Wide _ ∙ ap T.wide (view-Merged o c.in_ok-declarations-in-Merged.declarations b ∙ ap (λ ds. T.merged o ds b) same) ∙ sym (ap (Spec.resolved_wide by opens i ss) is)

@@ -5,7 +5,7 @@ use Rattle.cs_names.proofs.Folds.{numbered_more}
 use Rattle.cs_names.specs.Checks.{TellsScope}
 use Rattle.cs_names.specs.Scopes.{open_scope, shared_from}
 use Rattle.cs_grammar.specs.Tree.{names}
-use Rattle.cs_names.proofs.scopes.Scope.shared.Goals as goal
+use Rattle.cs_names.proofs.scopes.Scope.open.Goals as goal
 
 pub loop-file-preserved : goal.loop-file-preserved
 loop-file-preserved c =
