@@ -971,8 +971,8 @@ try 'wide: 900 selectors beside a [string] of 20,000 fields: widen' 18000000 'er
 } > wide.cue
 try 'wide: selectors of 26 labels: widen' 0 'shows #B_x_x: {' 'widen --profile=wide wide.cue'
 # Definitions that would have one name: 4,096 selectors whose labels are `a`s with a `_` between them, parted otherwise; and 20,000 lets. More than 1,000
-# definitions are refused, but behind their names and what they embed.
-slow='whether it can be embedded is asked of each definition 128 times'
+# definitions are refused, but behind their names and what they embed: of each definition it is asked 128 times whether it can be embedded. So the two lines
+# have limits of their own, two and six seconds; where each number is sought from 1 on, the second takes many times that.
 awk '
     function inside(rest,   count, text, label) {
         if (!rest) return "int"
@@ -990,10 +990,9 @@ awk '
         }
     }
     BEGIN { printf "#B: %s\n#P: {", inside(13); select(13, ""); print "}" }' > wide.cue
-try 'wide: 4,096 selectors of definitions of one name: widen' 0 'error 14' 'widen --profile=wide wide.cue'
+try 'wide: 4,096 selectors of definitions of one name: widen' 10000000 'error 14' 'widen --profile=wide wide.cue'
 { printf '#P: {'; listed 20000 'f%d: {let n = int, a: n}' ', '; printf '}\n'; } > wide.cue
-try 'wide: 20,000 lets of one name: widen' 0 'error 14' 'widen --profile=wide wide.cue'
-slow=
+try 'wide: 20,000 lets of one name: widen' 30000000 'error 14' 'widen --profile=wide wide.cue'
 { printf '#A: {'; listed 20000 '#Z%d' ', '; printf '}\n'; } > wide.cue
 try 'wide: 20,000 embedded names that are not declared: widen' 0 'error 9 at 5' 'widen --profile=wide wide.cue'
 # Each of the 50 faults that are told is mended, and the rest read again.
