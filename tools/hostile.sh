@@ -952,9 +952,9 @@ selecting() {
 {
     printf '#B: {'; listed 20000 'a%d: int' ', '; printf '}\n'; selecting 900
 } > wide.cue
-try 'wide: 900 selectors from 20,000 fields: widen' 18000000 'shows #B_a899: int' 'widen --profile=wide wide.cue'
+try 'wide: 900 selectors from 20,000 fields: widen' 18000000 'shows b899: int' 'widen --profile=wide wide.cue'
 {
-    printf '#B: {'; listed 40000 'a%d: int' ', '; printf '}\n'; selecting 4096
+    printf '#B: {'; listed 40000 'a%d: [int]' ', '; printf '}\n'; selecting 4096
 } > wide.cue
 try 'wide: 4,096 selectors from 40,000 fields: widen' 163840000 'error 14' 'widen --profile=wide wide.cue'
 { printf '#B: {x: int}\n#P: {'; listed 50000 'b%d: #B.x' ', '; printf '}\n'; } > wide.cue
@@ -975,7 +975,7 @@ try 'wide: selectors of 26 labels: widen' 0 'shows #B_x_x: {' 'widen --profile=w
 # have limits of their own, two and six seconds; where each number is sought from 1 on, the second takes many times that.
 awk '
     function inside(rest,   count, text, label) {
-        if (!rest) return "int"
+        if (!rest) return "[int]"
         for (count = 1; count <= rest; count++) {
             label = label (count > 1 ? "_a" : "a")
             text = text (count > 1 ? ", " : "") label ": " inside(rest - count)
@@ -991,8 +991,21 @@ awk '
     }
     BEGIN { printf "#B: %s\n#P: {", inside(13); select(13, ""); print "}" }' > wide.cue
 try 'wide: 4,096 selectors of definitions of one name: widen' 10000000 'error 14' 'widen --profile=wide wide.cue'
-{ printf '#P: {'; listed 20000 'f%d: {let n = int, a: n}' ', '; printf '}\n'; } > wide.cue
+{ printf '#P: {'; listed 20000 'f%d: {let n = [int], a: n}' ', '; printf '}\n'; } > wide.cue
 try 'wide: 20,000 lets of one name: widen' 30000000 'error 14' 'widen --profile=wide wide.cue'
+# Values in the places of names: many of one name, names of many values, a value that is too large to be copied, and structs that hide a kind.
+{ printf 'let N = 1 | 2 | 3 | 4 | 5 | 6 | 7 | 8\n#P: {'; listed 5000 'a%d: N' ', '; printf '}\n'; } > wide.cue
+try 'wide: 5,000 times one value of 8 alternatives: widen' 1000000 'shows a4999: 1 | 2 | 3 | 4 | 5 | 6 | 7 | 8' 'widen --profile=wide wide.cue'
+{ printf 'let N = 1 | 2 | 3 | 4 | 5 | 6 | 7 | 8\n#P: {'; listed 20000 'a%d: N' ', '; printf '}\n'; } > wide.cue
+try 'wide: 20,000 times one value of 8 alternatives: widen' 1000000 'error 14' 'widen --profile=wide wide.cue'
+awk 'BEGIN { for (i = 0; i < 20000; i++) { print "let N" i " = int"; fields = fields "a" i ": N" i ", " } print "#P: {" fields "}" }' > wide.cue
+try 'wide: 20,000 names of plain values: widen' 1000000 'shows a19999: int' 'widen --profile=wide wide.cue'
+{ printf 'let N = '; listed 20000 '%d' ' | '; printf '\n#P: {'; listed 20000 'a%d: N' ', '; printf '}\n'; } > wide.cue
+try 'wide: 20,000 times a value of 20,000 alternatives: widen' 1000000 'shows a19999: #N' 'widen --profile=wide wide.cue'
+{ printf 'let N = int\n#P: '; nested 26 '{int: null, a: N, x: ' 'N' '}'; printf '\n'; } > wide.cue
+try 'wide: structs in one another that hide a kind: widen' 0 'shows a: #N' 'widen --profile=wide wide.cue'
+{ printf 'let N = int\n#P: {'; listed 20000 'a%d: {int: null, b: N}' ', '; printf '}\n'; } > wide.cue
+try 'wide: 20,000 structs that hide a kind: widen' 1000000 'error 14' 'widen --profile=wide wide.cue'
 { printf '#A: {'; listed 20000 '#Z%d' ', '; printf '}\n'; } > wide.cue
 try 'wide: 20,000 embedded names that are not declared: widen' 0 'error 9 at 5' 'widen --profile=wide wide.cue'
 # Each of the 50 faults that are told is mended, and the rest read again.

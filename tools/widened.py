@@ -6,8 +6,8 @@
 
 - Each row of tools/widening.rows, tools/naming.rows and tools/conditions.rows: a source, what it stands for (`=>`) or the number by which it
   is refused, and documents that are instances of `#P` and that aren't, also by the reading of tools/named_reading.py. Where they have names
-  a program makes definitions of more of them, so only its verdicts are compared, it may refuse by 11 what the model takes, and a line
-  `program` says how else its answer differs from the model's.
+  a program may refuse by 11 what the model takes, and a line `program` says how else its answer differs from the model's: by `names` it
+  makes a definition of what the model puts in the place of a name.
 - Random packages, 200 where no number is given: each document has to be an instance by a direct reading of the source exactly where it is
   one of the package that is meant. By that reading a document is an instance of a literal with embedded expressions when, for some choice
   of an alternative for each, one for a name, every declared field is as all of them ask, and every other key is allowed by one of them.
@@ -83,12 +83,16 @@ class Row:
 
     def refused(self) -> str:
         """How a program refuses it."""
-        return "" if self.answered == "accepted" else self.answered or self.refusal()
+        return "" if self.answered in ("accepted", "names") else self.answered or self.refusal()
+
+    def is_told_alike(self) -> bool:
+        """Whether a program says what the row says it stands for."""
+        return not self.refusal() and self.answered != "names"
 
     def differs(self, meant: Package) -> bool:
         """Whether the definitions that the row has are others in the package."""
         wanted = parsed("\n".join(self.wanted))
-        return not wanted or any(spelled({name: meant[name]}) != spelled({name: bodies}) for name, bodies in wanted.items())
+        return not wanted or any(name not in meant or spelled({name: meant[name]}) != spelled({name: bodies}) for name, bodies in wanted.items())
 
 
 def row_of(lines: list[str]) -> Row:
@@ -784,7 +788,7 @@ class Tried:
         if refusal != row.refused() and not (is_named and refusal == NOT_OPENED):
             yield f"wanted {row.refusal()!r}, and the program says {refusal!r} {printed}"
         elif not refusal:
-            if not is_named and row.differs(parsed(printed)):
+            if row.is_told_alike() and row.differs(parsed(printed)):
                 yield f"is written as {printed}"
             yield from self.misjudged([row.source], row.documents)
 

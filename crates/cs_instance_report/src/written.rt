@@ -225,15 +225,15 @@ impl<'t> Spelled<'t> {
         }
     }
 
-    /// Its operand at a place. Where there are fewer of `&` than in the source, those that aren't plain are put together. All alternatives
-    /// of what is put together are that whole expression.
+    /// Its operand at a place. Where there are fewer of `&` than in the source, those that aren't plain are put together. Where there are more, the value of a
+    /// name stands there, and so its operands are where the name is. All alternatives of what is put together are that whole expression.
     fn operand(self, by: Separator, operands: &'t [Expr], place: usize) -> Option<Spelled<'t>> {
         let tree = operands.get(place)?;
         let is_united = by == Separator::Amp;
         if self.part.operands(by) == operands.len() && (is_united || !self.is_together) {
             return Some(self.inner(tree, self.part.operand(by, place)?));
         }
-        if !is_united {
+        if !is_united || self.part.operands(by) < operands.len() {
             return Some(Spelled { tree, ..self });
         }
         let mut operand = self.inner(tree, self.part.standing_operand(place)?);

@@ -3,9 +3,10 @@ use Rattle.std.proofs.Common.{◌≡◌, ℕ, ◌+◌, ◌<◌, ◌≤◌, true,
 use Rattle.cs_grammar.specs.Tree.{FileTree}
 use Rattle.cs_grammar.specs.View.{file_view}
 use Rattle.cs_grammar.specs.declared.ast.File.{File}
+use Rattle.cs_plain.specs.References.{is_among}
 use Rattle.cs_names.specs.Checks.{Finds, EndsAt, FailsAny}
 use Rattle.cs_names.specs.Flaws.{file_flaws, flaws_from}
-use Rattle.cs_names.specs.Joined.{is_inner, inner_text, is_among, again}
+use Rattle.cs_names.specs.Joined.{is_inner, inner_text, again}
 use Rattle.cs_names.specs.Lifted.{Lifts, Lifted}
 use Rattle.cs_names.specs.Names.{IsRefusal, name_faults}
 use Rattle.cs_names.specs.Scopes.{Scope}
@@ -15,7 +16,7 @@ use Rattle.cs_names.specs.declared.flaws.Flaw.{Flaw}
 use Rattle.cs_names.specs.declared.flaws.Flaw.TheVariants as flaws
 use Rattle.cs_names.specs.declared.flaws.Stop.{Stop}
 use Rattle.cs_names.specs.declared.flaws.Stop.TheVariants as stops
-use Rattle.cs_names.proofs.Walks.{at_place, drop_all, first_left, first_here, none_left}
+use Rattle.cs_plain.proofs.Walks.{at_place, drop_all, first_left, first_here, none_left}
 
 pub finds_as : {Y : Type 0} (r : Result Y Stop) (xs ys : List Flaw) → xs ≡ ys → Finds r ys → Finds r xs
 finds_as r xs ys e h = subst (λ zs. Finds r zs) (sym e) h

@@ -1,7 +1,5 @@
 -- lists and truth values, and what their parts are one after another
 pub mod Truths
-pub mod Walks
-pub mod Folds
 pub mod Parts
 pub mod Tables
 pub mod Found

@@ -6,11 +6,9 @@ use Rattle.cs_grammar.specs.declared.ast.Declaration.{Declaration}
 use Rattle.cs_grammar.specs.declared.ast.Expr.{Expr}
 use Rattle.cs_grammar.specs.declared.ast.Field.{Field}
 use Rattle.cs_grammar.specs.declared.ast.Name.{Name}
-use Rattle.cs_grammar.proofs.Views.{view-value}
-use Rattle.cs_names.specs.Checks.{field_has, seen_has, declared_seen, nested_seen, lift_seen_field, lift_seen, flaws_field_seen, flaws_seen, resolved_field_seen, resolved_seen, is_scoped_seen, inside_field_seen, inside_seen, references_seen}
+use Rattle.cs_names.specs.Checks.{field_has, seen_has, declared_seen, nested_seen, lift_seen_field, lift_seen, flaws_field_seen, flaws_seen, resolved_field_seen, resolved_seen, is_scoped_seen, inside_field_seen, inside_seen}
 use Rattle.cs_names.specs.Flaws.{flaws_fields, flaws_declarations}
 use Rattle.cs_names.specs.Having.{fields_have, declarations_have}
-use Rattle.cs_names.specs.Joined.{references, references_fields, references_declarations}
 use Rattle.cs_names.specs.Lifted.{Lifts, lift_fields, lift_declarations}
 use Rattle.cs_names.specs.Named.{keep_field, keep_declared, defining, resolved, resolved_each, resolved_fields, resolved_declarations, inside_fields, inside_declarations}
 use Rattle.cs_names.specs.Nested.{nested_in_declarations}
@@ -124,22 +122,6 @@ defined_some old mid new o s at e r ds all grown same is =
 
 pub defined_none : (old mid new : List DefinitionTree) (o : Option (List ℕ)) (at : ℕ) (r : Tree) (ds : List DefinitionTree) → new ≡ mid ++ ds → mid ≡ old → o ≡ None → new ≡ old ++ defining o at r ds
 defined_none old mid new o at r ds all same is = all ∙ ap (λ m. m ++ ds) same ∙ ap (λ u. old ++ defining u at r ds) (sym is)
-
--- ---- references
-
-pub references_field_parts : (all : Bool) (f : Field) (fs : List Field)
-    → references_fields all (fields_view (f ∷ fs)) ≡ references all (expr_view f.value) ++ references_fields all (fields_view fs)
-references_field_parts all f fs = ap (λ e. references all e ++ references_fields all (fields_view fs)) (view-value f)
-
-references_seen_parts : (all : Bool) (d : SeenDeclaration) (ds : List SeenDeclaration)
-    → references_declarations all (declarations_of (d ∷ ds)) ≡ references_seen all d ++ references_declarations all (declarations_of ds)
-references_seen_parts all (field_seen f) ds = refl
-references_seen_parts all (embedding_seen o e) ds = refl
-references_seen_parts all (conditional_seen o cs e) ds = refl
-
-pub references_parts : (all : Bool) (d : Declaration) (ds : List Declaration)
-    → references_declarations all (declarations_view (d ∷ ds)) ≡ references_seen all (declaration_view d) ++ references_declarations all (declarations_view ds)
-references_parts all d ds = references_seen_parts all (declaration_view d) (map declaration_view ds)
 
 -- ---- fields that are kept
 

@@ -7,7 +7,7 @@ use Rattle.std.proofs.lemmas.Slice.Eq.{bytes_eq-Decides}
 use Rattle.cs_grammar.specs.Bodies.{bodies}
 use Rattle.cs_grammar.specs.Tree.{Tree, atom, named, reference, conjunction, disjunction, paren, struct, list, wide, Wide, marked, merged, shut, selected, Declarations, no_declaration, declared, embedded, conditional, Trees, none, more, Fields, no_field, field, End, closed, any, each, DefinitionTree, definition, defined_name, body, NameTree, FileTree, file}
 use Rattle.cs_names.specs.Lifted.{Lifts, AreApart, known, is_place, is_defined, own_place, top_place, lifts, shared, all_definitions, is_open}
-use Rattle.cs_names.specs.Named.{at_place, defining, offset_of, label_definitions, resolved, inside, inside_wide, inside_each, inside_fields, inside_declarations, inside_end, of_definitions, of_name, of_names, named_from}
+use Rattle.cs_names.specs.Named.{at_place, defining, offset_of, label_definitions, resolved, inside, inside_wide, inside_each, inside_fields, inside_declarations, inside_end, of_definitions, of_name, of_names, named_from, named_files}
 use Rattle.cs_names.specs.Names.{AreNamed}
 use Rattle.cs_names.specs.Reading.{Value, value_if, values, values_wide, values_each, values_fields, values_declarations, values_end, values_of_name, values_of_file, values_from, values_at}
 use Rattle.cs_names.specs.Scopes.{Place, Scope, value_scope, name_scope, scope_of_fields, scope_of_declarations, bound_scope}
@@ -157,6 +157,6 @@ module _ (all : List DefinitionTree) (ts : Lifts) (apart : AreApart all ts) (p :
       (read_files every (suc i) fs (right_of (is_defined ds s) (is_defined (all_definitions fs) s) (sym (list_any-append (λ d. bytes_eq (defined_name d) s) ds (all_definitions fs)) ∙ h)))
 
 pub values_are_read : (fs gs : List FileTree) (p : Place) (s : List ℕ) → AreNamed fs gs → known (lifts fs) p ≡ Some s
-    → bodies s (all_definitions gs) ≡ map (λ v. resolved (known (lifts fs)) (is_open (lifts fs)) v.file v.scopes v.value) (values_at p fs)
+    → bodies s (all_definitions (named_files fs)) ≡ map (λ v. resolved (known (lifts fs)) (is_open (lifts fs)) v.file v.scopes v.value) (values_at p fs)
 values_are_read fs gs p s h k =
-    ap (λ hs. bodies s (all_definitions hs)) h.named ∙ read_files (all_definitions fs) (lifts fs) h.apart p s k (shared fs) 0 fs (h.apart.undefined p s k)
+    read_files (all_definitions fs) (lifts fs) h.apart p s k (shared fs) 0 fs (h.apart.undefined p s k)

@@ -4,10 +4,12 @@ use Rattle.std.specs.Fmt.{digits}
 use Rattle.cs_grammar.specs.Atom.{text}
 use Rattle.cs_grammar.specs.Tree.{written_label, scoped_label, Selector, Tree, atom, named, reference, conjunction, disjunction, struct, list, wide, merged, selected, no_declaration, declared, embedded, none, more, Fields, no_field, field, closed, definition, DefinitionTree, NameTree, FileTree, file}
 use Rattle.cs_grammar.specs.declared.ast.FieldMark.TheVariants.{Regular}
+use Rattle.cs_plain.specs.Placed.{in_places}
+use Rattle.cs_plain.specs.References.{references_in}
 use Rattle.cs_names.specs.Flaws.{flaws_from}
-use Rattle.cs_names.specs.Joined.{unused, references_in, joined}
+use Rattle.cs_names.specs.Joined.{unused, joined}
 use Rattle.cs_names.specs.Lifted.{Lifted, Lifts, known, is_taken, lift_files, all_definitions, shared, lifts, is_open}
-use Rattle.cs_names.specs.Named.{named_files, named_from}
+use Rattle.cs_names.specs.Named.{named_files, named_from, value_names}
 use Rattle.cs_names.specs.Names.{name_faults}
 use Rattle.cs_names.specs.Scopes.{Place}
 use Rattle.cs_names.specs.declared.flaws.Flaw.{Flaw}
@@ -16,7 +18,7 @@ use Rattle.cs_names.specs.declared.lifting.Origin.{Origin}
 use Rattle.cs_names.specs.declared.lifting.Origin.TheVariants.{File, Let, Literal}
 use Rattle.cs_names.proofs.Free.{first_number}
 
--- nothing is at fault, and the files stand for these
+-- nothing is at fault, and the files stand for these, before plain values are put in their places
 abbrev Stands : List FileTree → List FileTree → Type 0
 Stands fs gs = (name_faults fs ≡ []) × (gs ≡ named_files fs)
 
@@ -160,6 +162,31 @@ outside_of_let = (refl, refl)
 digit_first : Stands (of (P (literal 4 (own a (named (codes "_1") 10) no_field)) ∷ []) (top (codes "_1") 60 int ∷ []))
     (of (P (literal 4 (own a (reference (codes "_1") 10) no_field)) ∷ definition (codes "_1") 60 int ∷ []) [])
 digit_first = (refl, refl)
+
+-- ---- plain values
+
+-- the files with plain values in the places of their names
+abbrev placed : List FileTree → List FileTree
+placed fs = in_places (value_names (lifts fs)) (named_files fs)
+
+-- `let X = int` and `#P: {a: X}`: a kind is put in the place of its name, which has no definition then
+kind_in_place : placed (of (P (literal 4 (own a (named (codes "X") 20) no_field)) ∷ []) (bound (codes "X") 60 int ∷ [])) ≡ of (P (literal 4 (own a int no_field)) ∷ []) []
+kind_in_place = refl
+
+-- `X: [int]` and `#P: {a: X}`: a list has parts
+list_stays : placed (of (P (literal 4 (own a (named (codes "X") 20) no_field)) ∷ []) (top (codes "X") 60 (list (more int none) closed) ∷ []))
+    ≡ of (P (literal 4 (own a (reference (codes "X") 20) no_field)) ∷ definition (codes "X") 60 (list (more int none) closed) ∷ []) []
+list_stays = refl
+
+-- `_#X: int` and `#P: {a: _#X}`: a definition stays one
+definition_stays : placed (of (P (literal 4 (own a (named (codes "_#X") 20) no_field)) ∷ []) (top (codes "_#X") 60 int ∷ []))
+    ≡ of (P (literal 4 (own a (reference (codes "X") 20) no_field)) ∷ definition (codes "X") 60 int ∷ []) []
+definition_stays = refl
+
+-- `H: int` in one file, `#P: {a: H}` in another: nothing is put into other files
+other_file_stays : placed (file None [] (top (codes "H") 0 int ∷ []) ∷ of (P (literal 4 (own a (named (codes "H") 10) no_field)) ∷ []) [])
+    ≡ file None (definition (codes "H") 0 int ∷ []) [] ∷ of (P (literal 4 (own a (reference (codes "H") 10) no_field)) ∷ []) []
+other_file_stays = refl
 
 -- ---- what is at fault
 

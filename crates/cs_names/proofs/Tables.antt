@@ -5,7 +5,6 @@ use Rattle.std.specs.BTreeMap as tree
 use Rattle.std.specs.BTreeMap.{BTreeMap}
 use Rattle.std.specs.BTreeSet as sorted
 use Rattle.std.specs.BTreeSet.{BTreeSet}
-use Rattle.std.specs.Cmp.Lexicographic.{slice_cmp}
 use Rattle.std.specs.Map.{update}
 use Rattle.std.specs.Option.{option_map}
 use Rattle.std.specs.Ordering.{is_eq, nat_cmp, ordering_then}
@@ -15,13 +14,14 @@ use Rattle.std.proofs.lemmas.Bool.{eqb-true}
 use Rattle.std.proofs.lemmas.Bool.Decides.{nat_tests, Decides-eqb}
 use Rattle.std.proofs.lemmas.List.Folds.{list_any-append}
 use Rattle.std.proofs.lemmas.List.{append-nil}
-use Rattle.std.proofs.lemmas.Map.Text.{is_eq-slice_cmp}
 use Rattle.std.proofs.lemmas.Slice.Eq.{bytes_eq-Decides}
 use Rattle.cs_grammar.specs.Tree.{DefinitionTree, defined_name}
-use Rattle.cs_names.specs.Checks.{entry_of, again_entry, TellsScope, unless_hidden, TellsAround, TellScopes, place_cmp, lifted_view, TellsLifts, TellsTexts}
+use Rattle.cs_plain.specs.References.{is_among}
+use Rattle.cs_plain.proofs.Texts.{or_nothing, or_true, Puts, has_text_put}
+use Rattle.cs_names.specs.Checks.{entry_of, again_entry, TellsScope, unless_hidden, TellsAround, TellScopes, place_cmp, lifted_view, TellsLifts}
 use Rattle.cs_names.specs.Taken.{TellsDefined, TellsTaken}
 use Rattle.cs_names.proofs.Free.{told_same}
-use Rattle.cs_names.specs.Joined.{is_among, repeats}
+use Rattle.cs_names.specs.Joined.{repeats}
 use Rattle.cs_names.specs.Lifted as S
 use Rattle.cs_names.specs.Lifted.{Lifts, AreApart, known, is_place, is_defined, is_lifted, is_open, is_open_origin, is_taken}
 use Rattle.cs_names.specs.Scopes as M
@@ -30,14 +30,6 @@ use Rattle.cs_names.specs.declared.lifting.Lifting.{Lifting}
 use Rattle.cs_names.specs.declared.scopes.Around.{Around}
 use Rattle.cs_names.specs.declared.scopes.Entry.{Entry}
 use Rattle.cs_names.specs.declared.scopes.Scope.{Scope}
-
-pub or_nothing : (b : Bool) → (b || false) ≡ b
-or_nothing true = refl
-or_nothing false = refl
-
-pub or_true : (b : Bool) → (b || true) ≡ true
-or_true true = refl
-or_true false = refl
 
 -- ---- scopes
 
@@ -149,26 +141,7 @@ scopes_end (b ∷ around) (ds ∷ scopes) (suc i) told l = scopes_end around sco
 pub inside_of : (a : Around) (ds : M.Scope) (outside around : List Around) (scopes : List M.Scope) → around ≡ a ∷ outside → TellsAround a ds → TellScopes outside scopes → TellScopes around (ds ∷ scopes)
 inside_of a ds outside around scopes is here rest = subst (λ xs. TellScopes xs (ds ∷ scopes)) (sym is) (here, rest)
 
--- ---- sets of texts
-
-abbrev pub Puts : BTreeSet (Bor (List ℕ)) → BTreeSet (Bor (List ℕ)) → Bor (List ℕ) → Type 0
-Puts s n k = sorted.Updates (λ (x y : Bor (List ℕ)). slice_cmp nat_cmp x.now y.now) s n k true
-
-abbrev pub has_text : BTreeSet (Bor (List ℕ)) → List ℕ → Bool
-has_text s t = sorted.contains_by (λ k. slice_cmp nat_cmp t k.now) s
-
-has_text_put : (t : List ℕ) (s n : BTreeSet (Bor (List ℕ))) (k : Bor (List ℕ)) → Puts s n k → has_text n t ≡ (has_text s t || bytes_eq k.now t)
-has_text_put t s n k put = put.0 (record { ref_ptr = k.ref_ptr; now = t }) ∙ by (is_eq (slice_cmp nat_cmp k.now t)) (is_eq-slice_cmp k.now t)
-  where
-    by : (b : Bool) → b ≡ bytes_eq k.now t → cond b true (has_text s t) ≡ (has_text s t || bytes_eq k.now t)
-    by true same = sym (or_true (has_text s t)) ∙ ap (λ b. has_text s t || b) same
-    by false other = sym (or_nothing (has_text s t)) ∙ ap (λ b. has_text s t || b) other
-
-pub among_push : (ss : List (List ℕ)) (k s : List ℕ) → is_among (ss ++ k ∷ []) s ≡ (is_among ss s || bytes_eq k s)
-among_push ss k s = list_any-append (λ r. bytes_eq r s) ss (k ∷ []) ∙ ap (λ b. is_among ss s || b) (or_nothing (bytes_eq k s))
-
-pub texts_put : (s n : BTreeSet (Bor (List ℕ))) (k : Bor (List ℕ)) (ss : List (List ℕ)) → TellsTexts s ss → Puts s n k → TellsTexts n (ss ++ k.now ∷ [])
-texts_put s n k ss told put t = has_text_put t s n k put ∙ ap (λ b. b || bytes_eq k.now t) (told t) ∙ sym (among_push ss k.now t)
+-- ---- definitions
 
 defined_push : (ds : List DefinitionTree) (d : DefinitionTree) (s : List ℕ) → is_defined (ds ++ d ∷ []) s ≡ (is_defined ds s || bytes_eq (defined_name d) s)
 defined_push ds d s = list_any-append (λ x. bytes_eq (defined_name x) s) ds (d ∷ []) ∙ ap (λ b. is_defined ds s || b) (or_nothing (bytes_eq (defined_name d) s))
@@ -342,13 +315,6 @@ repeats-append ss [] ys = ap (λ zs. repeats zs ys) (sym (append-nil ss))
 repeats-append ss (x ∷ xs) ys =
     ap (λ b. is_among ss x || b) (repeats-append (ss ++ x ∷ []) xs ys ∙ ap (λ zs. repeats (ss ++ x ∷ []) xs || repeats zs ys) (append_assoc ss (x ∷ []) xs))
     ∙ or_chain (is_among ss x) (repeats (ss ++ x ∷ []) xs) (repeats (ss ++ x ∷ xs) ys)
-
--- texts are added, and then others
-pub both_added : {Y E : Type 0} (r : Result Y E) (k m n : BTreeSet (Bor (List ℕ))) (xs ys zs : List (List ℕ)) → zs ≡ xs ++ ys
-    → ((ss : List (List ℕ)) → TellsTexts k ss → TellsTexts m (ss ++ xs)) → OnOk r ((ss : List (List ℕ)) → TellsTexts m ss → TellsTexts n (ss ++ ys))
-    → OnOk r ((ss : List (List ℕ)) → TellsTexts k ss → TellsTexts n (ss ++ zs))
-both_added (Ok y) k m n xs ys zs e first second = λ ss told. subst (λ rs. TellsTexts n rs) (append_assoc ss xs ys ∙ ap (λ us. ss ++ us) (sym e)) (second (ss ++ xs) (first ss told))
-both_added (Err x) k m n xs ys zs e first second = tt
 
 -- what holds after a call that was done says something else too
 pub on_ok : {Y E A B : Type 0} (r : Result Y E) → OnOk r A → (A → B) → OnOk r B

@@ -3,11 +3,13 @@ use Rattle.std.proofs.Common.{◌≡◌, ℕ, suc, Bool, true, false, ◌||◌, 
 use Rattle.std.specs.List.{list_any, flat_map}
 use Rattle.std.proofs.lemmas.List.{append-nil}
 use Rattle.cs_grammar.specs.Tree.{Label, Tree, atom, named, reference, conjunction, disjunction, paren, struct, list, wide, Wide, marked, merged, shut, selected, Declarations, no_declaration, declared, embedded, conditional, Trees, none, more, Fields, no_field, field, End, closed, any, each, DefinitionTree, definition, body, defined_name, FileTree, file}
+use Rattle.cs_plain.specs.Placed.{in_places}
+use Rattle.cs_plain.specs.References.{references_in}
 use Rattle.cs_names.specs.Flaws.{unknown_if, let_flaws, flaws, flaws_wide, flaws_each, flaws_fields, flaws_declarations, flaws_end, flaws_from}
 use Rattle.cs_names.specs.Having.{has_name, wide_has, some_has, fields_have, declarations_have, end_has, have_names}
-use Rattle.cs_names.specs.Joined.{unused, again, held, holding_in, joined, definitions_join, references_in}
+use Rattle.cs_names.specs.Joined.{unused, again, held, holding_in, joined, definitions_join}
 use Rattle.cs_names.specs.Lifted.{Lifts, AreApart, known, own_place, lift_own, within, lift_in, lift_wide, lift_each, lift_fields, lift_declarations, lift_end, lift_bodies, lift_names, lift_files, lifts, shared, all_definitions, is_open}
-use Rattle.cs_names.specs.Named.{at_place, meant, refer, defining, keep_field, keep_declared, offset_of, label_definitions, resolved, resolved_wide, resolved_each, resolved_fields, resolved_declarations, resolved_end, inside, inside_wide, inside_each, inside_fields, inside_declarations, inside_end, of_definitions, named_from, together, embedding, are_unclosed, some_reference, first_beginning}
+use Rattle.cs_names.specs.Named.{at_place, meant, refer, defining, keep_field, keep_declared, offset_of, label_definitions, resolved, resolved_wide, resolved_each, resolved_fields, resolved_declarations, resolved_end, inside, inside_wide, inside_each, inside_fields, inside_declarations, inside_end, of_definitions, named_from, together, embedding, are_unclosed, some_reference, first_beginning, value_names}
 use Rattle.cs_names.specs.Names.{AreNamed}
 use Rattle.cs_names.specs.Scopes.{Place, Scope, denoted, first_place, is_marked, value_scope, scope_of_fields, scope_of_declarations, is_repeated}
 use Rattle.cs_names.specs.declared.flaws.Flaw.{Flaw}
@@ -339,8 +341,9 @@ nothing_joined fs = by (definitions_join (all_definitions fs))
 nothing_apart : (all : List DefinitionTree) → AreApart all []
 nothing_apart all = record { places = λ p q s h k. cc; undefined = λ p s h. cc }
 
-pub files_stand : (fs : List FileTree) → have_names fs ≡ false → AreNamed fs fs
-files_stand fs h =
+-- where no value is put anywhere, files stay as they are
+pub files_stand : ((fs : List FileTree) → in_places [] fs ≡ fs) → (fs : List FileTree) → have_names fs ≡ false → AreNamed fs fs
+files_stand nowhere_stay fs h =
     let none = nothing_lifted fs h in
     record {
       faultless =
@@ -348,5 +351,5 @@ files_stand fs h =
           ∙ faultless_both (flaws_from [] (shared fs) 0 fs) (joined (named_from nowhere nobody (shared fs) 0 fs) [])
           (files_faultless (shared fs) 0 fs h) (nothing_joined (named_from nowhere nobody (shared fs) 0 fs));
       apart = rw none (nothing_apart (all_definitions fs));
-      named = sym (ap (λ ts. named_from (known ts) (is_open ts) (shared fs) 0 fs) none ∙ files_stay (shared fs) 0 fs h);
+      named = sym (ap (λ ts. in_places (value_names ts) (named_from (known ts) (is_open ts) (shared fs) 0 fs)) none ∙ ap (in_places []) (files_stay (shared fs) 0 fs h) ∙ nowhere_stay fs);
     }

@@ -10,12 +10,13 @@ use Rattle.cs_grammar.specs.declared.ast.FieldMark.TheVariants.{Regular, Optiona
 use Rattle.cs_names.specs.Flaws.{unknown_if, operand_flaws, let_flaws, bound_flaws, name_flaws, flaws, flaws_wide, flaws_each, flaws_fields, flaws_declarations, flaws_end, flaws_from, flaws_in, is_undeclared, unmeant_flaws}
 use Rattle.cs_names.specs.Having.{is_hidden, has_name, wide_has, some_has, fields_have, declarations_have, end_has, have_names}
 use Rattle.cs_names.specs.Lifted.{Lifts, Lifted, known, is_place, is_lifted, is_taken, inner_name, top_name, free, with_lifted, origin_of, own_place, lift_own, within, lift_in, lift_wide, lift_each, lift_fields, lift_declarations, lift_end, top_place, top_origin, lift_top, lift_tops, lift_names, lift_bodies, lift_values, lift_files, lifts, shared, all_definitions, drop_byte, is_open}
-use Rattle.cs_names.specs.Named.{at_place, meant, refer, defining, keep_field, keep_declared, offset_of, label_definitions, resolved, resolved_wide, resolved_each, resolved_fields, resolved_declarations, resolved_end, inside, inside_wide, inside_each, inside_fields, inside_declarations, inside_end, of_definitions, of_name, of_names, named_from, base, led, select, together, embedding, are_unclosed, some_reference, first_beginning}
+use Rattle.cs_names.specs.Named.{at_place, meant, refer, defining, keep_field, keep_declared, offset_of, label_definitions, resolved, resolved_wide, resolved_each, resolved_fields, resolved_declarations, resolved_end, inside, inside_wide, inside_each, inside_fields, inside_declarations, inside_end, of_definitions, of_name, of_names, named_from, base, led, select, together, embedding, are_unclosed, some_reference, first_beginning, named_files, value_names}
 use Rattle.cs_names.specs.Names.{AreNamed}
 use Rattle.cs_names.specs.Nested.{path}
 use Rattle.cs_names.specs.Scopes.{Scope, begins_hash, denoted, is_field, first_place, value_scope, name_scope, scope_of_fields, scope_of_declarations, bound_scope}
 use Rattle.cs_names.specs.Scopes as scopes
-use Rattle.cs_names.specs.Selecting.{head, referring, referring_each, referring_fields, referring_declarations, referring_end, referring_definition, IsSelectingFile}
+use Rattle.cs_plain.specs.Placed.{in_places}
+use Rattle.cs_plain.specs.Selecting.{head, referring, referring_each, referring_fields, referring_declarations, referring_end, referring_definition, IsSelectingFile}
 use Rattle.cs_names.specs.declared.flaws.Flaw.{Flaw}
 use Rattle.cs_names.specs.declared.flaws.Flaw.TheVariants as Flaws
 use Rattle.cs_names.specs.declared.lifting.Origin.{Origin}
@@ -517,6 +518,9 @@ module _ (ts : Lifts) (good : AreGood ts) where
         files_written every (suc i) fs (right_empty numbered (flaws_from ts every (suc i) fs) h) n.1,
       )
 
-pub named_written : (fs gs : List FileTree) → AreNamed fs gs → AllByRecursion IsNamableFile fs → AllByRecursion IsSelectingFile gs
-named_written fs gs h n =
-    subst (AllByRecursion IsSelectingFile) (sym h.named) (files_written (lifts fs) (all_good fs n) (shared fs) 0 fs (left_empty (flaws_in fs) _ h.faultless) n)
+-- what can be written can be with values in their places
+pub named_written : ((ss : List (List ℕ)) (fs : List FileTree) → AllByRecursion IsSelectingFile fs → AllByRecursion IsSelectingFile (in_places ss fs))
+    → (fs gs : List FileTree) → AreNamed fs gs → AllByRecursion IsNamableFile fs → AllByRecursion IsSelectingFile gs
+named_written placed fs gs h n =
+    subst (AllByRecursion IsSelectingFile) (sym h.named)
+    (placed (value_names (lifts fs)) (named_files fs) (files_written (lifts fs) (all_good fs n) (shared fs) 0 fs (left_empty (flaws_in fs) _ h.faultless) n))

@@ -1,9 +1,8 @@
 -- What the searches answer, and what the tables tell.
-use Rattle.std.specs.Prelude.{◌≡◌, ℕ, Bool, true, false, ◌||◌, ◌&&◌, not, ◌++◌, List, [], ◌∷◌, map, Option, Some, None, Result, Ok, Err, slice_get, if◌then◌else◌, is_some, string_bytes}
+use Rattle.std.specs.Prelude.{◌≡◌, ℕ, Bool, true, false, ◌||◌, ◌++◌, List, [], ◌∷◌, map, Option, Some, None, Result, Ok, Err, slice_get, if◌then◌else◌, is_some, string_bytes}
 use Rattle.std.specs.Borrow.{Bor}
 use Rattle.std.specs.BTreeMap as tree
 use Rattle.std.specs.BTreeSet as sorted
-use Rattle.std.specs.BTreeSet.{BTreeSet}
 use Rattle.std.specs.Cmp.Lexicographic.{slice_cmp}
 use Rattle.std.specs.Option.{option_map}
 use Rattle.std.specs.Ordering.{nat_cmp, ordering_then}
@@ -13,7 +12,6 @@ use Rattle.cs_grammar.specs.Tree.{DefinitionTree}
 use Rattle.cs_grammar.specs.View.{Seen, SeenDeclaration, field_seen, embedding_seen, conditional_seen}
 use Rattle.cs_names.specs.Flaws.{flaws, let_flaws}
 use Rattle.cs_names.specs.Having.{has_name}
-use Rattle.cs_names.specs.Joined.{is_among, is_reference, references}
 use Rattle.cs_names.specs.Lifted as S
 use Rattle.cs_names.specs.Lifted.{Lifts, AreApart, known, is_lifted, is_open, lift_in, lift_own, own_place, within}
 use Rattle.cs_names.specs.Named.{resolved, inside, label_definitions}
@@ -158,16 +156,6 @@ abbrev pub is_scoped_seen : SeenDeclaration → Bool
 is_scoped_seen (field_seen f) = is_some f.label.scoped
 is_scoped_seen (embedding_seen o e) = false
 is_scoped_seen (conditional_seen o cs e) = false
-
--- ---- sets of texts
-
-abbrev pub TellsTexts : BTreeSet (Bor (List ℕ)) → List (List ℕ) → Type 0
-TellsTexts t ss = (s : List ℕ) → sorted.contains_by (λ k. slice_cmp nat_cmp s k.now) t ≡ is_among ss s
-
-abbrev pub references_seen : Bool → SeenDeclaration → List (List ℕ)
-references_seen all (field_seen f) = references all f.value
-references_seen all (embedding_seen o e) = if is_reference e && not all then [] else references all e
-references_seen all (conditional_seen o cs e) = references all e
 
 -- ---- names
 

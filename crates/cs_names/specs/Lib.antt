@@ -6,7 +6,6 @@ pub mod Lifted
 pub mod Taken
 pub mod Joined
 pub mod Named
-pub mod Selecting
 pub mod Flaws
 pub mod Reading
 pub mod Names

@@ -5,8 +5,8 @@ use Rattle.std.specs.List.{flat_map}
 use Rattle.std.specs.Option.{unwrap_or}
 use Rattle.cs_grammar.specs.Tree.{Label, Selector, Tree, atom, named, reference, conjunction, disjunction, paren, struct, list, wide, Wide, marked, merged, shut, selected, Declarations, no_declaration, declared, embedded, conditional, Trees, none, more, Fields, no_field, field, End, closed, any, each, DefinitionTree, definition, NameTree, FileTree, file, package_name, definitions, names}
 use Rattle.cs_grammar.specs.declared.ast.FieldMark.{FieldMark}
-use Rattle.cs_names.specs.Joined.{is_reference}
-use Rattle.cs_names.specs.Lifted.{drop_byte, known, is_open, lifts, shared, own_place, top_place}
+use Rattle.cs_plain.specs.References.{is_reference}
+use Rattle.cs_names.specs.Lifted.{Lifted, Lifts, drop_byte, is_definition, known, is_open, lifts, shared, own_place, top_place}
 use Rattle.cs_names.specs.Nested.{path}
 use Rattle.cs_names.specs.Scopes.{Place, Scope, denoted, is_field, scope_of_fields, scope_of_declarations, value_scope, name_scope, bound_scope}
 
@@ -225,6 +225,13 @@ abbrev pub named_from : (Place → Option (List ℕ)) → (List ℕ → Bool) �
 named_from by opens shared i [] = []
 named_from by opens shared i (f ∷ fs) = named_file by opens i shared f ∷ named_from by opens shared (suc i) fs
 
--- what files stand for
+-- what files stand for, before plain values are put in their places
 abbrev pub named_files : List FileTree → List FileTree
 named_files fs = named_from (known (lifts fs)) (is_open (lifts fs)) (shared fs) 0 fs
+
+-- the definition of a name that is no definition itself (CUE, definitions and hidden fields): where it is plain, it is put in the places of the name
+abbrev pub value_name : Lifted → List (List ℕ)
+value_name t = if is_definition t.text then [] else t.name ∷ []
+
+abbrev pub value_names : Lifts → List (List ℕ)
+value_names ts = flat_map value_name ts

@@ -10,12 +10,16 @@ use crate::joined::check_named;
 use crate::lifting::Lifting;
 use crate::nested::paths_in;
 use crate::scopes::Scope;
+use crate::values::value_names;
 use cs_grammar::File;
+use cs_plain::in_places;
 use std::alloc::Global;
 
 /// The files that files of the wide profile stand for, each at its place: each name of a scope is a definition of its own, and what names it refers to
 /// that (CUE, declarations and scopes, definitions and hidden fields, let clauses), a selector of a nested definition too (CUE, selectors). Other selectors,
-/// which select from definitions then, conditions, embeddings and marks of defaults stay.
+/// which select from definitions then, conditions, embeddings and marks of defaults stay. In the file that declares it, a name that is no definition, is
+/// declared once and is plain is put in the places of its references where it means the same (own rule): what has no parts, a kind, or at most eight of these
+/// as operands of `&` or `|`. A definition that nothing refers to any more is gone.
 ///
 /// # Errors
 /// `LeftOut`, `UnknownName` or `NamesField` with the first name or selector at fault by itself, by file and then by text; `UnknownName` with the first
@@ -33,5 +37,6 @@ pub fn without_names(alloc: Global, files: &[File]) -> Result<Vec<File>, NameFau
     check_files(&lifting, &shared, files)?;
     let named = named_files(&lifting, &shared, files)?;
     check_named(&lifting, &named)?;
-    Ok(named)
+    let names = value_names(&lifting)?;
+    Ok(in_places(alloc, &names, &named)?)
 }

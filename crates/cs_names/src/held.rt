@@ -1,18 +1,19 @@
 // Names that are no definitions, and what they hold where literals are joined.
 ghost use Rattle.std.specs.Prelude.{◌≡◌, ◌++◌, ℕ, false, List, map, IfOk, OnOk};
 ghost use Rattle.cs_grammar.specs.View.{expr_view, exprs_view, wide_view, definition_view, file_view};
-ghost use Rattle.cs_names.specs.Checks.{TellsLifts, TellsTexts, FindsAny, lifted_view};
+ghost use Rattle.cs_names.specs.Checks.{TellsLifts, FindsAny, lifted_view};
 ghost use Rattle.cs_grammar.specs.Tree.{DefinitionTree};
 ghost use Rattle.cs_names.specs.Joined as Spec;
-ghost use Rattle.cs_names.specs.Joined.{held, references_in};
+ghost use Rattle.cs_names.specs.Joined.{held};
 ghost use Rattle.cs_names.specs.Lifted.{Lifts};
+ghost use Rattle.cs_plain.specs.References.{TellsTexts, references_in};
 
 use crate::NameFault;
 use crate::flaws::{Flaw, fault_of};
 use crate::lifting::{Lifted, Lifting};
-use crate::references::references_in;
 use crate::texts::is_definition;
 use cs_grammar::{Definition, Expr, File, Wide, atom};
+use cs_plain::references_in;
 use std::alloc::{AllocError, Global};
 use std::collections::BTreeSet;
 

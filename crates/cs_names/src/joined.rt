@@ -2,18 +2,19 @@
 ghost use Rattle.std.specs.Prelude.{◌≡◌, ◌++◌, ◌&&◌, ℕ, List, [], true, false, map, IfOk};
 ghost use Rattle.cs_grammar.specs.Tree.{DefinitionTree};
 ghost use Rattle.cs_grammar.specs.View.{file_view};
-ghost use Rattle.cs_names.specs.Checks.{TellsLifts, TellsTexts, FindsAny, lifted_view};
+ghost use Rattle.cs_names.specs.Checks.{TellsLifts, FindsAny, lifted_view};
 ghost use Rattle.cs_names.specs.Joined as Spec;
-ghost use Rattle.cs_names.specs.Joined.{unused, again, joined, references_in, is_among, inner_text};
+ghost use Rattle.cs_names.specs.Joined.{unused, again, joined, inner_text};
 ghost use Rattle.cs_names.specs.Lifted.{Lifts};
+ghost use Rattle.cs_plain.specs.References.{TellsTexts, is_among, references_in};
 
 use crate::NameFault;
 use crate::flaws::{Flaw, fault_of};
 use crate::held::check_held;
 use crate::joins::{definitions_join, is_again};
 use crate::lifting::{Lifted, Lifting, Origin};
-use crate::references::references_in;
 use cs_grammar::File;
+use cs_plain::references_in;
 use std::alloc::AllocError;
 use std::collections::BTreeSet;
 

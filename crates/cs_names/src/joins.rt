@@ -3,9 +3,9 @@ ghost use Rattle.std.specs.Prelude.{◌≡◌, ◌++◌, ◌∷◌, List, ℕ, [
 ghost use Rattle.std.specs.List.{list_any, flat_map};
 ghost use Rattle.cs_grammar.specs.Tree.{body, defined_name, definitions};
 ghost use Rattle.cs_grammar.specs.View.{expr_view, exprs_view, fields_view, end_view, wide_view, definition_view, file_view};
-ghost use Rattle.cs_names.specs.Checks.{TellsTexts};
 ghost use Rattle.cs_names.specs.Joined as Spec;
-ghost use Rattle.cs_names.specs.Joined.{is_among, repeats, has_twice, two_compound, labels, labels_join, some_join, fields_join, end_joins, wide_joins};
+ghost use Rattle.cs_names.specs.Joined.{repeats, has_twice, two_compound, labels, labels_join, some_join, fields_join, end_joins, wide_joins};
+ghost use Rattle.cs_plain.specs.References.{TellsTexts, is_among};
 
 use cs_grammar::{Definition, Expr, Field, FieldMark, File, ListEnd, Wide, atom};
 use std::alloc::{AllocError, Global};

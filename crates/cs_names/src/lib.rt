@@ -13,17 +13,16 @@ mod laws;
 mod lift;
 mod lifting;
 mod nested;
-mod references;
 mod resolved;
 mod scopes;
 mod taken;
 mod texts;
 mod together;
+mod values;
 
 pub use cs_grammar::File;
 pub use fault::NameFault;
 pub use files::without_names;
 pub use having::have_names;
 pub use laws::{files_without_names_stay, named_files_can_be_written, written_files_have_no_names};
-pub use resolved::copy_conditions;
 pub use taken::TakenNames;

@@ -1,7 +1,7 @@
 // Expressions in which each name is the reference to the definition that it is lifted by.
 ghost use Rattle.std.specs.Prelude.{◌≡◌, List, [], ◌∷◌, map, IfOk, option_map, string_bytes};
 ghost use Rattle.cs_grammar.specs.Tree.{DefinitionTree, named, reference, selected};
-ghost use Rattle.cs_grammar.specs.View.{expr_view, exprs_view, field_view, fields_view, declaration_view, declarations_view, condition_view, test_view, end_view, wide_view, selector_view};
+ghost use Rattle.cs_grammar.specs.View.{expr_view, exprs_view, field_view, fields_view, declaration_view, declarations_view, end_view, wide_view, selector_view};
 ghost use Rattle.cs_names.specs.Checks.{TellsLifts, TellsScope, TellScopes, resolved_field_seen, resolved_seen, is_scoped_seen};
 ghost use Rattle.cs_names.specs.Lifted.{Lifts, known, is_open};
 ghost use Rattle.cs_names.specs.Named as Spec;
@@ -12,10 +12,8 @@ ghost use Rattle.cs_names.specs.Scopes as Scopes;
 use crate::lifting::Lifting;
 use crate::scopes::{Around, Scope, denoted, is_field};
 use crate::texts::{behind_hash, path, with_mark};
-use cs_grammar::{
-    Condition, Declaration, Expr, Field, ListEnd, Scalar, Selector, Test, Wide, atom,
-    copied_selectors,
-};
+use cs_grammar::{Declaration, Expr, Field, ListEnd, Selector, Wide, atom, copied_selectors};
+use cs_plain::copy_conditions;
 use std::alloc::{AllocError, Global};
 
 /// Resolves the names of a file.
@@ -24,54 +22,6 @@ pub(crate) struct Naming<'l, 'a> {
     pub(crate) alloc: Global,
     pub(crate) lifting: &'l Lifting<'a>,
     pub(crate) file: usize,
-}
-
-/// The same test.
-fn copy_test(test: &Test) -> Result<Test, AllocError>
-    ensures { IfOk result (λ t. test_view t ≡ test_view test.now) }
-{
-    match test {
-        Test::Present => Ok(Test::Present),
-        Test::True => Ok(Test::True),
-        Test::Equals(Scalar::Null) => Ok(Test::Equals(Scalar::Null)),
-        Test::Equals(Scalar::Bool(truth)) => Ok(Test::Equals(Scalar::Bool(*truth))),
-        Test::Equals(Scalar::Int(integer)) => Ok(Test::Equals(Scalar::Int(*integer))),
-        Test::Equals(Scalar::Text(text)) => Ok(Test::Equals(Scalar::Text(text.clone()?))),
-        Test::Compares { relation, limit } => Ok(Test::Compares {
-            relation: *relation,
-            limit: *limit,
-        }),
-    }
-}
-
-/// The same condition.
-fn copy_condition(condition: &Condition) -> Result<Condition, AllocError>
-    ensures { IfOk result (λ c. condition_view c ≡ condition_view condition.now) }
-{
-    let label = condition.label.clone()?;
-    Ok(Condition {
-        label,
-        at: condition.at,
-        test: copy_test(&condition.test)?,
-        is_met: condition.is_met,
-    })
-}
-
-/// The same conditions.
-///
-/// # Errors
-/// Memory ran out.
-pub fn copy_conditions(
-    alloc: Global,
-    conditions: &[Condition],
-) -> Result<Vec<Condition>, AllocError>
-    ensures { IfOk result (λ v. map condition_view v.items ≡ map condition_view conditions.now) }
-{
-    let mut copied = Vec::with_capacity(alloc, conditions.len())?;
-    for condition in conditions {
-        copied.push(copy_condition(condition)?)?;
-    }
-    Ok(copied)
 }
 
 /// The labels behind the first one.

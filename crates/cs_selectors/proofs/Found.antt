@@ -2,13 +2,14 @@
 use Rattle.std.proofs.Common.{◌≡◌, ℕ, ◌+◌, ◌<◌, true, false, cond, List, [], ◌∷◌, ◌++◌, Option, Some, None, is_some, Result, Ok, Err, map, take, length, get_or, slice_get, refl, sym, ap, ap₂, subst, ◌∙◌, OnOk}
 use Rattle.std.specs.List.{list_any}
 use Rattle.cs_grammar.specs.Tree.{Tree, DefinitionTree, FileTree}
-use Rattle.cs_names.proofs.Folds.{folded_more}
+use Rattle.cs_plain.specs.Bodies.{Body, values_of}
+use Rattle.cs_plain.proofs.Folds.{folded_more}
 use Rattle.cs_selectors.specs.Checks.{EndsAt, FailsAny, TellsGifts, lack_on, use_view}
 use Rattle.cs_selectors.specs.Given as G
 use Rattle.cs_selectors.specs.Given.{Path, path, known, given, with_given, with_all}
 use Rattle.cs_selectors.specs.Reached.{is_left_out, texts, lack, lack_in, lack_here, values_in, step, or_else}
 use Rattle.cs_selectors.specs.Selectors.{AreFew, IsRefusal, at_fault, fault_of, selector_faults}
-use Rattle.cs_selectors.specs.Uses.{Place, Use, Body, values_of}
+use Rattle.cs_selectors.specs.Uses.{Place, Use}
 use Rattle.cs_selectors.specs.declared.fault.SelectorFault.{SelectorFault}
 use Rattle.cs_selectors.specs.declared.fault.SelectorFault.TheVariants as refused
 use Rattle.cs_selectors.specs.declared.given.Giving.{Giving}

@@ -3,6 +3,7 @@ pub mod Parts
 pub mod Tables
 pub mod Found
 -- laws of the definitions
+pub mod Placed
 pub mod Without
 pub mod Written
 -- samples

@@ -2,19 +2,19 @@
 use Rattle.std.proofs.Common.{◌≡◌, ℕ, suc, ◌<◌, ◌≤◌, Bool, true, false, ◌||◌, cond, List, [], ◌∷◌, ◌++◌, map, drop, length, refl, sym, ap, ◌∙◌, arith}
 use Rattle.std.specs.Borrow.{Bor}
 use Rattle.std.proofs.lemmas.Simd.{map-map}
-use Rattle.cs_grammar.specs.Tree.{Selector, Tree, conjunction, paren, more, field, declared, embedded, conditional}
+use Rattle.cs_grammar.specs.Tree.{Selector, Tree, conjunction, more, field, declared, embedded, conditional}
 use Rattle.cs_grammar.specs.View.{SeenDeclaration, field_seen, embedding_seen, conditional_seen, expr_view, exprs_view, trees_of, field_view, fields_view, fields_of, declaration_view, declarations_view, declarations_of, definition_view}
 use Rattle.cs_grammar.specs.declared.ast.Declaration.{Declaration}
 use Rattle.cs_grammar.specs.declared.ast.Expr.{Expr}
 use Rattle.cs_grammar.specs.declared.ast.Field.{Field}
 use Rattle.cs_grammar.specs.declared.ast.File.{File}
 use Rattle.cs_grammar.proofs.Views.{view-value}
-use Rattle.cs_names.specs.Selecting.{referring, referring_each, referring_fields, referring_declarations}
+use Rattle.cs_plain.specs.Selecting.{referring, referring_each, referring_fields, referring_declarations}
 use Rattle.cs_selectors.specs.Checks.{seen_has, uses_seen, is_for_seen, only_if, only_for, referring_field_seen, referring_seen, tree_at}
 use Rattle.cs_selectors.specs.Having.{declarations_have}
 use Rattle.cs_selectors.specs.Reached.{declarations_for}
-use Rattle.cs_selectors.specs.Selectors.{in_parens, together}
-use Rattle.cs_selectors.specs.Uses.{Use, Body, body_of, uses, uses_fields, uses_declarations, uses_of}
+use Rattle.cs_selectors.specs.Selectors.{operand, operands, together}
+use Rattle.cs_selectors.specs.Uses.{Use, uses, uses_fields, uses_declarations, uses_of}
 
 -- ---- selectors in them
 
@@ -41,9 +41,6 @@ module _ (i : ℕ) where
 -- of a file
 abbrev pub file_uses : ℕ → File → List Use
 file_uses i f = uses_of i (map definition_view f.definitions.items)
-
-abbrev pub file_bodies : File → List Body
-file_bodies f = map body_of (map definition_view f.definitions.items)
 
 -- ---- declarations of a label
 
@@ -78,9 +75,9 @@ module _ (by : List ℕ → List Selector → List ℕ) where
   pub referring_parts : (ds : List Declaration) → declarations_of (map (λ d. referring_seen by (declaration_view d)) ds) ≡ referring_declarations by (declarations_view ds)
   referring_parts ds = ap declarations_of (sym (map-map (referring_seen by) declaration_view ds)) ∙ referring_seen_parts (map declaration_view ds)
 
-  pub parens_referring : (es : List Tree) → trees_of (map (λ e. paren (referring by e)) es) ≡ referring_each by (in_parens es)
-  parens_referring [] = refl
-  parens_referring (e ∷ es) = ap (more (paren (referring by e))) (parens_referring es)
+  pub operands_referring : (es : List Tree) → trees_of (map (λ e. referring by (operand e)) es) ≡ referring_each by (operands es)
+  operands_referring [] = refl
+  operands_referring (e ∷ es) = ap (more (referring by (operand e))) (operands_referring es)
 
 -- ---- all values at once
 
@@ -89,7 +86,7 @@ one_value [] x l is = let no : length {A = Bor Expr} [] ≡ suc (length {A = Bor
 one_value (y ∷ []) x l is = ap (λ ys. together (map tree_at ys)) is
 one_value (y ∷ z ∷ ys) x l is = absurd (omega (arith, l))
 
-pub several_values : (xs : List (Bor Expr)) → 2 ≤ length xs → together (map tree_at xs) ≡ conjunction (in_parens (map tree_at xs))
+pub several_values : (xs : List (Bor Expr)) → 2 ≤ length xs → together (map tree_at xs) ≡ conjunction (operands (map tree_at xs))
 several_values [] l = absurd (omega (arith, l))
 several_values (x ∷ []) l = absurd (omega (arith, l))
 several_values (x ∷ y ∷ ys) l = refl

@@ -6,17 +6,18 @@ use Rattle.cs_grammar.specs.Spells.{every_label}
 use Rattle.cs_grammar.specs.declared.ast.FieldMark.TheVariants.{Regular, Optional, Every}
 use Rattle.cs_names.specs.Lifted.{all_definitions}
 use Rattle.cs_names.proofs.Free.{first_number}
-use Rattle.cs_selectors.specs.Given.{Given, is_taken, gifts}
+use Rattle.cs_plain.specs.Placed.{in_places}
+use Rattle.cs_selectors.specs.Given.{Given, is_taken, given_names, gifts}
 use Rattle.cs_selectors.specs.Selectors.{selector_faults, unselected_from, unselected_files}
 use Rattle.cs_selectors.specs.declared.lack.Lack.TheVariants.{LeftOut, Unknown, NotRegular}
 
 -- nothing is at fault, and the files stand for these
 abbrev Stands : List FileTree → List FileTree → Type 0
-Stands fs gs = (selector_faults fs ≡ []) × (gs ≡ unselected_files fs)
+Stands fs gs = (selector_faults fs ≡ []) × (gs ≡ in_places (given_names (gifts fs)) (unselected_files fs))
 
 -- the same with these definitions that selectors are made
-stands : (fs gs : List FileTree) (us : List Given) → gifts fs ≡ us → selector_faults fs ≡ [] → gs ≡ unselected_from us 0 fs → Stands fs gs
-stands fs gs us e clean is = (clean, is ∙ ap (λ vs. unselected_from vs 0 fs) (sym e))
+stands : (fs gs : List FileTree) (us : List Given) → gifts fs ≡ us → selector_faults fs ≡ [] → gs ≡ in_places (given_names us) (unselected_from us 0 fs) → Stands fs gs
+stands fs gs us e clean is = (clean, is ∙ ap (λ vs. in_places (given_names vs) (unselected_from vs 0 fs)) (sym e))
 
 abbrev of : List DefinitionTree → List FileTree
 of ds = file None ds [] ∷ []
@@ -51,9 +52,9 @@ x = codes "x"
 abbrev y : List ℕ
 y = codes "y"
 
--- `#P: #B.x` and `#B: {x: int}`
+-- `#P: #B.x` and `#B: {x: int}`: what is plain is in the place of the selector
 one_label : Stands (of (P (from (codes "B") (label x ∷ [])) ∷ B (own x int no_field) ∷ []))
-    (of (P (reference (codes "B_x") 4) ∷ B (own x int no_field) ∷ definition (codes "B_x") 4 int ∷ []))
+    (of (P int ∷ B (own x int no_field) ∷ []))
 one_label = (refl, refl)
 
 -- `#P: #B.x.y` and `#B: {x: {y: #B.x}}`: one of the other, in the order of the text
@@ -62,21 +63,24 @@ two_labels : Stands (of (P (from (codes "B") (label x ∷ label y ∷ [])) ∷ B
     ∷ definition (codes "B_x_y") 4 (reference (codes "B_x") 4) ∷ definition (codes "B_x") 4 (struct 66 (own y (reference (codes "B_x") 4) no_field) false) ∷ []))
 two_labels = (refl, refl)
 
--- `#B: {x: int, [string]: string, y: int}`: all declarations of the label
+-- `#B: {x: int, [string]: string, y: int}`: all declarations of the label, which have one node each
 with_all_others : Stands (of (P (from (codes "B") (label x ∷ [])) ∷ B (own x int (every string (own y int no_field))) ∷ []))
-    (of (P (reference (codes "B_x") 4) ∷ B (own x int (every string (own y int no_field))) ∷ definition (codes "B_x") 4 (conjunction (more (paren int) (more (paren string) none))) ∷ []))
+    (of (P (conjunction (more int (more string none))) ∷ B (own x int (every string (own y int no_field))) ∷ []))
 with_all_others = (refl, refl)
 
--- two bodies in two files: it stands where its selector does
-two_bodies : Stands (file None (P (from (codes "B") (label x ∷ [])) ∷ []) [] ∷ file None (B (own x int no_field) ∷ []) [] ∷ file None (B (own x string no_field) ∷ []) [] ∷ [])
-    (file None (P (reference (codes "B_x") 4) ∷ definition (codes "B_x") 4 (conjunction (more (paren int) (more (paren string) none))) ∷ []) [] ∷ file None (B (own x int no_field) ∷ []) [] ∷ file None (B (own x string no_field) ∷ []) [] ∷ [])
+-- two bodies in two files, `{x: {y: int}}` and `{x: string}`: what isn't plain has a definition, which stands where its selector does
+abbrev inner : Tree
+inner = struct 66 (own y int no_field) false
+
+two_bodies : Stands (file None (P (from (codes "B") (label x ∷ [])) ∷ []) [] ∷ file None (B (own x inner no_field) ∷ []) [] ∷ file None (B (own x string no_field) ∷ []) [] ∷ [])
+    (file None (P (reference (codes "B_x") 4) ∷ definition (codes "B_x") 4 (conjunction (more (paren inner) (more string none))) ∷ []) [] ∷ file None (B (own x inner no_field) ∷ []) [] ∷ file None (B (own x string no_field) ∷ []) [] ∷ [])
 two_bodies = (refl, refl)
 
--- the name of an author's definition is taken
+-- the name of an author's definition is taken, which stays
 abbrev taken_files : List FileTree
 taken_files = of (P (from (codes "B") (label x ∷ [])) ∷ B (own x int no_field) ∷ definition (codes "B_x") 80 string ∷ [])
 
-taken : Stands taken_files (of (P (reference (codes "B_x1") 4) ∷ B (own x int no_field) ∷ definition (codes "B_x") 80 string ∷ definition (codes "B_x1") 4 int ∷ []))
+taken : Stands taken_files (of (P int ∷ B (own x int no_field) ∷ definition (codes "B_x") 80 string ∷ []))
 unfolding digits
 taken =
     let one : List ℕ → List Given = λ n. record { path = codes "B" ∷ x ∷ []; name = n; home = (0, 4); values = int ∷ [] } ∷ [] in

@@ -1,15 +1,13 @@
--- What tables tell of bodies and of definitions that are made.
-use Rattle.std.proofs.Common.{◌≡◌, Ordering, Less, Equal, Greater, ℕ, Bool, true, false, ◌||◌, ◌&&◌, cond, List, [], ◌∷◌, ◌++◌, Option, Some, None, is_some, map, refl, sym, ap, ap₂, subst, ◌∙◌, string_bytes, String, Global, Vec}
+-- What tables tell of definitions that are made.
+use Rattle.std.proofs.Common.{◌≡◌, Ordering, Less, Equal, Greater, ℕ, Bool, true, false, ◌||◌, ◌&&◌, cond, List, [], ◌∷◌, ◌++◌, Option, Some, None, is_some, map, refl, sym, ap, subst, ◌∙◌, string_bytes, String, Global, Vec}
 use Rattle.std.specs.Borrow.{Bor}
 use Rattle.std.specs.BTreeMap as tree
 use Rattle.std.specs.BTreeMap.{BTreeMap}
 use Rattle.std.specs.Cmp.Lexicographic.{slice_cmp, pointwise_decides}
-use Rattle.std.specs.Map.{update, lookup, IsKeyTest, AreApart as Separate, KeepsOthers}
+use Rattle.std.specs.Map.{lookup, IsKeyTest, AreApart as Separate, KeepsOthers}
 use Rattle.std.specs.Option.{option_map, unwrap_or}
 use Rattle.std.specs.Ordering.{is_eq, nat_cmp, ordering_then, eq_by_cmp}
 use Rattle.std.specs.Str.{bytes_eq}
-use Rattle.std.proofs.lemmas.List.{append-nil, map-append}
-use Rattle.std.proofs.lemmas.List.Elements.{filter-append}
 use Rattle.std.proofs.lemmas.List.Folds.{list_any-append}
 use Rattle.std.proofs.lemmas.Map.Text.{is_eq-slice_cmp}
 use Rattle.std.proofs.lemmas.Slice.Eq.{bytes_eq-Decides}
@@ -17,63 +15,14 @@ use Rattle.cs_grammar.specs.Tree.{DefinitionTree}
 use Rattle.cs_names.specs.Lifted.{is_defined}
 use Rattle.cs_names.specs.Taken.{TellsTaken}
 use Rattle.cs_names.proofs.Free.{told_same}
-use Rattle.cs_names.proofs.Tables.{or_nothing, or_true}
-use Rattle.cs_selectors.specs.Checks.{TellsBodies, TellsGifts, TellsNames, body_view, entry_items, given_view, name_at, path_cmp, texts_at, lack_on}
+use Rattle.cs_plain.specs.Bodies.{Body, TellsBodies}
+use Rattle.cs_plain.proofs.Texts.{or_nothing, or_true}
+use Rattle.cs_selectors.specs.Checks.{TellsGifts, TellsNames, given_view, name_at, path_cmp, texts_at, lack_on}
 use Rattle.cs_selectors.specs.Given as G
 use Rattle.cs_selectors.specs.Given.{Path, AreApart, is_path, is_given, is_taken, known}
 use Rattle.cs_selectors.specs.Reached.{texts}
 use Rattle.cs_selectors.specs.Selectors.{names_by}
-use Rattle.cs_selectors.specs.Uses as U
-use Rattle.cs_selectors.specs.Uses.{body_of, bodies_of}
-use Rattle.cs_selectors.specs.declared.bodies.Bodies.{Bodies}
-use Rattle.cs_selectors.specs.declared.bodies.Body as rust
 use Rattle.cs_selectors.specs.declared.given.Giving.{Giving}
-
--- ---- bodies
-
-abbrev Table : Type 0
-Table = BTreeMap (Bor (List ℕ)) (Vec rust.Body Global)
-
-abbrev pub at_name : List ℕ → Table → Option (Vec rust.Body Global)
-at_name s m = tree.get_by (λ k. slice_cmp nat_cmp s k.now) m
-
-abbrev pub vec_items : Option (Vec rust.Body Global) → List rust.Body
-vec_items None = []
-vec_items (Some v) = v.items
-
-same_items : (o : Option (Vec rust.Body Global)) → map body_view (vec_items o) ≡ entry_items o
-same_items None = refl
-same_items (Some v) = refl
-
-pub no_bodies : (b : Bodies) → b.by_name.entries ≡ [] → b.none.items ≡ [] → TellsBodies b []
-no_bodies b empty none = record { table = λ s. ap entry_items (empty_at s); none = none }
-  where
-    empty_at : (s : List ℕ) → at_name s b.by_name ≡ None
-    empty_at s = rw empty refl
-
-abbrev only_if : Bool → U.Body → List U.Body
-only_if b x = cond b (x ∷ []) []
-
-bodies_push : (t : List ℕ) (bs : List U.Body) (x : U.Body) → bodies_of t (bs ++ x ∷ []) ≡ bodies_of t bs ++ only_if (bytes_eq x.name t) x
-bodies_push t bs x = filter-append (λ (b : U.Body). bytes_eq b.name t) bs (x ∷ [])
-
--- a body is put behind others
-module _ (m r n : Table) (bs : List U.Body) (x : U.Body) (b : rust.Body) (w v : Vec rust.Body Global) (name : List ℕ) (told : (s : List ℕ) → entry_items (at_name s m) ≡ bodies_of s bs) (is : body_view b ≡ x) (same : name ≡ x.name) where
-  pub bodies_added : w.items ≡ vec_items (at_name name m) → v.items ≡ w.items ++ b ∷ []
-      → ((t : List ℕ) → at_name t r ≡ update bytes_eq (λ s. at_name s m) name None t)
-      → ((t : List ℕ) → at_name t n ≡ update bytes_eq (λ s. at_name s r) name (Some v) t)
-      → (t : List ℕ) → entry_items (at_name t n) ≡ bodies_of t (bs ++ x ∷ [])
-  bodies_added taken grown without after t =
-      ap entry_items (after t) ∙ by (bytes_eq name t) refl ∙ ap (λ s. bodies_of t bs ++ only_if (bytes_eq s t) x) same ∙ sym (bodies_push t bs x)
-    where
-      whole : map body_view v.items ≡ bodies_of name bs ++ x ∷ []
-      whole =
-          ap (map body_view) grown ∙ map-append body_view w.items (b ∷ [])
-          ∙ ap₂ (λ es e. es ++ e ∷ []) (ap (map body_view) taken ∙ same_items (at_name name m) ∙ told name) is
-
-      by : (c : Bool) → bytes_eq name t ≡ c → entry_items (cond c (Some v) (at_name t r)) ≡ bodies_of t bs ++ only_if c x
-      by true h = whole ∙ ap (λ s. bodies_of s bs ++ x ∷ []) ((bytes_eq-Decides name t).0 h)
-      by false h = ap entry_items (without t ∙ ap (λ c. cond c None (at_name t m)) h) ∙ told t ∙ sym (append-nil (bodies_of t bs))
 
 -- ---- paths
 
@@ -229,7 +178,7 @@ pub nothing_apart : (all : List DefinitionTree) → AreApart all []
 nothing_apart all = record { paths = λ p q s h k. cc; undefined = λ p s h. cc }
 
 -- one more is made
-pub gifts_added : (m n : Giving) (all : List DefinitionTree) (bs : List U.Body) (gs : List G.Given) (g : G.Given) → TellsGifts m all bs gs → known gs g.path ≡ None → is_taken all gs g.name ≡ false → lack_on bs g.path ≡ None
+pub gifts_added : (m n : Giving) (all : List DefinitionTree) (bs : List Body) (gs : List G.Given) (g : G.Given) → TellsGifts m all bs gs → known gs g.path ≡ None → is_taken all gs g.name ≡ false → lack_on bs g.path ≡ None
     → n.bodies ≡ m.bodies
     → TellsTaken n.names all (λ s. is_given gs s || bytes_eq g.name s)
     → ((p : Path) → name_at n p ≡ cond (is_path g.path p) (Some g.name) (name_at m p))
@@ -257,7 +206,7 @@ gifts_added m n all bs gs g told new free reached held named placed grown = reco
     well_by p s (there e is) = rw (← e) reached
 
 -- another table of the names that are taken tells as much
-pub named_again : (m n : Giving) (all : List DefinitionTree) (bs : List U.Body) (gs : List G.Given) → TellsGifts m all bs gs → TellsTaken n.names all (is_given gs)
+pub named_again : (m n : Giving) (all : List DefinitionTree) (bs : List Body) (gs : List G.Given) → TellsGifts m all bs gs → TellsTaken n.names all (is_given gs)
     → n.bodies ≡ m.bodies → n.known ≡ m.known → n.order ≡ m.order → TellsGifts n all bs gs
 named_again m n all bs gs told names bodies known order = record {
   bodies = subst (λ b. TellsBodies b.now bs) (sym bodies) told.bodies;
@@ -285,11 +234,11 @@ pub found_at : (m : Giving) (p : List (Bor (List ℕ))) → option_map string_by
 found_at m p = ap (option_map string_bytes) (looked_up p m.known)
 
 -- a path is in the table just where it is known
-pub known_there : (m : Giving) (all : List DefinitionTree) (bs : List U.Body) (gs : List G.Given) (p : List (Bor (List ℕ))) → TellsGifts m all bs gs
+pub known_there : (m : Giving) (all : List DefinitionTree) (bs : List Body) (gs : List G.Given) (p : List (Bor (List ℕ))) → TellsGifts m all bs gs
     → (b : Bool) → b ≡ is_some (tree.get_by (λ (k : Key). slice_cmp text_cmp p k.items) m.known) → is_some (known gs (texts_at p)) ≡ b
 known_there m all bs gs p told b is =
     ap is_some (sym (told.known (texts_at p))) ∙ same_there string_bytes (at_path (texts_at p) m.known) ∙ ap is_some (sym (looked_up p m.known)) ∙ sym is
 
 -- so the tables tell the names of selectors
-pub names_told : (m : Giving) (all : List DefinitionTree) (bs : List U.Body) (gs : List G.Given) → TellsGifts m all bs gs → TellsNames m (names_by gs)
+pub names_told : (m : Giving) (all : List DefinitionTree) (bs : List Body) (gs : List G.Given) → TellsGifts m all bs gs → TellsNames m (names_by gs)
 names_told m all bs gs told s ls = ap (λ o. unwrap_or o s) (told.known (s ∷ texts ls))

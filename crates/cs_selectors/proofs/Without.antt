@@ -5,12 +5,16 @@ use Rattle.std.specs.List.{AllByRecursion, list_any, flat_map}
 use Rattle.cs_grammar.specs.Tree.{Selector, Tree, atom, named, reference, conjunction, disjunction, paren, struct, list, wide, marked, merged, shut, selected, Declarations, no_declaration, declared, embedded, conditional, Trees, none, more, Fields, no_field, field, End, closed, any, each, DefinitionTree, definition, body, FileTree, file}
 use Rattle.cs_grammar.specs.Written.{Place, by_itself, of_bar, of_amp, IsWritten, AreWritten, AreWrittenFields, AreWrittenDeclarations, IsWrittenEnd, IsWrittenDefinition, IsWrittenFile}
 use Rattle.cs_names.specs.Lifted.{all_definitions}
-use Rattle.cs_names.specs.Selecting.{referring, referring_each, referring_fields, referring_declarations, referring_end, referring_definition}
 use Rattle.cs_names.proofs.Truths.{neither, left_of, right_of}
-use Rattle.cs_selectors.specs.Given.{Given, gifts, with_all}
+use Rattle.cs_plain.specs.Bodies.{bodies_in}
+use Rattle.cs_plain.specs.Placed.{in_places}
+use Rattle.cs_plain.specs.Selecting.{referring, referring_each, referring_fields, referring_declarations, referring_end, referring_definition}
+use Rattle.cs_plain.proofs.Stays.{nothing_in_places}
+use Rattle.cs_selectors.specs.Given.{Given, given_names, gifts, with_all}
 use Rattle.cs_selectors.specs.Having.{has_selector, some_has, fields_have, declarations_have, end_has, have_selectors}
-use Rattle.cs_selectors.specs.Selectors.{names_by, together, added_at, added, unselected_from, fault_of, AreUnselected}
-use Rattle.cs_selectors.specs.Uses.{uses, uses_each, uses_fields, uses_declarations, uses_end, uses_of, uses_from, bodies_in}
+use Rattle.cs_selectors.specs.Selectors.{names_by, together, added_at, added, unselected_from, unselected_files, fault_of, AreUnselected}
+use Rattle.cs_selectors.specs.Uses.{uses, uses_each, uses_fields, uses_declarations, uses_end, uses_of, uses_from}
+use Rattle.cs_selectors.proofs.Placed.{in_places_have_none}
 use Rattle.cs_selectors.proofs.Tables.{nothing_apart}
 
 nothing : {X : Type 0} (xs ys : List X) → xs ≡ [] → ys ≡ [] → xs ++ ys ≡ []
@@ -120,7 +124,7 @@ files_stand fs h = record {
   few = let none : length (uses_from 0 fs) ≡ 0 = ap length (files_unused 0 fs h) in omega (arith, none);
   faultless = ap (flat_map (fault_of (bodies_in fs))) (files_unused 0 fs h);
   apart = rw (no_gifts fs h) (nothing_apart (all_definitions fs));
-  unselected = sym (ap (λ gs. unselected_from gs 0 fs) (no_gifts fs h) ∙ files_stay 0 fs h);
+  unselected = sym (ap (λ gs. in_places (given_names gs) (unselected_from gs 0 fs)) (no_gifts fs h) ∙ ap (in_places []) (files_stay 0 fs h) ∙ nothing_in_places fs);
 }
 
 -- ---- what can be written down has none
@@ -234,4 +238,4 @@ all_left_none gs i (file p ds ns ∷ fs) =
     (both_none by (map (referring_definition by) ds) (added by i gs) (definitions_left_none by ds) (added_have_none by i gs)) (all_left_none gs (suc i) fs)
 
 pub unselected_have_none : (fs gs : List FileTree) → AreUnselected fs gs → have_selectors gs ≡ false
-unselected_have_none fs gs h = rw h.unselected (all_left_none (gifts fs) 0 fs)
+unselected_have_none fs gs h = rw h.unselected (in_places_have_none (given_names (gifts fs)) (unselected_files fs) (all_left_none (gifts fs) 0 fs))

@@ -11,13 +11,15 @@ use Rattle.cs_grammar.specs.Written.{Place, by_itself, of_bar, of_amp, AreTwo, I
 use Rattle.cs_names.specs.Having.{is_hidden}
 use Rattle.cs_names.specs.Joined.{is_every}
 use Rattle.cs_names.specs.Lifted.{all_definitions}
-use Rattle.cs_names.specs.Selecting.{head, referring, referring_each, referring_fields, referring_declarations, referring_end, referring_definition, IsSelectingFile}
 use Rattle.cs_names.proofs.Spelled.{AreNameBytes, longer, free_good}
-use Rattle.cs_selectors.specs.Given.{Given, Path, gifts, given, known, is_path, is_taken, path, wanted, with_given, with_all}
+use Rattle.cs_plain.specs.Bodies.{Body, body_of, bodies_in, bodies_of, values_of}
+use Rattle.cs_plain.specs.Selecting.{head, referring, referring_each, referring_fields, referring_declarations, referring_end, referring_definition, IsSelectingFile}
+use Rattle.cs_plain.proofs.InPlaces.{written_in_places}
+use Rattle.cs_selectors.specs.Given.{Given, Path, gifts, given, given_names, known, is_path, is_taken, path, wanted, with_given, with_all}
 use Rattle.cs_selectors.specs.Reached.{is_left_out, texts, declarations_for, declarations_within, declarations_in, step, values_in, lack, lack_in}
-use Rattle.cs_selectors.specs.Selectors.{names_by, in_parens, together, added_at, added, unselected_from, fault_of, at_fault, AreUnselected}
+use Rattle.cs_selectors.specs.Selectors.{names_by, operand, operands, together, added_at, added, unselected_from, unselected_files, fault_of, at_fault, AreUnselected}
 use Rattle.cs_selectors.specs.Uses as U
-use Rattle.cs_selectors.specs.Uses.{Use, uses, uses_each, uses_fields, uses_declarations, uses_end, uses_of, uses_from, Body, body_of, bodies_in, bodies_of, values_of}
+use Rattle.cs_selectors.specs.Uses.{Use, uses, uses_each, uses_fields, uses_declarations, uses_end, uses_of, uses_from}
 use Rattle.cs_selectors.specs.declared.lack.Lack.{Lack}
 use Rattle.cs_selectors.specs.declared.lack.Lack.TheVariants as lacks
 
@@ -273,14 +275,25 @@ named_good gs h s ls k = by (known gs (s ∷ texts ls)) refl
 -- ---- files
 
 module _ (by : List ℕ → List Selector → List ℕ) (good : (s : List ℕ) (ls : List Selector) → IsDefinitionName s → IsDefinitionName (by s ls)) where
-  parens_written : (es : List Tree) → AreValues es → AreWritten of_amp (referring_each by (in_parens es))
-  parens_written [] h = tt
-  parens_written (e ∷ es) h = (retold by good by_itself e h.0, parens_written es h.1)
+  operand_written : (e : Tree) → IsValue e → IsWritten of_amp (referring by (operand e))
+  operand_written (atom a) h = h
+  operand_written (named s o) h = h
+  operand_written (reference s o) h = h
+  operand_written (conjunction es) h = retold by good by_itself (conjunction es) h
+  operand_written (disjunction es) h = retold by good by_itself (disjunction es) h
+  operand_written (paren e) h = retold by good by_itself (paren e) h
+  operand_written (struct o fs b) h = retold by good by_itself (struct o fs b) h
+  operand_written (list es end) h = retold by good by_itself (list es end) h
+  operand_written (wide w) h = retold by good by_itself (wide w) h
+
+  operands_written : (es : List Tree) → AreValues es → AreWritten of_amp (referring_each by (operands es))
+  operands_written [] h = tt
+  operands_written (e ∷ es) h = (operand_written e h.0, operands_written es h.1)
 
   together_written : (es : List Tree) → AreValues es → IsWritten by_itself (referring by (together es))
   together_written [] h = tt
   together_written (e ∷ []) h = retold by good by_itself e h.0
-  together_written (e ∷ f ∷ es) h = (tt, tt, parens_written (e ∷ f ∷ es) h)
+  together_written (e ∷ f ∷ es) h = (tt, tt, operands_written (e ∷ f ∷ es) h)
 
   added_written : (i : ℕ) (gs : List Given) → AreGood gs → AllByRecursion IsWrittenDefinition (added by i gs)
   added_written i [] h = tt
@@ -305,4 +318,4 @@ files_written gs h i (file c ds ns ∷ fs) k =
 pub unselected_written : (fs gs : List FileTree) → AreUnselected fs gs → AllByRecursion IsSelectingFile fs → AllByRecursion IsWrittenFile gs
 unselected_written fs gs h k =
     let good = all_good (all_definitions fs) (bodies_in fs) (files_bodies fs k) [] (uses_from 0 fs) tt (files_heads 0 fs k) h.faultless in
-    subst (AllByRecursion IsWrittenFile) (sym h.unselected) (files_written (gifts fs) good 0 fs k)
+    subst (AllByRecursion IsWrittenFile) (sym h.unselected) (written_in_places (given_names (gifts fs)) (unselected_files fs) (files_written (gifts fs) good 0 fs k))

@@ -14,16 +14,15 @@ use Rattle.cs_grammar.specs.View.{Seen, SeenDeclaration, field_seen, embedding_s
 use Rattle.cs_grammar.specs.declared.ast.Expr.{Expr}
 use Rattle.cs_grammar.specs.declared.ast.Field.{Field}
 use Rattle.cs_names.specs.Joined.{is_every}
-use Rattle.cs_names.specs.Selecting.{referring}
 use Rattle.cs_names.specs.Taken.{TellsTaken}
+use Rattle.cs_plain.specs.Bodies.{Body, TellsBodies, values_of}
+use Rattle.cs_plain.specs.Selecting.{referring}
 use Rattle.cs_selectors.specs.Given as G
 use Rattle.cs_selectors.specs.Given.{Path, AreApart, is_given}
 use Rattle.cs_selectors.specs.Having.{has_selector}
 use Rattle.cs_selectors.specs.Reached.{texts, lack_in}
 use Rattle.cs_selectors.specs.Uses as U
-use Rattle.cs_selectors.specs.Uses.{Place, bodies_of, values_of, uses}
-use Rattle.cs_selectors.specs.declared.bodies.Bodies.{Bodies}
-use Rattle.cs_selectors.specs.declared.bodies.Body as rust
+use Rattle.cs_selectors.specs.Uses.{Place, uses}
 use Rattle.cs_selectors.specs.declared.fault.SelectorFault.{SelectorFault}
 use Rattle.cs_selectors.specs.declared.fault.SelectorFault.TheVariants as refused
 use Rattle.cs_selectors.specs.declared.given.Given as code
@@ -84,18 +83,6 @@ seen_has (field_seen f) = has_selector f.value
 seen_has (embedding_seen o e) = has_selector e
 seen_has (conditional_seen o cs e) = has_selector e
 
-abbrev pub body_view : rust.Body → U.Body
-body_view b = record { name = b.name.now; value = expr_view b.value.now }
-
-abbrev pub entry_items : Option (Vec rust.Body Global) → List U.Body
-entry_items None = []
-entry_items (Some v) = map body_view v.items
-
--- the table has the bodies of each definition
-pub record TellsBodies (b : Bodies) (bs : List U.Body) : Type 0 where
-  pub table : (s : List ℕ) → entry_items (tree.get_by (λ k. slice_cmp nat_cmp s k.now) b.by_name) ≡ bodies_of s bs
-  pub none : b.none.items ≡ []
-
 abbrev pub is_for_seen : List ℕ → Seen → Bool
 is_for_seen s f = is_every f.mark || bytes_eq f.label.text s
 
@@ -123,12 +110,12 @@ abbrev pub name_at : Giving → Path → Option (List ℕ)
 name_at g p = option_map string_bytes (tree.get_by (λ k. path_cmp p k.items) g.known)
 
 -- what is lacking where a path leads
-abbrev pub lack_on : List U.Body → Path → Option Lack
+abbrev pub lack_on : List Body → Path → Option Lack
 lack_on bs [] = None
 lack_on bs (s ∷ ss) = lack_in (values_of s bs) ss
 
 -- the tables have what is made, beside the definitions of all files, which have these bodies
-pub record TellsGifts (g : Giving) (all : List DefinitionTree) (bs : List U.Body) (gs : List G.Given) : Type 0 where
+pub record TellsGifts (g : Giving) (all : List DefinitionTree) (bs : List Body) (gs : List G.Given) : Type 0 where
   pub bodies : TellsBodies g.bodies.now bs
   pub names : TellsTaken g.names all (is_given gs)
   pub known : (p : Path) → name_at g p ≡ G.known gs p

@@ -1,13 +1,14 @@
 -- The definitions that selectors are made (own rule): `#B.x.y` is `#B_x_y`, with the least number from 1 behind it where that is taken by a definition of
 -- the files or of another selector. Selectors with one definition and equal labels have one.
-use Rattle.std.specs.Prelude.{◌≡◌, ℕ, Bool, false, ◌||◌, List, [], ◌∷◌, ◌++◌, Option, Some, None, is_some, if◌then◌else◌}
+use Rattle.std.specs.Prelude.{◌≡◌, ℕ, Bool, false, ◌||◌, List, [], ◌∷◌, ◌++◌, map, Option, Some, None, is_some, if◌then◌else◌}
 use Rattle.std.specs.Cmp.Lexicographic.{pointwise}
 use Rattle.std.specs.List.{list_any, flat_map}
 use Rattle.std.specs.Str.{bytes_eq}
 use Rattle.cs_grammar.specs.Tree.{Tree, DefinitionTree, FileTree}
 use Rattle.cs_names.specs.Lifted.{free, is_defined, all_definitions}
+use Rattle.cs_plain.specs.Bodies.{Body, bodies_in, values_of}
 use Rattle.cs_selectors.specs.Reached.{texts, values_in}
-use Rattle.cs_selectors.specs.Uses.{Place, Use, Body, uses_from, bodies_in, values_of}
+use Rattle.cs_selectors.specs.Uses.{Place, Use, uses_from}
 
 -- the definition before the labels, and then they
 abbrev pub Path : Type 0
@@ -37,6 +38,9 @@ wanted s ts = s ++ flat_map (λ t. 95 ∷ t) ts
 
 abbrev pub is_given : List Given → List ℕ → Bool
 is_given gs s = list_any (λ g. bytes_eq g.name s) gs
+
+abbrev pub given_names : List Given → List (List ℕ)
+given_names gs = map (λ g. g.name) gs
 
 abbrev pub is_taken : List DefinitionTree → List Given → List ℕ → Bool
 is_taken all gs s = is_defined all s || is_given gs s

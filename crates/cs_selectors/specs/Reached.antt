@@ -10,7 +10,8 @@ use Rattle.cs_grammar.specs.declared.ast.FieldMark.{FieldMark}
 use Rattle.cs_grammar.specs.declared.ast.FieldMark.TheVariants.{Regular, Optional, Required, Every}
 use Rattle.cs_names.specs.Having.{is_hidden}
 use Rattle.cs_names.specs.Joined.{is_every}
-use Rattle.cs_selectors.specs.Uses.{Use, Body, values_of}
+use Rattle.cs_plain.specs.Bodies.{Body, values_of}
+use Rattle.cs_selectors.specs.Uses.{Use}
 use Rattle.cs_selectors.specs.declared.lack.Lack.{Lack}
 use Rattle.cs_selectors.specs.declared.lack.Lack.TheVariants.{LeftOut, Unknown, NotRegular}
 

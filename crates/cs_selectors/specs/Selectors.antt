@@ -5,10 +5,12 @@ use Rattle.std.specs.Option.{unwrap_or}
 use Rattle.cs_grammar.specs.Atom.{top}
 use Rattle.cs_grammar.specs.Tree.{Selector, Tree, atom, paren, conjunction, Trees, none, more, DefinitionTree, definition, FileTree, file, package_name, definitions, names}
 use Rattle.cs_names.specs.Lifted.{all_definitions}
-use Rattle.cs_names.specs.Selecting.{referring, referring_definition}
-use Rattle.cs_selectors.specs.Given.{Given, known, gifts, AreApart}
-use Rattle.cs_selectors.specs.Reached.{texts, lack}
-use Rattle.cs_selectors.specs.Uses.{Place, Use, Body, uses_from, bodies_in}
+use Rattle.cs_plain.specs.Bodies.{Body, bodies_in}
+use Rattle.cs_plain.specs.Placed.{in_places}
+use Rattle.cs_plain.specs.Selecting.{referring, referring_definition}
+use Rattle.cs_selectors.specs.Given.{Given, known, given_names, gifts, AreApart}
+use Rattle.cs_selectors.specs.Reached.{is_single, texts, lack}
+use Rattle.cs_selectors.specs.Uses.{Place, Use, uses_from}
 use Rattle.cs_selectors.specs.declared.fault.SelectorFault.{SelectorFault}
 use Rattle.cs_selectors.specs.declared.fault.SelectorFault.TheVariants as refused
 use Rattle.cs_selectors.specs.declared.lack.Lack.{Lack}
@@ -20,15 +22,19 @@ use Rattle.cs_selectors.specs.declared.lack.Lack.TheVariants as lacks
 abbrev pub names_by : List Given → List ℕ → List Selector → List ℕ
 names_by gs s ls = unwrap_or (known gs (s ∷ texts ls)) s
 
-abbrev pub in_parens : List Tree → Trees
-in_parens [] = none
-in_parens (e ∷ es) = more (paren e) (in_parens es)
+-- an expression of one node needs no parentheses
+abbrev pub operand : Tree → Tree
+operand e = if is_single e then e else paren e
+
+abbrev pub operands : List Tree → Trees
+operands [] = none
+operands (e ∷ es) = more (operand e) (operands es)
 
 -- all values at once: one alone is itself (CUE, unification)
 abbrev pub together : List Tree → Tree
 together [] = atom top
 together (e ∷ []) = e
-together (e ∷ f ∷ es) = conjunction (in_parens (e ∷ f ∷ es))
+together (e ∷ f ∷ es) = conjunction (operands (e ∷ f ∷ es))
 
 module _ (by : List ℕ → List Selector → List ℕ) (i : ℕ) where
   -- a definition that is made, in the file i, if the first of its selectors is there
@@ -69,12 +75,13 @@ most_selectors = 4096
 abbrev pub AreFew : List FileTree → Type 0
 AreFew fs = length (uses_from 0 fs) ≤ most_selectors
 
--- there are few, nothing is at fault, each selector has a definition of its own, and the files gs are what the files fs stand for
+-- there are few, nothing is at fault, each selector has a definition of its own, and the files gs are what the files fs stand for, where plain values stand
+-- in the places of the selectors
 pub record AreUnselected (fs gs : List FileTree) : Type 0 where
   pub few : AreFew fs
   pub faultless : selector_faults fs ≡ []
   pub apart : AreApart (all_definitions fs) (gifts fs)
-  pub unselected : gs ≡ unselected_files fs
+  pub unselected : gs ≡ in_places (given_names (gifts fs)) (unselected_files fs)
 
 abbrev pub IsFirst : List FileTree → Place × Lack → Type 0
 IsFirst fs x = AreFew fs × (slice_get (selector_faults fs) 0 ≡ Some x)

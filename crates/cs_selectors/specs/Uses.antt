@@ -1,8 +1,7 @@
--- The selectors of files, and the bodies of their definitions, in order of the files and of the text.
-use Rattle.std.specs.Prelude.{ℕ, suc, List, [], ◌∷◌, ◌++◌, map, filter}
+-- The selectors of files, in order of the files and of the text.
+use Rattle.std.specs.Prelude.{ℕ, suc, List, [], ◌∷◌, ◌++◌}
 use Rattle.std.specs.List.{flat_map}
-use Rattle.std.specs.Str.{bytes_eq}
-use Rattle.cs_grammar.specs.Tree.{Selector, Tree, atom, named, reference, conjunction, disjunction, paren, struct, list, wide, Wide, marked, merged, shut, selected, Declarations, no_declaration, declared, embedded, conditional, Trees, none, more, Fields, no_field, field, End, closed, any, each, DefinitionTree, definition, FileTree, definitions}
+use Rattle.cs_grammar.specs.Tree.{Selector, Tree, atom, named, reference, conjunction, disjunction, paren, struct, list, wide, Wide, marked, merged, shut, selected, Declarations, no_declaration, declared, embedded, conditional, Trees, none, more, Fields, no_field, field, End, closed, any, each, DefinitionTree, FileTree, definitions}
 use Rattle.cs_grammar.specs.Tree as T
 
 -- the number of a file, and an offset there
@@ -63,22 +62,3 @@ uses_of i ds = flat_map (λ d. uses i (T.body d)) ds
 abbrev pub uses_from : ℕ → List FileTree → List Use
 uses_from i [] = []
 uses_from i (f ∷ fs) = uses_of i (definitions f) ++ uses_from (suc i) fs
-
--- ---- bodies
-
--- a body of a definition, and its name
-pub record Body : Type 0 where
-  pub name : List ℕ
-  pub value : Tree
-
-abbrev pub body_of : DefinitionTree → Body
-body_of (definition s o e) = record { name = s; value = e }
-
-abbrev pub bodies_in : List FileTree → List Body
-bodies_in fs = flat_map (λ f. map body_of (definitions f)) fs
-
-abbrev pub bodies_of : List ℕ → List Body → List Body
-bodies_of s bs = filter (λ b. bytes_eq b.name s) bs
-
-abbrev pub values_of : List ℕ → List Body → List Tree
-values_of s bs = map (λ b. b.value) (bodies_of s bs)

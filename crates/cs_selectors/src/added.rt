@@ -2,28 +2,40 @@
 ghost use Rattle.std.specs.Prelude.{◌≡◌, ◌++◌, ℕ, List, map, IfOk, OnOk};
 ghost use Rattle.cs_grammar.specs.Tree as Tree;
 ghost use Rattle.cs_grammar.specs.View.{expr_view, exprs_view, definition_view, file_view};
-ghost use Rattle.cs_names.specs.Selecting.{referring, referring_each, referring_definition};
+ghost use Rattle.cs_plain.specs.Bodies.{Body};
+ghost use Rattle.cs_plain.specs.Selecting.{referring, referring_each, referring_definition};
 ghost use Rattle.cs_selectors.specs.Checks.{TellsNames, TellsGifts, given_view, tree_at};
 ghost use Rattle.cs_selectors.specs.Given as Gifts;
 ghost use Rattle.cs_selectors.specs.Selectors as Spec;
-ghost use Rattle.cs_selectors.specs.Selectors.{in_parens, unselected_file, unselected_from};
-ghost use Rattle.cs_selectors.specs.Uses.{Body};
+ghost use Rattle.cs_selectors.specs.Selectors.{operand, operands, unselected_file, unselected_from};
 
 use crate::given::{Given, Giving};
+use crate::reached::is_single;
 use crate::replaced::Referring;
 use cs_grammar::{Definition, Expr, File, copied_names};
 use std::alloc::AllocError;
 
 impl<'a> Referring<'_, '_, 'a> {
-    /// Values in parentheses, without selectors.
-    fn in_parens(&self, values: &[&'a Expr]) -> Result<Vec<Expr>, AllocError>
+    /// A value as an operand, without selectors: in parentheses, unless it is one node.
+    fn operand(&self, value: &'a Expr) -> Result<Expr, AllocError>
         ensures { (by : List ℕ → List Tree.Selector → List ℕ) → TellsNames self.now.giving.now by
-            → IfOk result (λ v. exprs_view v.items ≡ referring_each by (in_parens (map tree_at values.now))) }
+            → IfOk result (λ e. expr_view e ≡ referring by (operand (expr_view value.now))) }
+    {
+        let referring = self.referring(value)?;
+        if is_single(value) {
+            return Ok(referring);
+        }
+        Ok(Expr::Paren(Box::new(self.alloc, referring)?))
+    }
+
+    /// Values as operands, without selectors.
+    fn operands(&self, values: &[&'a Expr]) -> Result<Vec<Expr>, AllocError>
+        ensures { (by : List ℕ → List Tree.Selector → List ℕ) → TellsNames self.now.giving.now by
+            → IfOk result (λ v. exprs_view v.items ≡ referring_each by (operands (map tree_at values.now))) }
     {
         let mut operands = Vec::with_capacity(self.alloc, values.len())?;
         for value in values {
-            let value = self.referring(*value)?;
-            operands.push(Expr::Paren(Box::new(self.alloc, value)?))?;
+            operands.push(self.operand(*value)?)?;
         }
         Ok(operands)
     }
@@ -36,7 +48,7 @@ impl<'a> Referring<'_, '_, 'a> {
         match values {
             [] => Ok(Expr::Top),
             [value] => self.referring(*value),
-            _ => Ok(Expr::And(self.in_parens(values)?)),
+            _ => Ok(Expr::And(self.operands(values)?)),
         }
     }
 

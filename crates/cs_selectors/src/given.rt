@@ -4,20 +4,20 @@ ghost use Rattle.std.specs.List.{flat_map};
 ghost use Rattle.cs_grammar.specs.Tree.{DefinitionTree};
 ghost use Rattle.cs_grammar.specs.View.{file_view, selector_view};
 ghost use Rattle.cs_names.specs.Lifted.{all_definitions};
-ghost use Rattle.cs_selectors.specs.Checks.{TellsBodies, TellsGifts, Finds, FailsAny, FindsAny, lack_on, name_at, use_view, texts_at, tree_at};
+ghost use Rattle.cs_plain.specs.Bodies.{Body, TellsBodies};
+ghost use Rattle.cs_selectors.specs.Checks.{TellsGifts, Finds, FailsAny, FindsAny, lack_on, name_at, use_view, texts_at, tree_at};
 ghost use Rattle.cs_selectors.specs.Given as Spec;
 ghost use Rattle.cs_selectors.specs.Given.{with_given, with_all};
 ghost use Rattle.cs_selectors.specs.Reached.{lack, texts};
 ghost use Rattle.cs_selectors.specs.Selectors.{fault_of};
-ghost use Rattle.cs_selectors.specs.Uses as Uses;
 
 use crate::SelectorFault;
-use crate::bodies::Bodies;
 use crate::lack::{Lack, Stop};
 use crate::reached::{reached, some_left_out};
 use crate::uses::Use;
 use cs_grammar::{Expr, File, Selector};
 use cs_names::TakenNames;
+use cs_plain::Bodies;
 use std::alloc::{AllocError, Global};
 use std::collections::BTreeMap;
 
@@ -93,7 +93,7 @@ impl<'b, 'a> Giving<'b, 'a> {
         files: &'a [File],
         bodies: &'b Bodies<'a>,
     ) -> Result<Giving<'b, 'a>, AllocError>
-        ensures { (bs : List Uses.Body) → TellsBodies bodies.now bs
+        ensures { (bs : List Body) → TellsBodies bodies.now bs
             → IfOk result (λ g. TellsGifts g (all_definitions (map file_view files.now)) bs []) }
     {
         Ok(Giving {
@@ -123,8 +123,9 @@ impl<'b, 'a> Giving<'b, 'a> {
         home: (usize, usize),
         values: Vec<&'a Expr>,
     ) -> Result<(), AllocError>
-        ensures { OnOk result ((all : List DefinitionTree) (bs : List Uses.Body) (gs : List Spec.Given) → TellsGifts self.old all bs gs
-            → Spec.known gs (texts_at path.entry.items) ≡ None → Spec.is_taken all gs (string_bytes name) ≡ false → lack_on bs (texts_at path.entry.items) ≡ None
+        ensures { OnOk result ((all : List DefinitionTree) (bs : List Body) (gs : List Spec.Given) → TellsGifts self.old all bs gs
+            → Spec.known gs (texts_at path.entry.items) ≡ None → Spec.is_taken all gs (string_bytes name) ≡ false
+            → lack_on bs (texts_at path.entry.items) ≡ None
             → TellsGifts self.new all bs
             (gs ++ record { path = texts_at path.entry.items; name = string_bytes name; home = home; values = map tree_at values.entry.items } ∷ [])) }
     {
@@ -146,8 +147,9 @@ impl<'b, 'a> Giving<'b, 'a> {
         selector: &Use<'a>,
         values: Vec<&'a Expr>,
     ) -> Result<(), AllocError>
-        ensures { OnOk result ((all : List DefinitionTree) (bs : List Uses.Body) (gs : List Spec.Given) → TellsGifts self.old all bs gs
-            → texts_at path.entry.items ≡ Spec.path (use_view selector.now) → map tree_at values.entry.items ≡ (Spec.given all bs gs (use_view selector.now)).values
+        ensures { OnOk result ((all : List DefinitionTree) (bs : List Body) (gs : List Spec.Given) → TellsGifts self.old all bs gs
+            → texts_at path.entry.items ≡ Spec.path (use_view selector.now)
+            → map tree_at values.entry.items ≡ (Spec.given all bs gs (use_view selector.now)).values
             → Spec.known gs (texts_at path.entry.items) ≡ None → lack_on bs (texts_at path.entry.items) ≡ None
             → TellsGifts self.new all bs (gs ++ Spec.given all bs gs (use_view selector.now) ∷ [])) }
     {
@@ -158,9 +160,9 @@ impl<'b, 'a> Giving<'b, 'a> {
 
     /// Adds the definition that a selector is made, if it isn't there already. `Err` has what it lacks.
     fn give(&mut self, selector: &Use<'a>) -> Result<(), Stop>
-        ensures found { (all : List DefinitionTree) (bs : List Uses.Body) (gs : List Spec.Given) → TellsGifts self.old all bs gs
+        ensures found { (all : List DefinitionTree) (bs : List Body) (gs : List Spec.Given) → TellsGifts self.old all bs gs
             → Finds result (lack bs (use_view selector.now)) }
-        ensures given { OnOk result ((all : List DefinitionTree) (bs : List Uses.Body) (gs : List Spec.Given) → TellsGifts self.old all bs gs
+        ensures given { OnOk result ((all : List DefinitionTree) (bs : List Body) (gs : List Spec.Given) → TellsGifts self.old all bs gs
             → TellsGifts self.new all bs (with_given all bs gs (use_view selector.now))) }
     {
         if some_left_out(selector.labels) {
@@ -178,9 +180,9 @@ impl<'b, 'a> Giving<'b, 'a> {
 
     /// The same of selectors, in their order. `Err` has what the first one lacks that lacks anything.
     fn give_all(&mut self, selectors: &[Use<'a>]) -> Result<(), SelectorFault>
-        ensures found { (all : List DefinitionTree) (bs : List Uses.Body) (gs : List Spec.Given) → TellsGifts self.old all bs gs
+        ensures found { (all : List DefinitionTree) (bs : List Body) (gs : List Spec.Given) → TellsGifts self.old all bs gs
             → FindsAny result (flat_map (fault_of bs) (map use_view selectors.now)) }
-        ensures given { OnOk result ((all : List DefinitionTree) (bs : List Uses.Body) (gs : List Spec.Given) → TellsGifts self.old all bs gs
+        ensures given { OnOk result ((all : List DefinitionTree) (bs : List Body) (gs : List Spec.Given) → TellsGifts self.old all bs gs
             → TellsGifts self.new all bs (with_all all bs gs (map use_view selectors.now))) }
     {
         for selector in selectors {
@@ -200,8 +202,8 @@ impl<'b, 'a> Giving<'b, 'a> {
         bodies: &'b Bodies<'a>,
         selectors: &[Use<'a>],
     ) -> Result<Giving<'b, 'a>, SelectorFault>
-        ensures found { (bs : List Uses.Body) → TellsBodies bodies.now bs → FindsAny result (flat_map (fault_of bs) (map use_view selectors.now)) }
-        ensures given { (bs : List Uses.Body) → TellsBodies bodies.now bs → IfOk result (λ g. TellsGifts g (all_definitions (map file_view files.now)) bs
+        ensures found { (bs : List Body) → TellsBodies bodies.now bs → FindsAny result (flat_map (fault_of bs) (map use_view selectors.now)) }
+        ensures given { (bs : List Body) → TellsBodies bodies.now bs → IfOk result (λ g. TellsGifts g (all_definitions (map file_view files.now)) bs
             (with_all (all_definitions (map file_view files.now)) bs [] (map use_view selectors.now))) }
     {
         let mut giving = Giving::new(alloc, files, bodies)?;

@@ -3,7 +3,7 @@ ghost use Rattle.std.specs.Prelude.{◌≡◌, false, List};
 ghost use Rattle.std.specs.List.{AllByRecursion};
 ghost use Rattle.cs_grammar.specs.Tree.{FileTree};
 ghost use Rattle.cs_grammar.specs.Written.{IsWrittenFile};
-ghost use Rattle.cs_names.specs.Selecting.{IsSelectingFile};
+ghost use Rattle.cs_plain.specs.Selecting.{IsSelectingFile};
 ghost use Rattle.cs_selectors.specs.Having.{have_selectors};
 ghost use Rattle.cs_selectors.specs.Selectors.{AreUnselected};
 

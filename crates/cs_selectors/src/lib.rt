@@ -2,7 +2,6 @@
 #![tactic(auto)]
 
 mod added;
-mod bodies;
 mod fault;
 mod files;
 mod given;

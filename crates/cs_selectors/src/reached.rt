@@ -5,13 +5,14 @@ ghost use Rattle.cs_grammar.specs.Spelling.{is_name_byte};
 ghost use Rattle.cs_grammar.specs.View.{expr_view, field_view, fields_view, selector_view};
 ghost use Rattle.cs_names.specs.Having.{is_hidden};
 ghost use Rattle.cs_names.specs.Joined.{is_every};
-ghost use Rattle.cs_selectors.specs.Checks.{Reaches, body_view, field_at, is_for_seen, only_for, tree_at};
+ghost use Rattle.cs_plain.specs.Bodies.{body_view};
+ghost use Rattle.cs_selectors.specs.Checks.{Reaches, field_at, is_for_seen, only_for, tree_at};
 ghost use Rattle.cs_selectors.specs.Reached as Spec;
 ghost use Rattle.cs_selectors.specs.Reached.{declarations_for, declarations_within, declarations_in, lack_of, lack_here, lack_in, step, texts, values_in};
 
-use crate::bodies::Body;
 use crate::lack::{Lack, Stop};
 use cs_grammar::{Expr, Field, FieldMark, Selector, atom};
+use cs_plain::Body;
 use std::alloc::{AllocError, Global};
 
 /// How many values a label may have.
@@ -190,7 +191,7 @@ fn some_regular(fields: &[&Field]) -> bool
 }
 
 /// Whether an expression is one node.
-fn is_single(value: &Expr) -> bool
+pub(crate) fn is_single(value: &Expr) -> bool
     ensures { result ≡ Spec.is_single (expr_view value.now) }
 {
     match value {

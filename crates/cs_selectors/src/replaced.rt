@@ -2,12 +2,12 @@
 ghost use Rattle.std.specs.Prelude.{◌≡◌, ℕ, List, map, IfOk, string_bytes};
 ghost use Rattle.cs_grammar.specs.Tree as Tree;
 ghost use Rattle.cs_grammar.specs.View.{expr_view, exprs_view, field_view, fields_view, declaration_view, declarations_view, end_view, wide_view, selector_view};
-ghost use Rattle.cs_names.specs.Selecting as Spec;
+ghost use Rattle.cs_plain.specs.Selecting as Spec;
 ghost use Rattle.cs_selectors.specs.Checks.{TellsNames, referring_field_seen, referring_seen, referring_wide};
 
 use crate::given::{Giving, path_of};
 use cs_grammar::{Declaration, Expr, Field, ListEnd, Selector, Wide, atom};
-use cs_names::copy_conditions;
+use cs_plain::copy_conditions;
 use std::alloc::{AllocError, Global};
 
 /// Makes selectors references.

@@ -24,6 +24,8 @@ use Rattle.cs_defaults.specs.Widened.{handing_on, mark_faults}
 use Rattle.cs_embeddings.specs.Size.{size_of_files}
 use Rattle.cs_embeddings.specs.Without.{IsJoined, IsWithin, flaws_of_files, clashes_of_files, joined_files}
 use Rattle.cs_names.specs.Names.{AreNamed, name_faults}
+use Rattle.cs_plain.specs.Placed.{in_places}
+use Rattle.cs_selectors.specs.Given.{given_names, gifts}
 use Rattle.cs_selectors.specs.Selectors.{AreFew, AreUnselected, selector_faults, unselected_files}
 use Rattle.cs_tool.specs.FilesIn.{AreFilesIn}
 use Rattle.cs_widen.specs.Accepted.{IsAcceptedIn}
@@ -49,7 +51,7 @@ one_files p (s ∷ ss) (f ∷ fs) (g ∷ gs) a b =
 pub one_meant : (fs gs hs : List FileTree) → AreMeant fs gs → AreMeant fs hs → gs ≡ hs
 one_meant fs gs hs a b =
     let named = a.are_named.named ∙ sym b.are_named.named in
-    let unselected = a.are_unselected.unselected ∙ ap unselected_files named ∙ sym b.are_unselected.unselected in
+    let unselected = a.are_unselected.unselected ∙ ap (λ ns. in_places (given_names (gifts ns)) (unselected_files ns)) named ∙ sym b.are_unselected.unselected in
     let chosen = a.are_chosen.chosen ∙ ap (λ us. map (chosen_file (known_in us)) us) unselected ∙ sym b.are_chosen.chosen in
     let joined = a.are_joined.joined ∙ ap joined_files chosen ∙ sym b.are_joined.joined in
     a.unmarked.unmarked ∙ ap (λ js. map (unmarked_file (handing_on js)) js) joined ∙ sym b.unmarked.unmarked

@@ -15,7 +15,7 @@ use Rattle.cs_defaults.specs.Unmarked.{unmarked_file}
 use Rattle.cs_defaults.specs.Widened.{IsUnmarked, handing_on}
 use Rattle.cs_embeddings.specs.Without.{IsJoined, IsWithin}
 use Rattle.cs_names.specs.Names.{AreNamed}
-use Rattle.cs_names.specs.Selecting.{IsSelectingFile}
+use Rattle.cs_plain.specs.Selecting.{IsSelectingFile}
 use Rattle.cs_print.specs.Printed.{IsPrinted, IsReadAs}
 use Rattle.cs_selectors.specs.Selectors.{AreUnselected}
 use Rattle.cs_tool.specs.Accepted.{AreFiles}

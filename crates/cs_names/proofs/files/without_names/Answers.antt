@@ -1,14 +1,16 @@
 use Rattle.std.proofs.Common.{◌≡◌, true, [], ◌++◌, map, ap, ◌∙◌, subst}
 use Rattle.std.proofs.lemmas.Result.{err_from_is_err_and}
 use Rattle.cs_grammar.specs.View.{file_view}
+use Rattle.cs_plain.specs.Placed.{in_places}
+use Rattle.cs_plain.specs.References.{references_in}
 use Rattle.cs_names.specs.Checks.{FailsAny, path_view}
 use Rattle.cs_names.specs.Flaws.{flaws_in}
-use Rattle.cs_names.specs.Joined.{unused, joined, references_in}
+use Rattle.cs_names.specs.Joined.{unused, joined}
 use Rattle.cs_names.specs.Lifted.{all_definitions, lifts, shared}
-use Rattle.cs_names.specs.Named.{named_files}
+use Rattle.cs_names.specs.Named.{named_files, value_names}
 use Rattle.cs_names.specs.Names.{name_faults}
 use Rattle.cs_names.proofs.Found.{fails_left, fails_right, refusal, no_fault}
-use Rattle.cs_names.proofs.Walks.{none_left}
+use Rattle.cs_plain.proofs.Walks.{none_left}
 use Rattle.cs_names.proofs.files.without_names.Goals as goal
 
 pub returns-in_err-check_files-clause-refused : goal.returns-in_err-check_files-clause-refused
@@ -57,8 +59,10 @@ returns-clause-found c =
     let tells = c.in_ok-lifting.ensures told in
     let named = c.in_ok-named.ensures all ts (shared fs) tells told in
     let is : map file_view c.deref-2.result.now ≡ gs = ap (map file_view) c.deref-2.ensures.value ∙ named in
+    let before : map file_view c.deref-3.result.now ≡ gs = ap (map file_view) c.deref-3.ensures.value ∙ named in
+    let placed = c.in_ok-in_places.ensures (value_names ts) (c.in_ok-names.ensures all ts tells) in
     let rest = subst (λ xs. unused (references_in true xs) ts ++ joined xs ts ≡ []) is (c.in_ok-check_named.ensures all ts tells) in record {
       faultless = none_left (flaws_in fs) (unused (references_in true gs) ts ++ joined gs ts) (c.in_ok-check_files.ensures all ts (shared fs) tells told) ∙ rest;
       apart = tells.apart;
-      named = named;
+      named = placed ∙ ap (in_places (value_names ts)) before;
     }

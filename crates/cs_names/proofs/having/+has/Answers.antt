@@ -3,7 +3,7 @@ use Rattle.cs_grammar.specs.View.{declaration_view, declarations_view, field_vie
 use Rattle.cs_names.specs.Checks.{seen_has, field_has}
 use Rattle.cs_names.specs.Having.{declarations_have, fields_have}
 use Rattle.cs_names.proofs.Parts.{has_parts, field_has_parts}
-use Rattle.cs_names.proofs.Walks.{none_more, one_here, none_at_all}
+use Rattle.cs_plain.proofs.Walks.{none_more, one_here, none_at_all}
 use Rattle.cs_names.proofs.having.+has.Goals as goal
 
 pub declarations_have-returns-then-declaration_has : goal.declarations_have-returns-then-declaration_has

@@ -1,6 +1,6 @@
 use Rattle.std.proofs.Common.{ℕ, List, ◌++◌, map, take}
 use Rattle.cs_grammar.specs.View.{definition_view}
-use Rattle.cs_names.specs.Checks.{TellsTexts}
+use Rattle.cs_plain.specs.References.{TellsTexts}
 use Rattle.cs_names.specs.Joined as Spec
 use Rattle.cs_names.proofs.held.add_definitions.Given as goal
 

@@ -1,9 +1,9 @@
 use Rattle.std.proofs.Common.{rules, ◌≡◌, true, cond, [], ◌∷◌, ◌++◌, sym, ap, ◌∙◌, subst}
 use Rattle.cs_grammar.specs.Tree.{body, defined_name}
 use Rattle.cs_grammar.specs.View.{definition_view}
-use Rattle.cs_names.specs.Checks.{TellsTexts}
+use Rattle.cs_plain.proofs.Texts.{texts_put}
+use Rattle.cs_plain.specs.References.{TellsTexts}
 use Rattle.cs_names.specs.Joined as Spec
-use Rattle.cs_names.proofs.Tables.{texts_put}
 use Rattle.cs_names.proofs.held.add_holding.Goals as goal
 
 pub returns-in_ok-insert : goal.returns-in_ok-insert

@@ -1,5 +1,6 @@
 use Rattle.std.proofs.Common.{◌≡◌, ℕ, List, map, drop}
-use Rattle.cs_names.specs.Checks.{TellsTexts, lifted_view}
+use Rattle.cs_plain.specs.References.{TellsTexts}
+use Rattle.cs_names.specs.Checks.{lifted_view}
 use Rattle.cs_names.specs.Joined as Spec
 use Rattle.cs_names.proofs.held.find_held.Given as goal
 

@@ -1,6 +1,6 @@
 use Rattle.std.proofs.Common.{map, take}
 use Rattle.cs_grammar.specs.View.{file_view}
-use Rattle.cs_names.specs.Checks.{TellsTexts}
+use Rattle.cs_plain.specs.References.{TellsTexts}
 use Rattle.cs_names.specs.Joined as Spec
 use Rattle.cs_names.proofs.held.holding_in.Given as goal
 

@@ -3,7 +3,7 @@ use Rattle.std.proofs.lemmas.List.{map-append}
 use Rattle.cs_grammar.specs.View.{file_view}
 use Rattle.cs_names.specs.Lifted.{known, is_open}
 use Rattle.cs_names.specs.Named as Spec
-use Rattle.cs_names.proofs.Folds.{numbered_more}
+use Rattle.cs_plain.proofs.Folds.{numbered_more}
 use Rattle.cs_names.proofs.inside.named_files.Goals as goal
 
 pub loop-file-preserved : goal.loop-file-preserved

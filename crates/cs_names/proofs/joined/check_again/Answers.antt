@@ -1,9 +1,10 @@
 use Rattle.std.proofs.Common.{◌≡◌, [], ◌+◌, map, take, drop, refl, sym, ap, ◌∙◌, subst}
-use Rattle.cs_names.specs.Checks.{TellsTexts, lifted_view}
+use Rattle.cs_plain.specs.References.{TellsTexts}
+use Rattle.cs_names.specs.Checks.{lifted_view}
 use Rattle.cs_names.specs.Joined.{again, inner_text}
-use Rattle.cs_names.proofs.Folds.{gathered_more}
+use Rattle.cs_plain.proofs.Folds.{gathered_more}
 use Rattle.cs_names.proofs.Found.{inner_texts, again_more}
-use Rattle.cs_names.proofs.Walks.{at_place}
+use Rattle.cs_plain.proofs.Walks.{at_place}
 use Rattle.cs_names.proofs.joined.check_again.Goals as goal
 
 pub loop-lifted-preserved : goal.loop-lifted-preserved

@@ -1,5 +1,6 @@
 use Rattle.std.proofs.Common.{◌≡◌, [], map, take, drop}
-use Rattle.cs_names.specs.Checks.{TellsTexts, lifted_view}
+use Rattle.cs_plain.specs.References.{TellsTexts}
+use Rattle.cs_names.specs.Checks.{lifted_view}
 use Rattle.cs_names.specs.Joined as Spec
 use Rattle.cs_names.proofs.Found.{inner_texts}
 use Rattle.cs_names.proofs.joined.check_again.Given as goal

@@ -1,5 +1,5 @@
 use Rattle.std.proofs.Common.{◌≡◌, true, false, cond, [], ◌∷◌, ◌++◌, sym, subst, ◌∙◌, IfOk}
-use Rattle.cs_names.specs.Checks.{TellsTexts}
+use Rattle.cs_plain.specs.References.{TellsTexts}
 use Rattle.cs_names.specs.Joined as Spec
 use Rattle.cs_names.proofs.joined.is_declared_again.Goals as goal
 

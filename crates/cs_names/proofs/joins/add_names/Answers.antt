@@ -1,11 +1,11 @@
 use Rattle.std.proofs.Common.{◌≡◌, [], ◌∷◌, ◌++◌, ◌+◌, false, map, take, drop, refl, sym, ap, ◌∙◌, subst, string_bytes, append_assoc}
 use Rattle.cs_grammar.specs.Tree.{defined_name}
 use Rattle.cs_grammar.specs.View.{definition_view}
-use Rattle.cs_names.specs.Checks.{TellsTexts}
-use Rattle.cs_names.specs.Joined.{repeats, is_among}
-use Rattle.cs_names.proofs.Folds.{gathered_more}
+use Rattle.cs_plain.specs.References.{TellsTexts, is_among}
+use Rattle.cs_names.specs.Joined.{repeats}
+use Rattle.cs_plain.proofs.Folds.{gathered_more}
 use Rattle.cs_names.proofs.Tables.{first_time}
-use Rattle.cs_names.proofs.Walks.{at_place}
+use Rattle.cs_plain.proofs.Walks.{at_place}
 use Rattle.cs_names.proofs.joins.add_names.Goals as goal
 
 pub loop-definition-preserved : goal.loop-definition-preserved

@@ -1,7 +1,7 @@
 use Rattle.std.proofs.Common.{◌≡◌, ℕ, List, ◌++◌, map, take, drop}
 use Rattle.cs_grammar.specs.View.{definition_view}
 use Rattle.cs_grammar.specs.Tree.{defined_name}
-use Rattle.cs_names.specs.Checks.{TellsTexts}
+use Rattle.cs_plain.specs.References.{TellsTexts}
 use Rattle.cs_names.specs.Joined as Spec
 use Rattle.cs_names.proofs.joins.add_names.Given as goal
 

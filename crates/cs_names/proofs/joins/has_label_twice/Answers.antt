@@ -1,11 +1,11 @@
 use Rattle.std.proofs.Common.{◌≡◌, false, [], ◌∷◌, ◌++◌, ◌+◌, take, drop, refl, sym, ap, ◌∙◌, subst, string_bytes}
 use Rattle.cs_grammar.specs.View.{fields_view}
 use Rattle.cs_grammar.proofs.Views.{view-text}
-use Rattle.cs_names.specs.Checks.{TellsTexts}
-use Rattle.cs_names.specs.Joined.{labels, repeats, has_twice, is_among}
-use Rattle.cs_names.proofs.Folds.{gathered_more}
+use Rattle.cs_plain.specs.References.{TellsTexts, is_among}
+use Rattle.cs_names.specs.Joined.{labels, repeats, has_twice}
+use Rattle.cs_plain.proofs.Folds.{gathered_more}
 use Rattle.cs_names.proofs.Tables.{first_time}
-use Rattle.cs_names.proofs.Walks.{at_place}
+use Rattle.cs_plain.proofs.Walks.{at_place}
 use Rattle.cs_names.proofs.joins.has_label_twice.Goals as goal
 
 pub loop-field-preserved : goal.loop-field-preserved

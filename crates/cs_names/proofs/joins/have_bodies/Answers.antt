@@ -4,11 +4,11 @@ use Rattle.std.specs.List.{flat_map}
 use Rattle.cs_grammar.specs.Tree.{defined_name, definitions}
 use Rattle.cs_grammar.specs.View.{file_view}
 use Rattle.cs_grammar.specs.declared.ast.File.{File}
-use Rattle.cs_names.specs.Checks.{TellsTexts}
+use Rattle.cs_plain.specs.References.{TellsTexts}
 use Rattle.cs_names.specs.Joined.{repeats}
-use Rattle.cs_names.proofs.Folds.{gathered_more}
+use Rattle.cs_plain.proofs.Folds.{gathered_more}
 use Rattle.cs_names.proofs.Tables.{repeats-append}
-use Rattle.cs_names.proofs.Walks.{at_place}
+use Rattle.cs_plain.proofs.Walks.{at_place}
 use Rattle.cs_names.proofs.joins.have_bodies.Goals as goal
 
 abbrev own_names : File → List (List ℕ)

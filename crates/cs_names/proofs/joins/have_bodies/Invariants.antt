@@ -2,7 +2,7 @@ use Rattle.std.proofs.Common.{◌≡◌, [], map, take, drop}
 use Rattle.cs_grammar.specs.View.{file_view}
 use Rattle.std.specs.List.{flat_map}
 use Rattle.cs_grammar.specs.Tree.{defined_name, definitions}
-use Rattle.cs_names.specs.Checks.{TellsTexts}
+use Rattle.cs_plain.specs.References.{TellsTexts}
 use Rattle.cs_names.specs.Joined as Spec
 use Rattle.cs_names.proofs.joins.have_bodies.Given as goal
 

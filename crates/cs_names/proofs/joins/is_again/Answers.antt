@@ -1,4 +1,4 @@
-use Rattle.cs_names.proofs.Tables.{texts_put}
+use Rattle.cs_plain.proofs.Texts.{texts_put}
 use Rattle.cs_names.proofs.joins.is_again.Goals as goal
 
 pub returns-clause-seen : goal.returns-clause-seen

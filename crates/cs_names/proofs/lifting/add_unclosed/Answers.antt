@@ -2,8 +2,8 @@ use Rattle.std.proofs.Common.{◌≡◌, Bool, true, false, ◌||◌, ◌&&◌, 
 use Rattle.std.proofs.lemmas.Map.Text.{btree_set_updates_text}
 use Rattle.std.specs.BTreeSet as sorted
 use Rattle.std.specs.Str.{bytes_eq}
+use Rattle.cs_plain.proofs.Texts.{or_nothing, or_true}
 use Rattle.cs_names.specs.Lifted.{is_open_origin}
-use Rattle.cs_names.proofs.Tables.{or_true, or_nothing}
 use Rattle.cs_names.proofs.lifting.add_unclosed.Goals as goal
 
 by_name : (old b : Bool) → cond b true old ≡ (old || b)

@@ -1,7 +1,7 @@
 use Rattle.std.proofs.Common.{◌++◌, map, refl, sym, ap₂, ◌∙◌}
 use Rattle.cs_grammar.specs.Tree.{definitions}
 use Rattle.cs_grammar.specs.View.{definition_view, file_view}
-use Rattle.cs_names.proofs.Folds.{numbered_more}
+use Rattle.cs_plain.proofs.Folds.{numbered_more}
 use Rattle.cs_names.specs.Nested.{nested_of, nested_from}
 use Rattle.cs_names.proofs.nested.paths_in.Goals as goal
 

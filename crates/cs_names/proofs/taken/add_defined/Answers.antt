@@ -3,7 +3,7 @@ use Rattle.std.proofs.lemmas.List.{map-append}
 use Rattle.cs_grammar.specs.View.{definition_view}
 use Rattle.cs_names.specs.Taken.{TellsDefined}
 use Rattle.cs_names.proofs.Tables.{defined_put}
-use Rattle.cs_names.proofs.Walks.{take_at}
+use Rattle.cs_plain.proofs.Walks.{take_at}
 use Rattle.cs_names.proofs.taken.add_defined.Goals as goal
 
 pub loop-definition-preserved : goal.loop-definition-preserved

@@ -1,7 +1,7 @@
 use Rattle.std.proofs.Common.{[], ◌∷◌, ◌++◌, map, refl, sym, ap, ap₂, ◌∙◌}
 use Rattle.std.proofs.lemmas.List.{map-append, take_all}
 use Rattle.cs_grammar.specs.View.{file_view}
-use Rattle.cs_names.proofs.Folds.{numbered_more}
+use Rattle.cs_plain.proofs.Folds.{numbered_more}
 use Rattle.cs_selectors.specs.Selectors.{names_by, unselected_file, unselected_from}
 use Rattle.cs_selectors.proofs.Tables.{names_told}
 use Rattle.cs_selectors.proofs.added.unselected_files.Goals as goal

@@ -1,6 +1,6 @@
 use Rattle.std.proofs.Common.{refl, sym, ◌∙◌}
 use Rattle.cs_grammar.specs.View.{declaration_view, declarations_view}
-use Rattle.cs_names.proofs.Walks.{none_more, one_here, none_at_all}
+use Rattle.cs_plain.proofs.Walks.{none_more, one_here, none_at_all}
 use Rattle.cs_selectors.specs.Checks.{seen_has}
 use Rattle.cs_selectors.specs.Having.{declarations_have}
 use Rattle.cs_selectors.proofs.Parts.{has_parts}

@@ -1,7 +1,7 @@
 use Rattle.std.proofs.Common.{◌++◌, map, take, refl, sym, ap, ◌∙◌, append_assoc}
 use Rattle.std.proofs.lemmas.List.{take_all}
 use Rattle.cs_grammar.specs.View.{field_view, fields_view}
-use Rattle.cs_names.proofs.Folds.{gathered_more}
+use Rattle.cs_plain.proofs.Folds.{gathered_more}
 use Rattle.cs_selectors.specs.Checks.{field_at, only_for}
 use Rattle.cs_selectors.specs.Reached.{declarations_for}
 use Rattle.cs_selectors.proofs.Parts.{for_parts}

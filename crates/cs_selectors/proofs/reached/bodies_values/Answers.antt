@@ -1,8 +1,9 @@
 use Rattle.std.proofs.Common.{map, refl, sym, ap, ◌∙◌}
 use Rattle.std.proofs.lemmas.List.{take_all}
 use Rattle.std.proofs.lemmas.Simd.{map-map}
-use Rattle.cs_names.proofs.Walks.{map_pushed}
-use Rattle.cs_selectors.specs.Checks.{tree_at, body_view}
+use Rattle.cs_plain.specs.Bodies.{body_view}
+use Rattle.cs_plain.proofs.Walks.{map_pushed}
+use Rattle.cs_selectors.specs.Checks.{tree_at}
 use Rattle.cs_selectors.proofs.reached.bodies_values.Goals as goal
 
 pub loop-body-preserved : goal.loop-body-preserved

@@ -1,6 +1,6 @@
 use Rattle.std.proofs.Common.{◌++◌, map, refl, sym, ap, ◌∙◌}
 use Rattle.std.proofs.lemmas.List.{take_all}
-use Rattle.cs_names.proofs.Folds.{gathered_more}
+use Rattle.cs_plain.proofs.Folds.{gathered_more}
 use Rattle.cs_selectors.specs.Checks.{tree_at}
 use Rattle.cs_selectors.specs.Reached.{declarations_in, declarations_within}
 use Rattle.cs_selectors.proofs.reached.declarations_in.Goals as goal

@@ -1,8 +1,9 @@
 use Rattle.std.proofs.Common.{◌+◌, map, drop, sym, ap, ap₂, subst, ◌∙◌}
 use Rattle.std.proofs.lemmas.Result.{err_from_is_err_and}
 use Rattle.cs_grammar.specs.View.{selector_view}
-use Rattle.cs_names.proofs.Walks.{at_place}
-use Rattle.cs_selectors.specs.Checks.{EndsAt, body_view, tree_at}
+use Rattle.cs_plain.specs.Bodies.{body_view}
+use Rattle.cs_plain.proofs.Walks.{at_place}
+use Rattle.cs_selectors.specs.Checks.{EndsAt, tree_at}
 use Rattle.cs_selectors.specs.Reached.{lack_here, texts, step}
 use Rattle.cs_selectors.proofs.Found.{reached_more, reached_not}
 use Rattle.cs_selectors.proofs.reached.reached.Goals as goal

@@ -1,6 +1,7 @@
 use Rattle.std.proofs.Common.{◌≡◌, map, drop}
 use Rattle.cs_grammar.specs.View.{selector_view}
-use Rattle.cs_selectors.specs.Checks.{tree_at, body_view}
+use Rattle.cs_plain.specs.Bodies.{body_view}
+use Rattle.cs_selectors.specs.Checks.{tree_at}
 use Rattle.cs_selectors.specs.Reached.{lack_in, values_in, texts}
 use Rattle.cs_selectors.proofs.reached.reached.Given as goal
 

@@ -2,7 +2,7 @@ use Rattle.std.proofs.Common.{map, sym, ap, ◌∙◌}
 use Rattle.std.proofs.lemmas.List.{take_all}
 use Rattle.std.proofs.lemmas.Simd.{map-map}
 use Rattle.cs_grammar.proofs.Views.{view-value}
-use Rattle.cs_names.proofs.Walks.{map_pushed}
+use Rattle.cs_plain.proofs.Walks.{map_pushed}
 use Rattle.cs_selectors.specs.Checks.{tree_at, field_at}
 use Rattle.cs_selectors.proofs.reached.values_of.Goals as goal
 

@@ -1,7 +1,7 @@
 use Rattle.std.proofs.Common.{◌++◌, map, take, refl, sym, ap, ◌∙◌, append_assoc}
 use Rattle.std.proofs.lemmas.List.{take_all}
 use Rattle.cs_grammar.specs.View.{expr_view, definition_view}
-use Rattle.cs_names.proofs.Folds.{gathered_more}
+use Rattle.cs_plain.proofs.Folds.{gathered_more}
 use Rattle.cs_selectors.specs.Checks.{use_view}
 use Rattle.cs_selectors.specs.Uses as Spec
 use Rattle.cs_selectors.proofs.uses.add_definitions.Goals as goal

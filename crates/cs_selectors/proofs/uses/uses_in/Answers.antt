@@ -1,7 +1,7 @@
 use Rattle.std.proofs.Common.{◌++◌, map, refl, sym, ap, ◌∙◌}
 use Rattle.std.proofs.lemmas.List.{take_all}
 use Rattle.cs_grammar.specs.View.{definition_view, file_view}
-use Rattle.cs_names.proofs.Folds.{numbered_more}
+use Rattle.cs_plain.proofs.Folds.{numbered_more}
 use Rattle.cs_selectors.specs.Checks.{use_view}
 use Rattle.cs_selectors.specs.Uses.{uses_from, uses_of}
 use Rattle.cs_selectors.proofs.Parts.{file_uses}

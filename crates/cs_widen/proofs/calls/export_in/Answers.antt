@@ -8,8 +8,14 @@ use Rattle.cs_tool.specs.Given.{bytes_in}
 use Rattle.cs_tool.specs.declared.fault.Fault.{Fault}
 use Rattle.cs_widen.specs.Calls.{IsExportIn, RefusesIn}
 use Rattle.cs_widen.specs.Meant.{StandForIn}
-use Rattle.cs_widen.proofs.Judgements.{by_meant, by_themselves, exported, ready, ready_themselves, memory_alone, refused_meant, refused_themselves}
+use Rattle.cs_widen.proofs.Judgements.{by_meant, by_themselves, exported, ready, ready_themselves, memory_alone, refused_meant, refused_themselves, refused_before}
 use Rattle.cs_widen.proofs.calls.export_in.Goals as goal
+
+pub returns-in_err-meant-clause-refused : goal.returns-in_err-meant-clause-refused
+returns-in_err-meant-clause-refused c =
+    let e = c.in_err-meant.field-0.0 in
+    let p = err_from_is_err_and c.from_residual.result c.from_residual.ensures.1 in
+    rw (p.1, p.2) (refused_before (bytes_in c.args.sources.now) (λ judged. ExportRefusal judged c.args.root.now e) c.args.profile e c.in_err-meant.ensures.refused)
 
 pub returns-in_err-meant-clause-only : goal.returns-in_err-meant-clause-only
 returns-in_err-meant-clause-only c = λ d.

@@ -7,7 +7,7 @@ use Rattle.cs_tool.specs.Given.{bytes_in}
 use Rattle.cs_tool.specs.declared.fault.Fault.{Fault}
 use Rattle.cs_widen.specs.Calls.{IsVerdictIn, RefusesIn}
 use Rattle.cs_widen.specs.Meant.{StandForIn}
-use Rattle.cs_widen.proofs.Judgements.{by_meant, by_themselves, judged_in, memory_alone, declare_themselves, ready_to_vet, refused_meant, refused_themselves}
+use Rattle.cs_widen.proofs.Judgements.{by_meant, by_themselves, judged_in, memory_alone, declare_themselves, ready_to_vet, refused_meant, refused_themselves, refused_before}
 use Rattle.cs_widen.proofs.calls.vet_in.Goals as goal
 
 pub returns-in-Some-clause-found : goal.returns-in-Some-clause-found
@@ -47,6 +47,12 @@ returns-in-None-clause-refused c =
     let stand = subst (λ s. StandForIn p ss s) (ap (option_map string_bytes) c.in-None.is) c.in_ok-meant.ensures.found in
     IfErr-weaker c.vet-in-None.result (λ (e : Fault). VetRefusal ss c.args.root.now c.args.doc.now e) (λ (e : Fault). RefusesIn p ss (λ judged. VetRefusal judged c.args.root.now c.args.doc.now e) e)
     (λ e h. refused_themselves ss (λ judged. VetRefusal judged c.args.root.now c.args.doc.now e) p e stand h) c.vet-in-None.ensures.refused
+
+pub returns-in_err-meant-clause-refused : goal.returns-in_err-meant-clause-refused
+returns-in_err-meant-clause-refused c =
+    let e = c.in_err-meant.field-0.0 in
+    let p = err_from_is_err_and c.from_residual.result c.from_residual.ensures.1 in
+    rw (p.1, p.2) (refused_before (bytes_in c.args.sources.now) (λ judged. VetRefusal judged c.args.root.now c.args.doc.now e) c.args.profile e c.in_err-meant.ensures.refused)
 
 pub returns-in_err-meant-clause-only : goal.returns-in_err-meant-clause-only
 returns-in_err-meant-clause-only c = λ r.

@@ -8,7 +8,7 @@ use Rattle.cs_tool.specs.Given.{bytes_in}
 use Rattle.cs_widen.proofs.Once.{no_name_fault, few_selectors, no_selector_fault, no_condition_fault, no_flaw, no_clash, within, no_fault}
 use Rattle.cs_widen.specs.Refused.{RefusalIn}
 use Rattle.cs_widen.specs.Stands.{AreMeantBy}
-use Rattle.cs_widen.proofs.Refusals.{by_mark, accepted_as, refused_as}
+use Rattle.cs_widen.proofs.Refusals.{by_condition, by_embedding, by_mark, accepted_as, refused_as}
 use Rattle.cs_widen.proofs.source.wide_files.Goals as goal
 
 pub returns-in_err-named-clause-only : goal.returns-in_err-named-clause-only
@@ -54,6 +54,30 @@ returns-in_err-joined-clause-only c = λ E accepted.
     let flawless = no_flaw ss fs spelled E accepted ns named us unselected cs chosen in
     let apart = no_clash ss fs spelled E accepted ns named us unselected cs chosen in
     rw (r.1, r.2) (c.in_err-joined.ensures.only flawless apart (within ss fs spelled E accepted ns named us unselected cs chosen))
+
+pub returns-in_err-chosen-clause-refused : goal.returns-in_err-chosen-clause-refused
+returns-in_err-chosen-clause-refused c =
+    let ss = bytes_in c.args.sources.now in
+    let fs = map file_view c.in_ok-spelled.spelled.items in
+    let ns = map file_view c.in_ok-named.named.items in
+    let us = map file_view c.in_ok-unselected.unselected.items in
+    let h = c.in_err-chosen.ensures.refused in
+    let r = err_from_is_err_and c.from_residual-in_err-chosen.result c.from_residual-in_err-chosen.ensures.1 in
+    rw (r.1, r.2) (subst (RefusalIn profiles.Wide ss) (sym h.1)
+    (by_condition ss c.in_ok-spelled.ensures.texts fs c.in_ok-spelled.ensures.spelled ns c.in_ok-named.ensures.found us c.in_ok-unselected.ensures.found h.0 h.2))
+
+pub returns-in_err-joined-clause-refused : goal.returns-in_err-joined-clause-refused
+returns-in_err-joined-clause-refused c =
+    let ss = bytes_in c.args.sources.now in
+    let fs = map file_view c.in_ok-spelled.spelled.items in
+    let ns = map file_view c.in_ok-named.named.items in
+    let us = map file_view c.in_ok-unselected.unselected.items in
+    let cs = map file_view c.deref.result.now in
+    let chosen = subst (λ zs. AreChosen us (map file_view zs)) (sym c.deref.ensures.value) c.in_ok-chosen.ensures.found in
+    let h = c.in_err-joined.ensures.refused in
+    let r = err_from_is_err_and c.from_residual-in_err-joined.result c.from_residual-in_err-joined.ensures.1 in
+    rw (r.1, r.2) (subst (RefusalIn profiles.Wide ss) (sym h.1)
+    (by_embedding ss c.in_ok-spelled.ensures.texts fs c.in_ok-spelled.ensures.spelled ns c.in_ok-named.ensures.found us c.in_ok-unselected.ensures.found cs chosen h.0 h.2))
 
 pub returns-clause-found : goal.returns-clause-found
 returns-clause-found c =

@@ -2,7 +2,7 @@ use Rattle.std.proofs.Common.{List, take, refl, sym, ap, ◌∙◌, subst}
 use Rattle.std.proofs.lemmas.List.{take_all}
 use Rattle.cs_grammar.specs.Tree.{DefinitionTree}
 use Rattle.cs_grammar.specs.View.{expr_view, exprs_view, field_view, fields_view, declaration_view, declarations_view, wide_view}
-use Rattle.cs_names.proofs.Folds.{folded_more}
+use Rattle.cs_plain.proofs.Folds.{folded_more}
 use Rattle.cs_names.specs.Checks.{TellsLifts, TellsScope, lift_seen_field, lift_seen}
 use Rattle.cs_names.specs.Lifted as Spec
 use Rattle.cs_names.specs.Scopes.{Scope, scope_of_fields, scope_of_declarations}

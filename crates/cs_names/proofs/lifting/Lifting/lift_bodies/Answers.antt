@@ -3,7 +3,7 @@ use Rattle.std.proofs.lemmas.List.{take_all}
 use Rattle.cs_grammar.specs.View.{expr_view, definition_view}
 use Rattle.cs_names.specs.Checks.{TellsLifts}
 use Rattle.cs_names.specs.Lifted as Spec
-use Rattle.cs_names.proofs.Folds.{folded_more}
+use Rattle.cs_plain.proofs.Folds.{folded_more}
 use Rattle.cs_names.proofs.lifting.Lifting.lift_bodies.Goals as goal
 
 pub loop-definition-preserved : goal.loop-definition-preserved

@@ -4,7 +4,7 @@ use Rattle.cs_grammar.specs.View.{file_view, name_view}
 use Rattle.cs_names.specs.Checks.{TellsLifts, TellsScope}
 use Rattle.cs_names.specs.Lifted as Spec
 use Rattle.cs_names.specs.Scopes.{bound_scope}
-use Rattle.cs_names.proofs.Folds.{counted_more}
+use Rattle.cs_plain.proofs.Folds.{counted_more}
 use Rattle.cs_names.proofs.lifting.Lifting.lift_names.Goals as goal
 
 pub loop-file-preserved : goal.loop-file-preserved

@@ -2,7 +2,7 @@ use Rattle.std.proofs.Common.{◌≡◌, ◌+◌, Some, None, map, take, refl, s
 use Rattle.cs_grammar.specs.View.{name_view}
 use Rattle.cs_names.specs.Checks.{TellsLifts}
 use Rattle.cs_names.specs.Lifted as Spec
-use Rattle.cs_names.proofs.Folds.{folded_more}
+use Rattle.cs_plain.proofs.Folds.{folded_more}
 use Rattle.cs_names.proofs.lifting.Lifting.lift_tops.Goals as goal
 use Rattle.cs_names.proofs.lifting.Lifting.lift_tops.Goals.{in-Some+in_ok-lift_top, in_default}
 

@@ -2,7 +2,7 @@ use Rattle.std.proofs.Common.{map, take, refl, sym, subst}
 use Rattle.cs_grammar.specs.View.{name_view}
 use Rattle.cs_names.specs.Checks.{TellsLifts}
 use Rattle.cs_names.specs.Lifted as Spec
-use Rattle.cs_names.proofs.Folds.{folded_more}
+use Rattle.cs_plain.proofs.Folds.{folded_more}
 use Rattle.cs_names.proofs.lifting.Lifting.lift_values.Goals as goal
 
 pub loop-name-preserved : goal.loop-name-preserved

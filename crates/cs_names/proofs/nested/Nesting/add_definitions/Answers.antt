@@ -1,7 +1,7 @@
 use Rattle.std.proofs.Common.{◌≡◌, ◌∷◌, ◌++◌, map, take, refl, sym, ap, ◌∙◌, append_assoc, string_bytes}
 use Rattle.cs_grammar.specs.Tree.{body, defined_name}
 use Rattle.cs_grammar.specs.View.{definition_view, expr_view}
-use Rattle.cs_names.proofs.Folds.{gathered_more}
+use Rattle.cs_plain.proofs.Folds.{gathered_more}
 use Rattle.cs_names.specs.Checks.{path_view}
 use Rattle.cs_names.specs.Nested.{nested_in, nested_of}
 use Rattle.cs_names.proofs.nested.Nesting.add_definitions.Goals as goal

@@ -1,7 +1,7 @@
 use Rattle.std.proofs.Common.{◌++◌, map, take, refl, sym, ap, ◌∙◌, append_assoc}
 use Rattle.std.proofs.lemmas.List.{take_all}
 use Rattle.cs_grammar.specs.View.{field_view, fields_view}
-use Rattle.cs_names.proofs.Folds.{gathered_more}
+use Rattle.cs_plain.proofs.Folds.{gathered_more}
 use Rattle.cs_names.specs.Checks.{path_view}
 use Rattle.cs_names.specs.Nested.{nested_by, nested_in_fields}
 use Rattle.cs_names.proofs.nested.Nesting.add_fields.Goals as goal

@@ -7,7 +7,7 @@ use Rattle.cs_grammar.proofs.Views.{view-List, view-Reference}
 use Rattle.cs_names.specs.Flaws as Spec
 use Rattle.cs_names.proofs.Parts.{flaws_field_parts, flaws_parts}
 use Rattle.cs_names.proofs.Found.{ends_left, ends_here}
-use Rattle.cs_names.proofs.Walks.{nothing_more, nothing_at_all}
+use Rattle.cs_plain.proofs.Walks.{nothing_more, nothing_at_all}
 use Rattle.cs_names.proofs.resolved.Naming.+flaws.Goals as goal
 
 pub check_each-loop-expr-init : goal.check_each-loop-expr-init

@@ -3,7 +3,7 @@ use Rattle.std.proofs.lemmas.List.{take_all}
 use Rattle.cs_grammar.specs.declared.ast.Expr as Exprs
 use Rattle.cs_grammar.specs.Tree.{DefinitionTree, definition}
 use Rattle.cs_grammar.specs.View.{expr_view, exprs_view, field_view, fields_view, declaration_view, declarations_view, definition_view, end_view, wide_view}
-use Rattle.cs_names.proofs.Folds.{gathered_more}
+use Rattle.cs_plain.proofs.Folds.{gathered_more}
 use Rattle.cs_grammar.specs.declared.ast.Declaration as Declarations
 use Rattle.cs_grammar.proofs.Views.{view-Struct, view-List, view-Merged, view-value, view-label}
 use Rattle.cs_names.specs.Checks.{TellsLifts, TellsScope, TellScopes, inside_field_seen, inside_seen}

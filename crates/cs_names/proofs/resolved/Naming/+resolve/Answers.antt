@@ -8,10 +8,10 @@ use Rattle.cs_names.specs.Checks.{TellsScope}
 use Rattle.cs_names.specs.Lifted.{known, is_open}
 use Rattle.cs_names.specs.Named as Spec
 use Rattle.cs_names.specs.Scopes.{scope_of_fields, scope_of_declarations, value_scope}
-use Rattle.cs_names.proofs.Folds.{gathered_more}
+use Rattle.cs_plain.proofs.Folds.{gathered_more}
 use Rattle.cs_names.proofs.Parts.{kept_field, kept_fields, kept_seen, kept_declarations, kept, lost, resolved_trees}
 use Rattle.cs_names.proofs.Tables.{inside_of}
-use Rattle.cs_names.proofs.Walks.{map_pushed}
+use Rattle.cs_plain.proofs.Walks.{map_pushed}
 use Rattle.cs_names.proofs.resolved.Naming.+resolve.Goals as goal
 use Rattle.cs_names.proofs.resolved.Naming.+resolve.Goals.{resolved_declarations-then-not-is_scoped+in_ok-resolved_declaration+in_ok-push, resolved_declarations-else-not-is_scoped}
 

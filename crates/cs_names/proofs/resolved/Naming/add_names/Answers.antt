@@ -1,7 +1,7 @@
 use Rattle.std.proofs.Common.{◌++◌, map, take, refl, sym, ap, ◌∙◌, append_assoc}
 use Rattle.std.proofs.lemmas.List.{take_all}
 use Rattle.cs_grammar.specs.View.{definition_view, name_view}
-use Rattle.cs_names.proofs.Folds.{gathered_more}
+use Rattle.cs_plain.proofs.Folds.{gathered_more}
 use Rattle.cs_names.specs.Lifted.{known, is_open}
 use Rattle.cs_names.specs.Named as Spec
 use Rattle.cs_names.proofs.resolved.Naming.add_names.Goals as goal

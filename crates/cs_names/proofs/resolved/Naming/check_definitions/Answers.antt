@@ -5,7 +5,7 @@ use Rattle.cs_grammar.specs.Tree.{body}
 use Rattle.cs_grammar.specs.View.{expr_view, definition_view}
 use Rattle.cs_names.specs.Flaws as Spec
 use Rattle.cs_names.proofs.Found.{ends_here}
-use Rattle.cs_names.proofs.Walks.{nothing_more, nothing_at_all}
+use Rattle.cs_plain.proofs.Walks.{nothing_more, nothing_at_all}
 use Rattle.cs_names.proofs.resolved.Naming.check_definitions.Goals as goal
 
 pub loop-definition-init : goal.loop-definition-init

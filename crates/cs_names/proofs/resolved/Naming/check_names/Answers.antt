@@ -4,7 +4,7 @@ use Rattle.std.specs.List.{flat_map}
 use Rattle.cs_grammar.specs.View.{name_view}
 use Rattle.cs_names.specs.Flaws as Spec
 use Rattle.cs_names.proofs.Found.{ends_here}
-use Rattle.cs_names.proofs.Walks.{nothing_more, nothing_at_all}
+use Rattle.cs_plain.proofs.Walks.{nothing_more, nothing_at_all}
 use Rattle.cs_names.proofs.resolved.Naming.check_names.Goals as goal
 
 pub loop-name-init : goal.loop-name-init

@@ -5,7 +5,7 @@ use Rattle.cs_names.specs.Flaws as Spec
 use Rattle.cs_names.specs.Scopes.{name_scope}
 use Rattle.cs_names.proofs.Found.{finds_as, ends_left}
 use Rattle.cs_names.proofs.Tables.{inside_of}
-use Rattle.cs_names.proofs.Walks.{none_left}
+use Rattle.cs_plain.proofs.Walks.{none_left}
 use Rattle.cs_names.proofs.resolved.Naming.check_top.Goals as goal
 
 pub returns-in_err-check_bound : goal.returns-in_err-check_bound

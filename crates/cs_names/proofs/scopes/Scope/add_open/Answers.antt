@@ -3,7 +3,7 @@ use Rattle.std.proofs.lemmas.List.{append-nil}
 use Rattle.cs_grammar.specs.View.{name_view}
 use Rattle.cs_names.specs.Checks.{TellsScope}
 use Rattle.cs_names.specs.Scopes.{open_scope, top_declared}
-use Rattle.cs_names.proofs.Folds.{gathered_more}
+use Rattle.cs_plain.proofs.Folds.{gathered_more}
 use Rattle.cs_names.proofs.Parts.{opened_by, opened_parts}
 use Rattle.cs_names.proofs.scopes.Scope.add_open.Goals as goal
 use Rattle.cs_names.proofs.scopes.Scope.add_open.Goals.{then-not-name+in_ok-add, else-not-name}

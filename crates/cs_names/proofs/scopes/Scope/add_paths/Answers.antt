@@ -1,7 +1,7 @@
 use Rattle.std.proofs.Common.{◌∷◌, ◌++◌, [], map, take, sym, ap, ◌∙◌, subst, append_assoc}
 use Rattle.std.proofs.lemmas.List.{map-append}
 use Rattle.cs_names.specs.Checks.{TellsScope, path_view}
-use Rattle.cs_names.proofs.Walks.{take_at}
+use Rattle.cs_plain.proofs.Walks.{take_at}
 use Rattle.cs_names.proofs.scopes.Scope.add_paths.Goals as goal
 
 pub loop-path-preserved : goal.loop-path-preserved

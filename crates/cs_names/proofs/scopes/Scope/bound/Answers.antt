@@ -3,7 +3,7 @@ use Rattle.std.proofs.lemmas.List.{append-nil}
 use Rattle.cs_grammar.specs.View.{name_view}
 use Rattle.cs_names.specs.Checks.{TellsScope}
 use Rattle.cs_names.specs.Scopes.{bound_scope, top_declared}
-use Rattle.cs_names.proofs.Folds.{gathered_more}
+use Rattle.cs_plain.proofs.Folds.{gathered_more}
 use Rattle.cs_names.proofs.Parts.{bound_by, bound_parts}
 use Rattle.cs_names.proofs.scopes.Scope.bound.Goals as goal
 use Rattle.cs_names.proofs.scopes.Scope.bound.Goals.{then-name+in_ok-add, else-name}

@@ -1,7 +1,7 @@
 use Rattle.std.proofs.Common.{take, refl, sym, subst}
 use Rattle.std.proofs.lemmas.List.{take_all}
 use Rattle.cs_grammar.specs.View.{declaration_view, declarations_view}
-use Rattle.cs_names.proofs.Folds.{gathered_more}
+use Rattle.cs_plain.proofs.Folds.{gathered_more}
 use Rattle.cs_names.specs.Checks.{TellsScope, declared_seen}
 use Rattle.cs_names.specs.Scopes.{scope_of_declarations}
 use Rattle.cs_names.proofs.Parts.{scope_parts}

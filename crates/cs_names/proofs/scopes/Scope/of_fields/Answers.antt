@@ -1,7 +1,7 @@
 use Rattle.std.proofs.Common.{take, refl, sym, subst}
 use Rattle.std.proofs.lemmas.List.{take_all}
 use Rattle.cs_grammar.specs.View.{field_view, fields_view}
-use Rattle.cs_names.proofs.Folds.{gathered_more}
+use Rattle.cs_plain.proofs.Folds.{gathered_more}
 use Rattle.cs_names.specs.Checks.{TellsScope}
 use Rattle.cs_names.specs.Scopes.{scope_of_fields, declared_by}
 use Rattle.cs_names.proofs.Parts.{scope_field_parts}

@@ -1,7 +1,7 @@
 use Rattle.std.proofs.Common.{map, take, refl, sym, subst}
 use Rattle.std.proofs.lemmas.List.{take_all}
 use Rattle.cs_grammar.specs.View.{file_view}
-use Rattle.cs_names.proofs.Folds.{numbered_more}
+use Rattle.cs_plain.proofs.Folds.{numbered_more}
 use Rattle.cs_names.specs.Checks.{TellsScope}
 use Rattle.cs_names.specs.Scopes.{open_scope, shared_from}
 use Rattle.cs_grammar.specs.Tree.{names}

@@ -1,7 +1,7 @@
 use Rattle.std.proofs.Common.{rules, ◌≡◌, [], ◌∷◌, map, take, refl, sym, subst}
 use Rattle.std.proofs.lemmas.List.{take_all}
 use Rattle.std.specs.List.{flat_map}
-use Rattle.cs_names.proofs.Walks.{first_here, nothing_more, nothing_at_all}
+use Rattle.cs_plain.proofs.Walks.{first_here, nothing_more, nothing_at_all}
 use Rattle.cs_selectors.specs.Checks.{EndsAt, FailsAny, TellsGifts, use_view}
 use Rattle.cs_selectors.specs.Given.{with_all}
 use Rattle.cs_selectors.specs.Reached.{lack}

@@ -3,8 +3,8 @@ use Rattle.std.proofs.lemmas.List.{take_all}
 use Rattle.cs_grammar.specs.Tree.{list, wide, merged}
 use Rattle.cs_grammar.specs.View.{expr_view, exprs_view, trees_of, fields_of, declarations_of, wide_view, field_view, declaration_view, declarations_view, condition_view, field_seen, embedding_seen, conditional_seen}
 use Rattle.cs_grammar.proofs.Views.{view-List, view-Wide, view-Merged, view-declared-field, view-embedded, view-conditional}
-use Rattle.cs_names.specs.Selecting as Spec
-use Rattle.cs_names.proofs.Walks.{map_pushed}
+use Rattle.cs_plain.specs.Selecting as Spec
+use Rattle.cs_plain.proofs.Walks.{map_pushed}
 use Rattle.cs_selectors.specs.Checks.{referring_field_seen, referring_seen, referring_wide}
 use Rattle.cs_selectors.proofs.Parts.{referring_trees, referring_field_list, referring_parts}
 use Rattle.cs_selectors.proofs.replaced.Referring.+refer.Goals as goal

@@ -1,7 +1,7 @@
 use Rattle.std.proofs.Common.{◌≡◌, ℕ, List, map, take}
 use Rattle.cs_grammar.specs.Tree.{Selector}
 use Rattle.cs_grammar.specs.View.{expr_view, field_view, declaration_view}
-use Rattle.cs_names.specs.Selecting as Spec
+use Rattle.cs_plain.specs.Selecting as Spec
 use Rattle.cs_selectors.specs.Checks.{TellsNames, referring_field_seen, referring_seen}
 use Rattle.cs_selectors.proofs.replaced.Referring.+refer.Given as goal
 

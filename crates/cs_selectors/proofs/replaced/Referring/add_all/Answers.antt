@@ -1,7 +1,7 @@
 use Rattle.std.proofs.Common.{◌++◌, map, take, refl, sym, ap, ◌∙◌, append_assoc}
 use Rattle.std.proofs.lemmas.List.{take_all}
 use Rattle.cs_grammar.specs.View.{definition_view}
-use Rattle.cs_names.proofs.Folds.{gathered_more}
+use Rattle.cs_plain.proofs.Folds.{gathered_more}
 use Rattle.cs_selectors.specs.Checks.{given_view}
 use Rattle.cs_selectors.specs.Selectors as Spec
 use Rattle.cs_selectors.proofs.replaced.Referring.add_all.Goals as goal

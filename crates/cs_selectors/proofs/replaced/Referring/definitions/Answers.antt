@@ -2,8 +2,8 @@ use Rattle.std.proofs.Common.{map, sym, ap, ◌∙◌}
 use Rattle.std.proofs.lemmas.List.{take_all}
 use Rattle.std.proofs.lemmas.Simd.{map-map}
 use Rattle.cs_grammar.specs.View.{definition_view}
-use Rattle.cs_names.specs.Selecting.{referring_definition}
-use Rattle.cs_names.proofs.Walks.{map_pushed}
+use Rattle.cs_plain.specs.Selecting.{referring_definition}
+use Rattle.cs_plain.proofs.Walks.{map_pushed}
 use Rattle.cs_selectors.proofs.replaced.Referring.definitions.Goals as goal
 
 pub loop-definition-preserved : goal.loop-definition-preserved

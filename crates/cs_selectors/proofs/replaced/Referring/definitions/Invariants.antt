@@ -1,7 +1,7 @@
 use Rattle.std.proofs.Common.{◌≡◌, ℕ, List, map, take}
 use Rattle.cs_grammar.specs.Tree.{Selector}
 use Rattle.cs_grammar.specs.View.{definition_view}
-use Rattle.cs_names.specs.Selecting.{referring_definition}
+use Rattle.cs_plain.specs.Selecting.{referring_definition}
 use Rattle.cs_selectors.specs.Checks.{TellsNames}
 use Rattle.cs_selectors.proofs.replaced.Referring.definitions.Given as goal
 

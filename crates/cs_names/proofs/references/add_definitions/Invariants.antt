@@ -1,8 +1,0 @@
-use Rattle.std.proofs.Common.{ℕ, List, ◌++◌, map, take}
-use Rattle.cs_grammar.specs.View.{definition_view}
-use Rattle.cs_names.specs.Checks.{TellsTexts}
-use Rattle.cs_names.specs.Joined as Spec
-use Rattle.cs_names.proofs.references.add_definitions.Given as goal
-
-abbrev pub invariant-loop-definition : goal.invariant-loop-definition
-invariant-loop-definition l = (ss : List (List ℕ)) → TellsTexts l.initial.found ss → TellsTexts l.found (ss ++ Spec.references_of l.is_all (map definition_view (take l.definition-index l.definition-items)))

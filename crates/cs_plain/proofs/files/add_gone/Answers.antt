@@ -1,0 +1,22 @@
+use Rattle.std.proofs.Common.{◌++◌, map, take, refl, sym, ap, ◌∙◌, subst, append_assoc}
+use Rattle.std.specs.List.{flat_map}
+use Rattle.std.proofs.lemmas.List.{take_all}
+use Rattle.cs_grammar.specs.View.{definition_view}
+use Rattle.cs_plain.specs.Placed.{gone_if}
+use Rattle.cs_plain.specs.References.{TellsTexts}
+use Rattle.cs_plain.proofs.Folds.{gathered_more}
+use Rattle.cs_plain.proofs.files.add_gone.Goals as goal
+
+pub loop-definition-preserved : goal.loop-definition-preserved
+loop-definition-preserved c ss bs cs told before after =
+    let xs = c.args.definitions.now in
+    let i = c.loop-definition.definition-index in
+    let x = c.definition-item.result in
+    let done = flat_map (gone_if bs cs) (map definition_view (take i xs)) in
+    let more = gathered_more (λ ys. flat_map (gone_if bs cs) (map definition_view ys)) (λ y. gone_if bs cs (definition_view y)) refl (λ d ds. refl) xs i x c.loop-definition-test.true c.definition-item.is in
+    subst (TellsTexts c.add_if_gone.new.gone) (append_assoc ss done (gone_if bs cs (definition_view x)) ∙ ap (λ rs. ss ++ rs) (sym more))
+    (c.in_ok-add_if_gone.ensures (ss ++ done) bs cs (c.loop-definition.invariant ss bs cs told before after) before after)
+
+pub returns : goal.returns
+returns c ss bs cs told before after =
+    subst (λ ys. TellsTexts c.loop-definition.gone (ss ++ flat_map (gone_if bs cs) (map definition_view ys))) (take_all c.loop-definition.definition-index c.args.definitions.now c.loop-definition-test.false) (c.loop-definition.invariant ss bs cs told before after)
