@@ -66,8 +66,9 @@ impl Doc {
     }
 }
 
+/// How one document stands to another, as [`Ord`] says it.
 #[cycle(compare)]
-fn compare(a: &Doc, b: &Doc) -> Ordering
+pub(crate) fn compare(a: &Doc, b: &Doc) -> Ordering
     ensures { result ≡ document_cmp (doc_view a.now) (doc_view b.now) }
 {
     match (a, b) {
