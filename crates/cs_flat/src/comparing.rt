@@ -1,7 +1,7 @@
 // A value of a document's list beside a document that is a tree.
 ghost use Rattle.std.specs.Prelude.{◌≡◌, ℕ, ◌<◌, length, map};
 ghost use Rattle.std.specs.List.{AllByRecursion};
-ghost use Rattle.cs_document.specs.Document.{Entry, document_eq, documents_eq, members_eq};
+ghost use Rattle.cs_document.specs.Document.{Entry, document_eq};
 ghost use Rattle.cs_document.specs.Inside.{InsideBelow, map_entry, map_opened};
 ghost use Rattle.cs_document.specs.Order.{kind as kind_of, document_cmp, documents_cmp, members_cmp};
 ghost use Rattle.cs_document.specs.View.{doc_view, list_view, object_view};
@@ -28,56 +28,11 @@ impl Flat<'_> {
 
     /// Whether the value at a place, which is below [`Flat::len`], is the same as a document; maps have no order. Goes as
     /// deep as the document nests, and stops at the first difference.
-    #[cycle(equals)]
     pub fn equals(&self, i: usize, doc: &Doc) -> bool
         requires { i < length self.now }
         ensures { result ≡ document_eq (doc_view doc.now) (node_at (values self.now) i) }
     {
-        match (doc, self.opened(i)) {
-            (Doc::Null, Item::Null) => true,
-            (Doc::Bool(x), Item::Bool(y)) => *x == y,
-            (Doc::Int(x), Item::Int(y)) => *x == y,
-            (Doc::Text(x), Item::Text(y)) => x.as_str() == y,
-            (Doc::List(docs), Item::List(numbers)) => self.equal_elements(numbers, docs),
-            (Doc::Object(members), Item::Object(entries)) => self.equal_members(entries, members),
-            _ => false,
-        }
-    }
-
-    #[cycle(equals)]
-    fn equal_elements(&self, numbers: &[usize], docs: &Vec<Doc>) -> bool
-        requires { AllByRecursion (λ y. y < length self.now) numbers.now }
-        ensures { result ≡ documents_eq (list_view docs.now.items)
-            (documents_of (map (node_at (values self.now)) numbers.now)) }
-    {
-        if docs.len() != numbers.len() {
-            return false;
-        }
-        for (place, doc) in docs.iter().enumerate() {
-            if !self.equals(numbers[place], doc) {
-                return false;
-            }
-        }
-        true
-    }
-
-    #[cycle(equals)]
-    fn equal_members(&self, entries: &[(&str, usize)], members: &BTreeMap<String, Doc>) -> bool
-        requires { AllByRecursion (λ (m : Entry ℕ). m.1 < length self.now)
-            (map entry_of entries.now) }
-        ensures { result ≡ members_eq (object_view members.now.entries)
-            (members_of (map (map_entry (node_at (values self.now))) (map entry_of entries.now))) }
-    {
-        let mut others = entries.iter();
-        for (key, doc) in members {
-            match others.next() {
-                Some((other, number)) => if key.as_str() != *other || !self.equals(*number, doc) {
-                    return false;
-                },
-                None => return false,
-            }
-        }
-        others.next().is_none()
+        self.compare(i, doc).is_eq()
     }
 
     /// How a document stands to the value at a place, in the order of documents (`Ord` of [`Doc`]).
