@@ -1,21 +1,20 @@
 -- A keyword set in its slot goes last, where the keywords that are present come before it.
-use Rattle.std.proofs.Common.{◌≡◌, ℕ, Bool, true, false, List, [], ◌∷◌, Option, Some, None, Less, Greater, bytes_eq, refl, sym, ap, ◌∙◌, subst, rules}
+use Rattle.std.proofs.Common.{◌≡◌, ℕ, Bool, true, false, List, [], ◌∷◌, Option, Some, None, Less, Greater, bytes_eq, codes, refl, sym, ap, ◌∙◌, subst, rules}
 use Rattle.std.proofs.lemmas.Cmp.{nat_list_cmp_total}
 use Rattle.std.proofs.lemmas.Slice.Eq.{bytes_eq-Decides}
 use Rattle.std.specs.Cmp.Lexicographic.{slice_cmp}
 use Rattle.std.specs.Ordering.{nat_cmp, ordering_reverse}
 use Rattle.cs_document.specs.Document.{Document, no_members, member}
 use Rattle.cs_profile.specs.Trim.{with_member}
-use Rattle.cs_profile.specs.SchemaDocument.{Slot, present, set_slot, value_at}
+use Rattle.cs_profile.specs.SchemaDocument.{Slot, present, set_slot, value_at, definitions_view, unless_no_map}
 use Rattle.cs_schema.specs.Reading.{slots}
 use Rattle.cs_schema.specs.declared.parts.Parts.{Parts}
-use Rattle.cs_profile.specs.declared.schema.Schema.{the_lemmas}
-use Rattle.cs_profile.specs.Keywords.{name_of}
+use Rattle.cs_profile.specs.Keywords.{name_of, slot_keywords}
 use Rattle.cs_profile.specs.Shapes.{form_of}
 use Rattle.cs_profile.specs.declared.keyword.Keyword.{Keyword}
 use Rattle.cs_profile.specs.declared.keyword.Keyword.TheVariants as keyword
 use Rattle.cs_profile.specs.declared.schema.KeywordValue.{KeywordValue}
-use Rattle.cs_profile.proofs.Slots.{Above, Ordered, has_slot}
+use Rattle.cs_profile.proofs.Slots.{Above, Ordered, has_slot, slots_at, slots_are}
 use Rattle.cs_schema.proofs.Walks.{join, join-nil, KeysBelow}
 
 not_both : (k l : List ℕ) → slice_cmp nat_cmp k l ≡ Less → slice_cmp nat_cmp l k ≡ Less → ⊥
@@ -53,8 +52,14 @@ set_slot-last k v (s ∷ ss) o h b = by_test k v s ss o b (set_slot-last k v ss 
 
 -- ---- the slots of an object
 
+abbrev seen : Parts → List Slot
+seen p = (codes "$defs", unless_no_map (definitions_view p.definitions.entries)) ∷ slots_at p.keywords slot_keywords
+
+are_seen : (p : Parts) → slots p ≡ seen p
+are_seen p = ap (λ ss. (codes "$defs", unless_no_map (definitions_view p.definitions.entries)) ∷ ss) (slots_are p.keywords)
+
 pub ordered : (p : Parts) → Ordered (slots p)
-ordered p = search (rules, the_lemmas)
+ordered p = subst Ordered (sym (are_seen p)) (let all : Ordered (seen p) = search rules in all)
 
 -- the keywords that have a slot
 abbrev is_kept_keyword : Keyword → Bool
@@ -64,19 +69,25 @@ is_kept_keyword keyword.Description = false
 is_kept_keyword keyword.Comment = false
 is_kept_keyword _ = true
 
+seen_slot : (w : Keyword) (p : Parts) → is_kept_keyword w ≡ true → has_slot (name_of w) (seen p) ≡ true
+seen_slot keyword.Schema p h = cc
+seen_slot keyword.Title p h = cc
+seen_slot keyword.Description p h = cc
+seen_slot keyword.Comment p h = cc
+seen_slot _ p h = refl
+
 has_its_slot : (w : Keyword) (p : Parts) → is_kept_keyword w ≡ true → has_slot (name_of w) (slots p) ≡ true
-has_its_slot keyword.Schema p h = cc
-has_its_slot keyword.Title p h = cc
-has_its_slot keyword.Description p h = cc
-has_its_slot keyword.Comment p h = cc
-has_its_slot _ p h = search (rules, the_lemmas)
+has_its_slot w p h = ap (has_slot (name_of w)) (are_seen p) ∙ seen_slot w p h
+
+unseen_slot : (w : Keyword) (o : Option Document) (p : Parts) → is_kept_keyword w ≡ false → set_slot (name_of w) o (seen p) ≡ seen p
+unseen_slot keyword.Schema o p h = refl
+unseen_slot keyword.Title o p h = refl
+unseen_slot keyword.Description o p h = refl
+unseen_slot keyword.Comment o p h = refl
+unseen_slot _ o p h = cc
 
 no_slot : (w : Keyword) (o : Option Document) (p : Parts) → is_kept_keyword w ≡ false → set_slot (name_of w) o (slots p) ≡ slots p
-no_slot keyword.Schema o p h = search (rules, the_lemmas)
-no_slot keyword.Title o p h = search (rules, the_lemmas)
-no_slot keyword.Description o p h = search (rules, the_lemmas)
-no_slot keyword.Comment o p h = search (rules, the_lemmas)
-no_slot _ o p h = cc
+no_slot w o p h = ap (set_slot (name_of w) o) (are_seen p) ∙ unseen_slot w o p h ∙ sym (are_seen p)
 
 -- their values stand for no document
 nothing_said : (w : Keyword) (v : KeywordValue) → is_kept_keyword w ≡ false → value_at (form_of w) v ≡ None

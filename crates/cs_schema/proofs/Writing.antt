@@ -1,8 +1,10 @@
 -- Keywords that are put in their order are in that order.
-use Rattle.std.proofs.Common.{◌≡◌, ◌↔◌, IsTrue, length, ℕ, Bool, false, List, [], ◌∷◌, ◌++◌, map, Option, Some, None, String, Global, Box, Less, Greater, nat_cmp, string_bytes, codes, refl, sym, ap, ◌∙◌, rules}
+use Rattle.std.proofs.Common.{◌≡◌, ◌↔◌, IsTrue, length, ℕ, Bool, false, List, [], ◌∷◌, ◌++◌, map, Option, Some, None, String, Global, Box, Less, Greater, nat_cmp, string_bytes, codes, refl, sym, ap, ◌∙◌, subst, rules}
 use Rattle.std.proofs.lemmas.Cmp.{nat_list_cmp_total}
 use Rattle.std.specs.Cmp.Lexicographic.{slice_cmp}
 use Rattle.std.specs.Ordering.{ordering_reverse}
+use Rattle.std.specs.Prelude.{Result}
+use Rattle.std.specs.declared.alloc.AllocError.{AllocError}
 use Rattle.cs_document.specs.Document.{Document, Members, no_members, member, text, list, object, put}
 use Rattle.cs_document.specs.View.{doc_view, object_view, documents_of, members_of}
 use Rattle.cs_document.specs.declared.doc.Doc.{Doc}
@@ -12,11 +14,12 @@ use Rattle.cs_profile.specs.Shapes.{dialect}
 use Rattle.cs_profile.specs.Trim.{with_member, with_dialect}
 use Rattle.cs_profile.specs.SchemaDocument.{Slot, present, slots_of, schema_view, definitions_view, unless_no_list, unless_no_map, SchemaValue, document_of}
 use Rattle.cs_profile.specs.Root.{with_definitions}
-use Rattle.cs_profile.specs.Keywords.{all_keywords}
-use Rattle.cs_schema.specs.Writing.{put_some, put_all, slots_for}
+use Rattle.cs_profile.specs.Keywords.{name_of, all_keywords, slot_keywords}
+use Rattle.cs_schema.specs.Writing.{Writes, put_some, put_all, slot_value, slots_for}
+use Rattle.cs_profile.specs.declared.keyword.Keyword.{Keyword}
 use Rattle.cs_profile.specs.declared.schema.Schema.{Schema, Object, the_lemmas}
 use Rattle.cs_profile.specs.declared.schema.Keywords.{Keywords}
-use Rattle.cs_profile.proofs.Slots.{Above, Ordered}
+use Rattle.cs_profile.proofs.Slots.{Above, Ordered, slots_at, slots_are}
 use Rattle.cs_profile.proofs.Views.{view-Object}
 use Rattle.cs_schema.proofs.Walks.{join, join-nil, KeysBelow, is_nil}
 
@@ -71,6 +74,11 @@ all_present k = search (rules, the_lemmas)
 pub all_put : (k : Keywords) → put_all (slots_for (slots_of k) all_keywords) no_members ≡ present (slots_of k)
 all_put k =
     put_all-last (slots_for (slots_of k) all_keywords) no_members (all_ordered (slots_of k)) (above_none (slots_for (slots_of k) all_keywords)) ∙ all_present k
+
+-- the keyword w of an object is written as its field is
+pub written : (w x : Keyword) → x ≡ w → (k : Keywords) (r : Result (Option Doc) AllocError) → Writes r (slot_value (name_of w) (slots_at k slot_keywords)) → Writes r (slot_value (name_of x) (slots_of k))
+written w x is k r done =
+    subst (λ ss. Writes r (slot_value (name_of x) ss)) (sym (slots_are k)) (subst (λ y. Writes r (slot_value (name_of y) (slots_at k slot_keywords))) (sym is) done)
 
 -- a name below the others goes first
 put_some-first : (k : List ℕ) (o : Option Document) (ss : List Slot) → Above k ss → put_some k o (present ss) ≡ with_member o k (present ss)

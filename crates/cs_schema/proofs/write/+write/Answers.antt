@@ -1,4 +1,4 @@
-use Rattle.std.proofs.Common.{◌≡◌, ◌+◌, add-one, drop-cons, get_or, refl, ap₂, [], ◌∷◌, ◌++◌, Some, String, Global, string_bytes, string_cmp, map, take, drop, sym, ap, ◌∙◌, subst, append_assoc, append-nil}
+use Rattle.std.proofs.Common.{◌≡◌, ◌+◌, add-one, drop-cons, get_or, refl, ap₂, [], ◌∷◌, ◌++◌, Ok, Some, String, Global, string_bytes, string_cmp, map, take, drop, sym, ap, ◌∙◌, subst, append_assoc, append-nil}
 use Rattle.std.proofs.lemmas.List.{take_all}
 use Rattle.std.specs.List.Sorted.{IsStrictlySortedBy}
 use Rattle.std.specs.Map.{keys_of}
@@ -12,7 +12,7 @@ use Rattle.cs_profile.specs.declared.keyword.Keyword.TheVariants as keyword
 use Rattle.cs_schema.specs.Writing.{put_some, put_all, slots_for}
 use Rattle.cs_profile.specs.declared.schema.Schema.{Schema}
 use Rattle.cs_schema.proofs.Walks.{not_nil}
-use Rattle.cs_schema.proofs.Writing.{all_put, mapped_more, some_listed, members_of-push, some_named, not_empty}
+use Rattle.cs_schema.proofs.Writing.{all_put, written, mapped_more, some_listed, members_of-push, some_named, not_empty}
 use Rattle.cs_schema.proofs.write.+write.Goals as goal
 
 pub keywords_doc-loop-keyword-init : goal.keywords_doc-loop-keyword-init
@@ -31,6 +31,61 @@ keywords_doc-loop-keyword-preserved t c =
     let old = object_view l.members.entries in
     ap (put_all rest) (c.in_ok-set.ensures ∙ ap₂ (λ n o. put_some n o old) c.name.ensures c.in_ok-value.ensures)
     ∙ sym (ap (λ ws. put_all (slots_for ss ws) old) left) ∙ l.invariant
+
+-- ---- each keyword
+
+pub keyword_doc-returns-in-Ref : goal.keyword_doc-returns-in-Ref
+keyword_doc-returns-in-Ref t c = written keyword.Ref c.args.keyword c.in-Ref.is c.args.keywords.now c.reference_doc.result c.reference_doc.ensures
+
+pub keyword_doc-returns-in-AdditionalProperties : goal.keyword_doc-returns-in-AdditionalProperties
+keyword_doc-returns-in-AdditionalProperties t c = written keyword.AdditionalProperties c.args.keyword c.in-AdditionalProperties.is c.args.keywords.now c.option_doc.result c.option_doc.ensures
+
+pub keyword_doc-returns-in-AllOf : goal.keyword_doc-returns-in-AllOf
+keyword_doc-returns-in-AllOf t c = written keyword.AllOf c.args.keyword c.in-AllOf.is c.args.keywords.now c.list_doc.result c.list_doc.ensures
+
+pub keyword_doc-returns-in-AnyOf : goal.keyword_doc-returns-in-AnyOf
+keyword_doc-returns-in-AnyOf t c = written keyword.AnyOf c.args.keyword c.in-AnyOf.is c.args.keywords.now c.list_doc-in-AnyOf.result c.list_doc-in-AnyOf.ensures
+
+pub keyword_doc-returns-in-Const : goal.keyword_doc-returns-in-Const
+keyword_doc-returns-in-Const t c = written keyword.Const c.args.keyword c.in-Const.is c.args.keywords.now c.equal_doc.result c.equal_doc.ensures
+
+pub keyword_doc-returns-in-Enum : goal.keyword_doc-returns-in-Enum
+keyword_doc-returns-in-Enum t c = written keyword.Enum c.args.keyword c.in-Enum.is c.args.keywords.now c.one_of_doc.result c.one_of_doc.ensures
+
+pub keyword_doc-returns-in-ExclusiveMaximum : goal.keyword_doc-returns-in-ExclusiveMaximum
+keyword_doc-returns-in-ExclusiveMaximum t c = written keyword.ExclusiveMaximum c.args.keyword c.in-ExclusiveMaximum.is c.args.keywords.now (Ok c.integer_doc.result) c.integer_doc.ensures
+
+pub keyword_doc-returns-in-ExclusiveMinimum : goal.keyword_doc-returns-in-ExclusiveMinimum
+keyword_doc-returns-in-ExclusiveMinimum t c = written keyword.ExclusiveMinimum c.args.keyword c.in-ExclusiveMinimum.is c.args.keywords.now (Ok c.integer_doc-in-ExclusiveMinimum.result) c.integer_doc-in-ExclusiveMinimum.ensures
+
+pub keyword_doc-returns-in-Items : goal.keyword_doc-returns-in-Items
+keyword_doc-returns-in-Items t c = written keyword.Items c.args.keyword c.in-Items.is c.args.keywords.now c.option_doc-in-Items.result c.option_doc-in-Items.ensures
+
+pub keyword_doc-returns-in-Maximum : goal.keyword_doc-returns-in-Maximum
+keyword_doc-returns-in-Maximum t c = written keyword.Maximum c.args.keyword c.in-Maximum.is c.args.keywords.now (Ok c.integer_doc-in-Maximum.result) c.integer_doc-in-Maximum.ensures
+
+pub keyword_doc-returns-in-MinItems : goal.keyword_doc-returns-in-MinItems
+keyword_doc-returns-in-MinItems t c = written keyword.MinItems c.args.keyword c.in-MinItems.is c.args.keywords.now (Ok c.integer_doc-in-MinItems.result) c.integer_doc-in-MinItems.ensures
+
+pub keyword_doc-returns-in-Minimum : goal.keyword_doc-returns-in-Minimum
+keyword_doc-returns-in-Minimum t c = written keyword.Minimum c.args.keyword c.in-Minimum.is c.args.keywords.now (Ok c.integer_doc-in-Minimum.result) c.integer_doc-in-Minimum.ensures
+
+pub keyword_doc-returns-in-Not : goal.keyword_doc-returns-in-Not
+keyword_doc-returns-in-Not t c = written keyword.Not c.args.keyword c.in-Not.is c.args.keywords.now c.option_doc-in-Not.result c.option_doc-in-Not.ensures
+
+pub keyword_doc-returns-in-PrefixItems : goal.keyword_doc-returns-in-PrefixItems
+keyword_doc-returns-in-PrefixItems t c = written keyword.PrefixItems c.args.keyword c.in-PrefixItems.is c.args.keywords.now c.list_doc-in-PrefixItems.result c.list_doc-in-PrefixItems.ensures
+
+pub keyword_doc-returns-in-Properties : goal.keyword_doc-returns-in-Properties
+keyword_doc-returns-in-Properties t c = written keyword.Properties c.args.keyword c.in-Properties.is c.args.keywords.now c.map_doc.result c.map_doc.ensures
+
+pub keyword_doc-returns-in-Required : goal.keyword_doc-returns-in-Required
+keyword_doc-returns-in-Required t c = written keyword.Required c.args.keyword c.in-Required.is c.args.keywords.now c.texts_doc.result c.texts_doc.ensures
+
+pub keyword_doc-returns-in-Type : goal.keyword_doc-returns-in-Type
+keyword_doc-returns-in-Type t c = written keyword.Type c.args.keyword c.in-Type.is c.args.keywords.now c.kind_doc.result c.kind_doc.ensures
+
+-- ---- lists and maps of schemas
 
 pub list_doc-loop-schema-preserved : goal.list_doc-loop-schema-preserved
 list_doc-loop-schema-preserved t c =
