@@ -27,3 +27,4 @@ pub mod Steps
 pub mod Around
 pub mod Checks
 pub mod Narrowed
+pub mod PredeclaredRows

@@ -284,14 +284,34 @@ pub(crate) fn bases_of(alloc: Global, files: &Vec<File>) -> Result<Bases<'_>, Al
     ensures { IfOk result (λ b. HoldBases b (ClosedBases.bases (declared_in files.now.items))) }
 {
     let bodies = sole_bodies(alloc, files)?;
+    bases_among(alloc, &bodies)
+}
+
+/// The closed bases among the names with a sole body.
+fn bases_among<'a>(alloc: Global, bodies: &SoleBodies<'a>) -> Result<Bases<'a>, AllocError>
+    ensures { (ds : List DefinitionTree) → HoldsSole bodies.now ds
+        → IfOk result (λ b. HoldBases b (ClosedBases.bases ds)) }
+{
     let mut bases = Bases {
         sets: Vec::new(alloc),
         numbers: IndexMap::new(alloc),
     };
-    let mut refiners = IndexMap::new(alloc);
-    classify_bodies(alloc, &bodies, &mut bases, &mut refiners)?;
-    find_refinements(&bodies, &refiners, &mut bases)?;
+    add_bases(alloc, bodies, &mut bases)?;
     Ok(bases)
+}
+
+/// Adds the closed literals, and all that refine them, to a table that has none.
+fn add_bases<'a>(
+    alloc: Global,
+    bodies: &SoleBodies<'a>,
+    bases: &mut Bases<'a>,
+) -> Result<(), AllocError>
+    ensures { OnOk result ((ds : List DefinitionTree) → HoldsSole bodies.now ds
+        → Sound ds bases.old → HoldBases bases.new (ClosedBases.bases ds)) }
+{
+    let mut refiners = IndexMap::new(alloc);
+    classify_bodies(alloc, bodies, bases, &mut refiners)?;
+    find_refinements(bodies, &refiners, bases)
 }
 
 /// A law: closed bases that are computed, in as many steps as there are definitions, are those of the least relation: each is

@@ -8,9 +8,11 @@ ghost use Rattle.cs_grammar.specs.Written.{IsWrittenFile};
 ghost use Rattle.cs_resolve.specs.Declarations.{distinct, names, places_of, faults_from};
 ghost use Rattle.cs_package.specs.Environment.{Environment, written};
 ghost use Rattle.cs_resolve.specs.Refinement.{Refinements};
-ghost use Rattle.cs_resolve.specs.Narrowed.{TellsRefinements};
+ghost use Rattle.cs_resolve.specs.ClosedBases as ClosedBases;
+ghost use Rattle.cs_resolve.specs.Narrowed.{HoldBases, TellsRefinements};
+ghost use Rattle.cs_resolve.specs.PackageName.{IsOnePackage};
 ghost use Rattle.cs_resolve.specs.Refusal.{AreSpelled, IsRefusal};
-ghost use Rattle.cs_resolve.specs.Resolved.{IsPackage};
+ghost use Rattle.cs_resolve.specs.Resolved.{IsPackage, IsSmall};
 ghost use Rattle.cs_resolve.specs.Steps.{declared_in, known_names, AreBodiesOf, HoldsNames, IsShapeOf, Resolves, ResolvesIn};
 ghost use Rattle.cs_resolve.specs.WellFormed.{IsWellFormedDefinition, AreWellFormedFiles};
 ghost use Rattle.cs_package.specs.View.{names_of, IsTable};
@@ -40,7 +42,7 @@ pub fn resolve(alloc: Global, files: Vec<File>) -> Result<Package, ResolveFault>
     ensures only { (E : Environment) → IsPackage (map file_view files.items) E
         → IsOkUnless result ResolveFault.OutOfMemory }
 {
-    package_of_files(alloc, files)
+    package_of_files(alloc, &files)
 }
 
 /// The same of files that can be written down, without forms of the wide profile: those that a text of the default profile spells, or that
@@ -56,28 +58,46 @@ pub fn resolve_written(alloc: Global, files: Vec<File>) -> Result<Package, Resol
     ensures only { (E : Environment) → IsPackage (map file_view files.items) E
         → IsOkUnless result ResolveFault.OutOfMemory }
 {
-    package_of_files(alloc, files)
+    package_of_files(alloc, &files)
 }
 
 /// The package that well-formed files declare.
-fn package_of_files(alloc: Global, files: Vec<File>) -> Result<Package, ResolveFault>
-    requires { AreWellFormedFiles (map file_view files.items) }
-    ensures found { IfOk result (λ p. IsPackage (map file_view files.items) p) }
-    ensures refused { IfErr result (λ e. IsRefusal e (map file_view files.items)) }
-    ensures only { (E : Environment) → IsPackage (map file_view files.items) E
+fn package_of_files(alloc: Global, files: &Vec<File>) -> Result<Package, ResolveFault>
+    requires { AreWellFormedFiles (map file_view files.now.items) }
+    ensures found { IfOk result (λ p. IsPackage (map file_view files.now.items) p) }
+    ensures refused { IfErr result (λ e. IsRefusal e (map file_view files.now.items)) }
+    ensures only { (E : Environment) → IsPackage (map file_view files.now.items) E
         → IsOkUnless result ResolveFault.OutOfMemory }
 {
-    if let Some(file) = differing_file(&files) {
+    if let Some(file) = differing_file(files) {
         return Err(ResolveFault::PackageName { file });
     }
-    let count = name_count(alloc, &files)?;
-    if count > MOST_DEFINITIONS || !has_few_nodes(&files) {
+    let count = name_count(alloc, files)?;
+    if count > MOST_DEFINITIONS || !has_few_nodes(files) {
         return Err(ResolveFault::TooLarge { definitions: count });
     }
-    let names = declared_names(alloc, &files)?;
-    let bases = bases_of(alloc, &files)?;
-    let bodies = declared_bodies(alloc, &names, &bases, &files)?;
-    check_opened(alloc, &bases, &files)?;
+    let bases = bases_of(alloc, files)?;
+    small_package(alloc, &bases, files)
+}
+
+/// The package that files declare by their closed bases, where they name one and are small enough.
+fn small_package(
+    alloc: Global,
+    bases: &Bases<'_>,
+    files: &Vec<File>,
+) -> Result<Package, ResolveFault>
+    requires formed { AreWellFormedFiles (map file_view files.now.items) }
+    requires agree { IsOnePackage (map file_view files.now.items) }
+    requires small { IsSmall (map file_view files.now.items) }
+    requires held { HoldBases bases.now (ClosedBases.bases (declared_in files.now.items)) }
+    ensures found { IfOk result (λ p. IsPackage (map file_view files.now.items) p) }
+    ensures refused { IfErr result (λ e. IsRefusal e (map file_view files.now.items)) }
+    ensures only { (E : Environment) → IsPackage (map file_view files.now.items) E
+        → IsOkUnless result ResolveFault.OutOfMemory }
+{
+    let names = declared_names(alloc, files)?;
+    let bodies = declared_bodies(alloc, &names, bases, files)?;
+    check_opened(alloc, bases, files)?;
     Ok(package_of(names, bodies))
 }
 
