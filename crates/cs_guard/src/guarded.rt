@@ -1,8 +1,13 @@
 // A guarded package.
 ghost use Rattle.std.specs.Prelude.{◌≡◌, ◌<◌, ℕ, List, map, length, string_bytes, All, Contains, IfOk, IfErr, OnOk, IfSome, IsOkUnless};
-ghost use Rattle.cs_package.specs.Environment.{name_at, written};
-ghost use Rattle.cs_guard.specs.Numbered.{name_of};
-ghost use Rattle.cs_guard.specs.Cycles.{IsRefusal};
+ghost use Rattle.std.specs.List.{IsDistinct};
+ghost use Rattle.std.specs.Str.{bytes_eq};
+ghost use Rattle.cs_package.specs.Environment.{declared_names, name_at, written};
+ghost use Rattle.cs_graph.specs.Chains.{NoCycle};
+ghost use Rattle.cs_graph.specs.Graph.{graph_of, Refers, AreHeights};
+ghost use Rattle.cs_guard.specs.Numbered.{IsGraphOf, name_of};
+ghost use Rattle.cs_guard.specs.Cycles.{IsCycle, IsRefusal};
+ghost use Rattle.cs_guard.specs.Ranks.{AreRanks};
 ghost use Rattle.cs_guard.specs.References.{strong_of};
 ghost use Rattle.cs_guard.specs.Guarded.{IsGuarded, IsHeight};
 
@@ -70,17 +75,54 @@ pub fn guard(alloc: Global, package: Package) -> Result<Guarded, GuardFault>
     ensures refused { IfErr result (λ e. IsRefusal e «package») }
     ensures only { IsGuarded «package» → IsOkUnless result GuardFault.OutOfMemory }
 {
-    let graph = graph_of_package(alloc, &package)?;
+    let ranks = ranks_of(alloc, &package)?;
+    Ok(Guarded { package, ranks })
+}
+
+/// The ranks of the definitions of a package, where its recursion is guarded.
+fn ranks_of(alloc: Global, package: &Package) -> Result<Vec<usize>, GuardFault>
+    ensures ranks { IfOk result (λ v. AreRanks «package».now v.items) }
+    ensures refused { IfErr result (λ e. IsRefusal e «package».now) }
+    ensures only { IsGuarded «package».now → IsOkUnless result GuardFault.OutOfMemory }
+{
+    let graph = graph_of_package(alloc, package)?;
     match heights(alloc, &graph) {
-        Ok(ranks) => match first_too_long(&ranks) {
-            None => Ok(Guarded { package, ranks }),
-            Some(first) => Err(long_chain(alloc, &package, &graph, &ranks, first)?),
-        },
+        Ok(ranks) => short_ranks(alloc, package, &graph, ranks),
         Err(GraphFault::OutOfMemory) => Err(GuardFault::OutOfMemory),
-        Err(GraphFault::Cycle { numbers }) => {
-            let names = names_of(alloc, &package, &numbers)?;
-            Err(GuardFault::Cycle { names })
-        }
+        Err(GraphFault::Cycle { numbers }) => Err(cycle_fault(alloc, package, &numbers)),
+    }
+}
+
+/// The heights of a graph without a cycle, where none of its chains is too long.
+fn short_ranks(
+    alloc: Global,
+    package: &Package,
+    graph: &Vec<Vec<usize>>,
+    ranks: Vec<usize>,
+) -> Result<Vec<usize>, GuardFault>
+    requires graph { IsGraphOf «package».now (graph_of graph.now.items) }
+    requires distinct { IsDistinct bytes_eq (declared_names «package».now) }
+    requires heights { AreHeights (graph_of graph.now.items) ranks.items }
+    requires acyclic { NoCycle (Refers (graph_of graph.now.items)) }
+    ensures ranks { IfOk result (λ v. AreRanks «package».now v.items) }
+    ensures refused { IfErr result (λ e. IsRefusal e «package».now) }
+    ensures only { IsGuarded «package».now → IsOkUnless result GuardFault.OutOfMemory }
+{
+    match first_too_long(&ranks) {
+        None => Ok(ranks),
+        Some(first) => Err(long_chain(alloc, package, graph, &ranks, first)?),
+    }
+}
+
+/// The fault of a package with a cycle of definitions; that memory ran out, where it did for their names.
+fn cycle_fault(alloc: Global, package: &Package, numbers: &[usize]) -> GuardFault
+    requires inside { All (λ i. i < length «package».now) numbers.now }
+    requires cycle { IsCycle «package».now (map (name_of «package».now) numbers.now) }
+    ensures { IsRefusal result «package».now }
+{
+    match names_of(alloc, package, numbers) {
+        Ok(names) => GuardFault::Cycle { names },
+        Err(AllocError) => GuardFault::OutOfMemory,
     }
 }
 
