@@ -11,10 +11,22 @@ use std::alloc::{AllocError, Global};
 /// The program's command: `export`, `list`, `widen`, `vet`, `validate`, `agree`, `check`, `compare`, `samples` and `explain` with
 /// their words. Sources are the values of `FILE`, and for `compare` of `old` and `new`, in the order of the words.
 pub fn command<'a>(alloc: Global) -> Result<Command<'a>, AllocError> {
+    let commands = commands_of(alloc, &COMMANDS)?;
+    program(alloc, commands)
+}
+
+/// The commands as clap has them.
+fn commands_of<'a>(alloc: Global, rows: &[Subcommand]) -> Result<Vec<Command<'a>>, AllocError> {
     let mut commands = Vec::new(alloc);
-    for row in COMMANDS {
-        commands.push(row.command(alloc)?)?;
+    for row in rows {
+        let command = row.command(alloc)?;
+        commands.push(command)?;
     }
+    Ok(commands)
+}
+
+/// The program with these commands.
+fn program<'a>(alloc: Global, commands: Vec<Command<'a>>) -> Result<Command<'a>, AllocError> {
     Command::new(alloc, "cue2schema")
         .about("Compiles CUE definitions to JSON Schema 2020-12, and judges documents by both")
         .version("0.1.0")
