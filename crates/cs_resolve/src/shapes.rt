@@ -1,6 +1,7 @@
 // From an expression to its shape: names are replaced by what they name.
-ghost use Rattle.std.specs.Prelude.{◌≡◌, ◌++◌, ℕ, map, List, [], ◌∷◌, IfOk, OnOk};
+ghost use Rattle.std.specs.Prelude.{◌≡◌, ◌++◌, ℕ, true, map, List, [], ◌∷◌, IfOk, OnOk};
 ghost use Rattle.std.specs.List.{list_any, list_all};
+ghost use Rattle.cs_grammar.specs.Atoms.{is_atom};
 ghost use Rattle.cs_grammar.specs.Tree.{Label, named, reference};
 ghost use Rattle.cs_grammar.specs.View.{expr_view, exprs_view, field_view, fields_view, end_view};
 ghost use Rattle.cs_resolve.specs.Around.{has_text, HoldsLabels, HoldAround, AreShapesOf, ArePartsOf, IsEndOf, ResolvesAround};
@@ -13,7 +14,7 @@ ghost use Rattle.cs_package.specs.View.{IsTable, expression_of, expressions_of, 
 use crate::kinds::predeclared_shape;
 use crate::refinement::{Bases, is_refinement};
 use crate::{Part, ResolveFault, Shape, ShapeEnd};
-use cs_grammar::{Expr, Field, FieldMark, ListEnd};
+use cs_grammar::{Expr, Field, FieldMark, ListEnd, atom};
 use cs_package::NameTable;
 use std::alloc::{AllocError, Global};
 use std::collections::BTreeSet;
@@ -56,6 +57,38 @@ fn names_field(around: &Vec<ScopeLabels<'_>>, name: &str) -> bool
     ensures { result ≡ list_any (has_text name.now) around.now.items }
 {
     around.iter().any(|labels| labels.contains(name))
+}
+
+/// The shape of an expression without parts and names.
+fn atom_shape(expr: &Expr) -> Result<Shape, ResolveFault>
+    requires { is_atom (expr_view expr.now) ≡ true }
+    ensures { (rs : Refinements) (file : ℕ) (ns : List (List ℕ)) (scopes : List (List Label))
+        → Resolves result (λ s. IsShapeOf rs ns s (expr_view expr.now))
+        (faults_in file ns (places scopes (expr_view expr.now))) }
+{
+    match expr {
+        Expr::Top => Ok(Shape::Top),
+        Expr::Bottom => Ok(Shape::Bottom),
+        Expr::Null => Ok(Shape::Null),
+        Expr::Bool(value) => Ok(Shape::Bool(*value)),
+        Expr::Int(value) => Ok(Shape::Int(*value)),
+        Expr::Text(text) => Ok(Shape::Text(text.clone()?)),
+        Expr::Bound { relation, limit } => Ok(Shape::Bound {
+            relation: *relation,
+            limit: *limit,
+        }),
+        Expr::NotInt(value) => Ok(Shape::NotInt(*value)),
+        Expr::NotText(text) => Ok(Shape::NotText(text.clone()?)),
+        Expr::NotNull => Ok(Shape::NotNull),
+        Expr::Name { .. }
+        | Expr::Reference { .. }
+        | Expr::And(_)
+        | Expr::Or(_)
+        | Expr::Paren(_)
+        | Expr::Struct { .. }
+        | Expr::List { .. }
+        | Expr::Wide(_) => unreachable!(),
+    }
 }
 
 /// The shape of a name. A field of a struct literal around hides what is predeclared, and can't be referred to itself.
@@ -151,21 +184,9 @@ impl Resolver<'_, '_> {
             (λ scopes. places scopes (expr_view expr.now)) }
     {
         match expr {
-            Expr::Top => Ok(Shape::Top),
-            Expr::Bottom => Ok(Shape::Bottom),
-            Expr::Null => Ok(Shape::Null),
-            Expr::Bool(value) => Ok(Shape::Bool(*value)),
-            Expr::Int(value) => Ok(Shape::Int(*value)),
-            Expr::Text(text) => Ok(Shape::Text(text.clone()?)),
+            atom!() => atom_shape(expr),
             Expr::Name { text, at } => name_shape(self.file, around, text.as_str(), *at),
             Expr::Reference { text, at } => self.reference_shape(text.as_str(), *at),
-            Expr::Bound { relation, limit } => Ok(Shape::Bound {
-                relation: *relation,
-                limit: *limit,
-            }),
-            Expr::NotInt(value) => Ok(Shape::NotInt(*value)),
-            Expr::NotText(text) => Ok(Shape::NotText(text.clone()?)),
-            Expr::NotNull => Ok(Shape::NotNull),
             Expr::And(operands) => {
                 let shapes = self.shapes_of(around, operands)?;
                 Ok(Shape::And(narrowed(is_refinement(self.bases, operands), shapes)))

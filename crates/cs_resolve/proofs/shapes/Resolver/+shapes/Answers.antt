@@ -30,6 +30,9 @@ list_cut file ns scopes e v end is =
     ap (λ u. faults_in file ns (places scopes u)) (ap expr_view is ∙ view-List v end)
     ∙ faults_in-append file ns (places_all scopes (exprs_view v.items)) (places_end scopes (end_view end))
 
+pub shape_of-returns-in-Top-atom-clause-shape : goal.shape_of-returns-in-Top-atom-clause-shape
+shape_of-returns-in-Top-atom-clause-shape t c scopes around rs told = c.atom_shape.ensures rs c.args.self.now.file (known_names c.args.self.now) scopes
+
 pub shape_of-returns-in-Name-clause-shape : goal.shape_of-returns-in-Name-clause-shape
 shape_of-returns-in-Name-clause-shape t c scopes around rs told =
     let ns = known_names c.args.self.now in
@@ -45,7 +48,7 @@ shape_of-returns-in-Reference-clause-shape t c scopes around rs told =
 pub shape_of-returns-in_err-shapes-in-And-clause-shape :
     goal.shape_of-returns-in_err-shapes-in-And-clause-shape
 shape_of-returns-in_err-shapes-in-And-clause-shape t c scopes around rs told =
-    let p = err_from_is_err_and c.from_residual-in_err-shapes-in-And.result c.from_residual-in_err-shapes-in-And.ensures.1 in
+    let p = err_from_is_err_and c.from_residual.result c.from_residual.ensures.1 in
     let is = ap expr_view c.in-And.is ∙ view-And c.in-And.operands in
     rw (p.1, p.2) (refused-same c.in_err-shapes-in-And.field-0.0 _ _ (ap (λ u. faults_in c.args.self.now.file (known_names c.args.self.now) (places scopes u)) (sym is)) (c.in_err-shapes-in-And.ensures.shapes scopes around rs told))
 
