@@ -63,16 +63,26 @@ pub fn pointer_at(alloc: Global, text: &[u8], offset: usize) -> Made<String> {
     let mut scratch = Scratch::new(alloc);
     let mut walk = Walk::new(alloc);
     walk.go(text, &mut scratch, offset)?;
+    pointer_of(alloc, &walk.open)
+}
+
+/// The pointer of the steps into maps and lists.
+fn pointer_of(alloc: Global, open: &[Level<'_>]) -> Made<String> {
     let mut pointer = String::new(alloc);
-    for level in &walk.open {
-        pointer.push('/')?;
-        match level.step {
-            Some(Step::Key(key)) => put_key(alloc, &mut pointer, key)?,
-            Some(Step::Element(place)) => pointer.push_str(Buffer::new().format(place))?,
-            None => {}
-        }
+    for level in open {
+        put_step(alloc, &mut pointer, level.step)?;
     }
     Ok(pointer)
+}
+
+/// Puts a step behind a pointer.
+fn put_step(alloc: Global, pointer: &mut String, step: Option<Step<'_>>) -> Written {
+    pointer.push('/')?;
+    match step {
+        Some(Step::Key(key)) => put_key(alloc, pointer, key),
+        Some(Step::Element(place)) => pointer.push_str(Buffer::new().format(place)),
+        None => Ok(()),
+    }
 }
 
 /// Puts a key with the escapes of pointers (RFC 6901, section 3).
@@ -179,15 +189,17 @@ impl<'a> Walk<'a> {
         }
     }
 
+    /// The number of the value that the walk comes to next in a map or a list, where it is looked for.
+    fn number_in(&self, level: Level<'a>) -> Option<usize> {
+        let step = (level.number?, level.step?);
+        self.steps.get(&step).copied()
+    }
+
     /// Notes where a value begins that is looked for, and gives its number.
     fn note(&mut self, value: usize) -> Option<usize> {
         let (number, inside, key) = match self.open.last().copied() {
             None => (DOCUMENT, value, None),
-            Some(level) => (
-                *self.steps.get(&(level.number?, level.step?))?,
-                level.start,
-                level.key,
-            ),
+            Some(level) => (self.number_in(level)?, level.start, level.key),
         };
         if let Some(last) = self.found.get_mut(number) {
             *last = Some(Found {
