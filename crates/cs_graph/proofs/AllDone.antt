@@ -6,7 +6,7 @@ use Rattle.std.proofs.lemmas.Option.{slice_get-map, slice_get_within, get_or_fro
 use Rattle.std.specs.Option.{option_map}
 use Rattle.cs_graph.specs.Chains.{NoCycle}
 use Rattle.cs_graph.specs.Graph.{Graph, Refers, AreHeights, FallAlong}
-use Rattle.cs_graph.specs.Walk.{State, Keeps, IsDone, height_of}
+use Rattle.cs_graph.specs.Walk.{State, Keeps, IsDone, Solved, height_of}
 use Rattle.cs_graph.specs.declared.walk.VisitState.{VisitState}
 use Rattle.cs_graph.specs.declared.walk.VisitState.TheVariants.{Done}
 use Rattle.cs_graph.proofs.Paths.{chain_short, no_cycle}
@@ -41,6 +41,9 @@ module _ (G : Graph) (M : List VisitState) (s : State G M []) (all : (n : ℕ) �
         let c = own.chain in
         record { steps = c.steps; chain = c.chain; long = c.long ∙ sym (read_height M n d.height d.done); longest = chain_short (Refers G) (λ k. get_or (map height_of M) k 0) falls_of n };
   }
+
+  pub solved : Solved G (map height_of M)
+  solved = record { each = heights_are; fall = falls_of; acyclic = acyclic_of }
 
 -- a slice of the whole, as written
 pub written_back : {X : Type 0} (old new : List X) (n : ℕ) → n ≡ length old → length new ≡ length old → take n (new ++ drop (length new) old) ≡ new

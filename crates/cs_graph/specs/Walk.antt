@@ -1,7 +1,8 @@
 -- What holds while a graph is walked: each number is new, open (its frame is on the path), or done.
-use Rattle.std.specs.Prelude.{◌≡◌, ℕ, ◌+◌, ◌*◌, ◌<◌, ◌≤◌, Bool, true, false, List, [], Option, Some, None, Result, Ok, Err, map, length, slice_get, get_or, take, count_by}
-use Rattle.cs_graph.specs.Chains.{On, Distinct, Chain}
-use Rattle.cs_graph.specs.Graph.{Graph, Refers, IsRefusal}
+use Rattle.std.specs.Prelude.{◌≡◌, ℕ, ◌+◌, ◌*◌, ◌<◌, ◌≤◌, Bool, true, false, List, [], Option, Some, None, Result, Ok, Err, map, length, slice_get, get_or, take, count_by, Vec}
+use Rattle.std.specs.declared.alloc.Global.{Global}
+use Rattle.cs_graph.specs.Chains.{On, Distinct, Chain, NoCycle}
+use Rattle.cs_graph.specs.Graph.{Graph, Refers, AreHeights, FallAlong, IsRefusal}
 use Rattle.cs_graph.specs.Paths.{Links}
 use Rattle.cs_graph.specs.declared.fault.GraphFault.{GraphFault}
 use Rattle.cs_graph.specs.declared.walk.Frame.{Frame}
@@ -117,3 +118,13 @@ pub record Reached (G : Graph) (M N : List VisitState) (n : ℕ) : Type 0 where
 abbrev pub Walked : Graph → List VisitState → List VisitState → ℕ → Result (Unit {0}) GraphFault → Type 0
 Walked G M N n (Ok u) = Reached G M N n
 Walked G M N n (Err e) = IsRefusal e G
+
+-- these are the heights of all numbers
+pub record Solved (G : Graph) (heights : List ℕ) : Type 0 where
+  pub each : AreHeights G heights
+  pub fall : FallAlong G heights
+  pub acyclic : NoCycle (Refers G)
+
+abbrev pub Found : Graph → Result (Vec ℕ Global) GraphFault → Type 0
+Found G (Ok v) = Solved G v.items
+Found G (Err e) = IsRefusal e G

@@ -4,7 +4,7 @@
 ghost use Rattle.std.specs.Prelude.{◌≡◌, ◌<◌, ◌++◌, [], ◌∷◌, Some, IfOk, IfErr, OnOk, IsOkUnless, length, map, slice_get, slice_set};
 ghost use Rattle.cs_graph.specs.Chains.{NoCycle};
 ghost use Rattle.cs_graph.specs.Graph.{graph_of, Refers, Within, AreHeights, FallAlong, IsRefusal};
-ghost use Rattle.cs_graph.specs.Walk.{State, Marked, Passed, Walking, Stopped, Stepped, Walked, frame_of, height_of};
+ghost use Rattle.cs_graph.specs.Walk.{State, Marked, Passed, Walking, Stopped, Stepped, Walked, Found, frame_of, height_of};
 
 use crate::GraphFault;
 use crate::cycle::cycle_from;
@@ -126,6 +126,24 @@ fn heights_of(alloc: Global, marks: &[VisitState]) -> Result<Vec<usize>, AllocEr
     Ok(heights)
 }
 
+/// The height of each number, found by a walk from each that is new. What is known of the answer is one clause here, since each `?` has to show
+/// each clause.
+fn heights_by_walk(alloc: Global, graph: &[Vec<usize>]) -> Result<Vec<usize>, GraphFault>
+    requires { Within (graph_of graph.now) }
+    ensures { Found (graph_of graph.now) result }
+{
+    let mut walk = Walk {
+        marks: vec![in alloc; VisitState::New; graph.len()]?,
+        path: Vec::new(alloc),
+    };
+    for number in 0..graph.len() {
+        if let VisitState::New = walk.marks[number] {
+            walk_from(alloc, graph, &mut walk, number)?;
+        }
+    }
+    Ok(heights_of(alloc, &walk.marks)?)
+}
+
 /// The height of each number of a graph: the length of the longest chain of references from it. `graph` has, for each
 /// number, the numbers that it refers to, all of which are below `graph.len()`. Its time is linear in the numbers and
 /// references, and a long chain takes no stack.
@@ -142,14 +160,5 @@ pub fn heights(alloc: Global, graph: &[Vec<usize>]) -> Result<Vec<usize>, GraphF
     ensures only { NoCycle (Refers (graph_of graph.now))
         → IsOkUnless result GraphFault.OutOfMemory }
 {
-    let mut walk = Walk {
-        marks: vec![in alloc; VisitState::New; graph.len()]?,
-        path: Vec::new(alloc),
-    };
-    for number in 0..graph.len() {
-        if let VisitState::New = walk.marks[number] {
-            walk_from(alloc, graph, &mut walk, number)?;
-        }
-    }
-    Ok(heights_of(alloc, &walk.marks)?)
+    heights_by_walk(alloc, graph)
 }

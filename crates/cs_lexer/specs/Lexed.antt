@@ -7,6 +7,7 @@ use Rattle.cs_grammar.specs.declared.token.Token.{Token}
 use Rattle.cs_grammar.specs.declared.profile.Profile.{Profile}
 use Rattle.cs_grammar.specs.declared.profile.Profile.TheVariants as profiles
 use Rattle.cs_grammar.specs.Cut.{Lexeme, lexeme}
+use Rattle.cs_grammar.specs.CutIn.{IsCutIn}
 use Rattle.cs_grammar.specs.Stuck.{IsStuckIn}
 use Rattle.cs_grammar.specs.View.{lexemes_view}
 
@@ -45,3 +46,8 @@ IsOf (Err e) xs = e ≡ faults.OutOfMemory
 abbrev pub Puts : {X : Type 0} → Result X SyntaxFault → List Token → List Token → List Lexeme → Type 0
 Puts (Ok x) old new ks = lexemes_view new ≡ lexemes_view old ++ ks
 Puts (Err e) old new ks = e ≡ faults.OutOfMemory
+
+-- these are the tokens of a source in a profile, or it is refused; for private contracts alone
+abbrev pub Cuts : {X : Type 0} → Result X SyntaxFault → Profile → List ℕ → List Token → Type 0
+Cuts (Ok x) p source new = IsCutIn p source (lexemes_view new)
+Cuts (Err e) p source new = IsRefusalIn p source e

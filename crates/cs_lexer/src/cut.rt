@@ -7,7 +7,7 @@ ghost use Rattle.cs_grammar.specs.Stuck.{IsStuck, IsStuckIn};
 ghost use Rattle.cs_grammar.specs.declared.profile.Profile.{Profile};
 ghost use Rattle.cs_grammar.specs.declared.profile.Profile.TheVariants as profiles;
 ghost use Rattle.cs_grammar.specs.View.{lexemes_view};
-ghost use Rattle.cs_lexer.specs.Lexed.{Answers, AreSlices, IsRefusal, IsRefusalIn, Puts, Refuses};
+ghost use Rattle.cs_lexer.specs.Lexed.{Answers, AreSlices, Cuts, IsRefusal, IsRefusalIn, Puts, Refuses};
 
 use crate::attribute::attribute_in;
 use crate::line::{line_after, line_ended};
@@ -34,6 +34,54 @@ fn end_line(tokens: &mut Vec<Token<'_>>, line: LineState, start: usize) -> Resul
     Ok(())
 }
 
+/// Puts the tokens of a source in a profile behind none. They are the caller's, and what is known of them is one clause: each `?` would have to drop them,
+/// and to show each clause.
+fn put_tokens<'a>(
+    alloc: Global,
+    profile: Profile,
+    source: &'a str,
+    tokens: &mut Vec<Token<'a>>,
+) -> Result<(), SyntaxFault>
+    requires { tokens.old.items ≡ [] }
+    ensures { Cuts result profile source.now tokens.new.items }
+{
+    let bytes = source.as_bytes();
+    let mut at = 0;
+    let mut line = LineState::Plain;
+    'text: while at < bytes.len() {
+        match read_piece(line, &bytes[at..]) {
+            Piece::Space => at += 1,
+            Piece::NewLine => {
+                end_line(tokens, line, at)?;
+                line = line_ended(line);
+                at += 1;
+            }
+            Piece::Comment(len) => {
+                end_line(tokens, line, at)?;
+                line = line_ended(line);
+                at += len;
+            }
+            Piece::Token(sort, len) => {
+                tokens.push(Token {
+                    sort,
+                    text: &source[at..at + len],
+                    start: at,
+                })?;
+                line = line_after(sort, &bytes[at..at + len]);
+                at += len;
+            }
+            Piece::NoToken => match attribute_in(alloc, profile, &bytes[at..])? {
+                Some(len) => at += len,
+                None => return Err(SyntaxFault::NoToken { offset: at }),
+            },
+            Piece::TooLarge => return Err(SyntaxFault::IntegerRange { offset: at }),
+        }
+    }
+    end_line(tokens, line, at)?;
+    put(tokens, Sort::End, at)?;
+    Ok(())
+}
+
 /// The tokens of a source in a profile, with the commas that the ends of lines insert, and the end
 /// (CUE, lexical elements). A comment counts as the end of its line, and in the wide profile an
 /// attribute as nothing (CUE, attributes). No text is copied.
@@ -56,41 +104,8 @@ pub fn lex_in(alloc: Global, profile: Profile, source: &str) -> Result<Vec<Token
     // Each token's text is the slice of the source at its start, and they are in order.
     ensures slices { IfOk result (λ v. AreSlices source.now 0 (lexemes_view v.items)) }
 {
-    let bytes = source.as_bytes();
     let mut tokens = Vec::new(alloc);
-    let mut at = 0;
-    let mut line = LineState::Plain;
-    'text: while at < bytes.len() {
-        match read_piece(line, &bytes[at..]) {
-            Piece::Space => at += 1,
-            Piece::NewLine => {
-                end_line(&mut tokens, line, at)?;
-                line = line_ended(line);
-                at += 1;
-            }
-            Piece::Comment(len) => {
-                end_line(&mut tokens, line, at)?;
-                line = line_ended(line);
-                at += len;
-            }
-            Piece::Token(sort, len) => {
-                tokens.push(Token {
-                    sort,
-                    text: &source[at..at + len],
-                    start: at,
-                })?;
-                line = line_after(sort, &bytes[at..at + len]);
-                at += len;
-            }
-            Piece::NoToken => match attribute_in(alloc, profile, &bytes[at..])? {
-                Some(len) => at += len,
-                None => return Err(SyntaxFault::NoToken { offset: at }),
-            },
-            Piece::TooLarge => return Err(SyntaxFault::IntegerRange { offset: at }),
-        }
-    }
-    end_line(&mut tokens, line, at)?;
-    put(&mut tokens, Sort::End, at)?;
+    put_tokens(alloc, profile, source, &mut tokens)?;
     Ok(tokens)
 }
 

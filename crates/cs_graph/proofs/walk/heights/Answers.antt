@@ -1,49 +1,38 @@
-use Rattle.std.proofs.Common.{◌≡◌, ℕ, ◌+◌, ◌<◌, [], length, map, sym, ap, subst, ◌∙◌, arith}
-use Rattle.std.proofs.lemmas.Option.{get_or_from_slice_get}
-use Rattle.cs_graph.specs.Graph.{graph_of, AreHeights, FallAlong}
-use Rattle.cs_graph.specs.Walk.{State, IsDone, height_of}
-use Rattle.cs_graph.specs.declared.walk.Walk.{Walk}
-use Rattle.cs_graph.specs.declared.walk.VisitState.TheVariants.{New}
-use Rattle.cs_graph.proofs.Marks.{graph_long, keeps_same}
-use Rattle.cs_graph.proofs.Frames.{done_of}
-use Rattle.cs_graph.proofs.AllDone.{one_more, falls_of, acyclic_of, heights_are}
+use Rattle.std.proofs.Common.{ℕ, Vec, Result, Ok, Err, refl}
+use Rattle.std.specs.declared.alloc.Global.{Global}
+use Rattle.std.specs.Result.{IfOk, IfErr, OnOk, IsOkUnless}
+use Rattle.cs_graph.specs.Chains.{NoCycle}
+use Rattle.cs_graph.specs.Graph.{Graph, Refers, AreHeights, FallAlong, IsRefusal, graph_of}
+use Rattle.cs_graph.specs.Walk.{Found}
+use Rattle.cs_graph.specs.declared.fault.GraphFault.{GraphFault}
+use Rattle.cs_graph.specs.declared.fault.GraphFault.TheVariants.{OutOfMemory, Cycle}
+use Rattle.cs_graph.proofs.Paths.{none_closed}
 use Rattle.cs_graph.proofs.walk.heights.Goals as goal
-use Rattle.cs_graph.proofs.walk.heights.Goals.{in-New+in_ok-walk_from, in_default}
 
-pub loop-number-preserved : goal.loop-number-preserved
-loop-number-preserved c =
-    let G = graph_of c.args.graph.now in
-    let inv = c.loop-number.invariant in
-    let M = c.loop-number.walk.marks.items in
-    let n = c.loop-number.number in
-    let P : Walk → Type 0 = λ v. (State G v.marks.items [] × ((k : ℕ) → k < n + 1 → IsDone v.marks.items k)) × (v.path.items ≡ []) in
-    let both : P c.match-index.walk = elim c.match-index.branch [
-      | in-New+in_ok-walk_from w ↦
-          let got = w.in_ok-walk_from.ensures.walked in
-          subst P (sym w.walk-is) ((got.state, one_more M w.walk_from.new.walk.marks.items n got.kept inv.done got.done), w.in_ok-walk_from.ensures.path)
-      | in_default w ↦
-          let here = done_of G M n inv.state (λ e. w.in_default.not-New (c.index.ensures ∙ get_or_from_slice_get M n New c.index.result.now e)) (let s = inv.state in omega (arith, s.marked.long, graph_long c.args.graph.now, c.loop-number-test.true)) in
-          subst P (sym w.walk-is) ((inv.state, one_more M M n (keeps_same M) inv.done here), inv.path)
-    ] in record { state = both.0.0; path = both.1; done = both.0.1 }
+found_of : (G : Graph) (r : Result (Vec ℕ Global) GraphFault) → Found G r → IfOk r (λ v. AreHeights G v.items)
+found_of G (Ok v) h = h.each
+found_of G (Err e) h = tt
 
-pub returns-clause-found : goal.returns-clause-found
-returns-clause-found c =
-    let G = graph_of c.args.graph.now in
-    let M = c.loop-number.walk.marks.items in
-    let inv = c.loop-number.invariant in
-    let all = λ (n : ℕ) (l : n < length G). inv.done n (omega (arith, l, graph_long c.args.graph.now)) in
-    subst (AreHeights G) (sym (c.in_ok-heights_of.ensures ∙ ap (map height_of) c.deref.ensures.value)) (heights_are G M inv.state all)
+falls_of : (G : Graph) (r : Result (Vec ℕ Global) GraphFault) → Found G r → IfOk r (λ v. FallAlong G v.items)
+falls_of G (Ok v) h = h.fall
+falls_of G (Err e) h = tt
 
-pub returns-clause-falls : goal.returns-clause-falls
-returns-clause-falls c =
-    let G = graph_of c.args.graph.now in
-    let M = c.loop-number.walk.marks.items in
-    let inv = c.loop-number.invariant in
-    let all = λ (n : ℕ) (l : n < length G). inv.done n (omega (arith, l, graph_long c.args.graph.now)) in
-    subst (FallAlong G) (sym (c.in_ok-heights_of.ensures ∙ ap (map height_of) c.deref.ensures.value)) (falls_of G M inv.state all)
+acyclic_of : (G : Graph) (r : Result (Vec ℕ Global) GraphFault) → Found G r → OnOk r (NoCycle (Refers G))
+acyclic_of G (Ok v) h = h.acyclic
+acyclic_of G (Err e) h = tt
 
-pub returns-clause-acyclic : goal.returns-clause-acyclic
-returns-clause-acyclic c =
+refused_of : (G : Graph) (r : Result (Vec ℕ Global) GraphFault) → Found G r → IfErr r (λ e. IsRefusal e G)
+refused_of G (Ok v) h = tt
+refused_of G (Err e) h = h
+
+only_of : (G : Graph) (r : Result (Vec ℕ Global) GraphFault) → Found G r → NoCycle (Refers G) → IsOkUnless r OutOfMemory
+only_of G (Ok v) h none = tt
+only_of G (Err OutOfMemory) h none = refl
+only_of G (Err (Cycle v)) h none = absurd (none_closed (Refers G) none v.items h.cycle.0)
+
+pub returns : goal.returns
+returns c =
     let G = graph_of c.args.graph.now in
-    let inv = c.loop-number.invariant in
-    acyclic_of G c.loop-number.walk.marks.items inv.state (λ (n : ℕ) (l : n < length G). inv.done n (omega (arith, l, graph_long c.args.graph.now)))
+    let r = c.heights_by_walk.result in
+    let h = c.heights_by_walk.ensures in
+    record { found = found_of G r h; falls = falls_of G r h; acyclic = acyclic_of G r h; refused = refused_of G r h; only = only_of G r h }

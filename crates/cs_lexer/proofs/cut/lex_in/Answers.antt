@@ -1,83 +1,57 @@
-use Rattle.std.proofs.Common.{◌≡◌, ◌+◌, ◌-◌, ◌++◌, ◌∷◌, [], drop, take, sym, ap, ◌∙◌, arith}
-use Rattle.std.proofs.lemmas.List.{map_push}
-use Rattle.cs_grammar.specs.declared.token.Sort.TheVariants as sorts
-use Rattle.cs_grammar.specs.Cut.{lexeme, line_after, comma_if}
-use Rattle.cs_grammar.specs.View.{lexeme_view, lexemes_view}
-use Rattle.cs_lexer.proofs.Cutting.{comma_front, at_end, turn_blank, turn_line, turn_comment, comment_within, turn_token, turn_attribute, turn_none, turn_large, attribute_within, token_within, token_boundary}
+use Rattle.std.proofs.Common.{ℕ, List, Vec, Err}
+use Rattle.std.specs.declared.alloc.Global.{Global}
+use Rattle.std.proofs.lemmas.Result.{err_from_is_err_and}
+use Rattle.cs_grammar.specs.Cut.{Lexeme}
+use Rattle.cs_grammar.specs.CutIn.{IsCutIn}
+use Rattle.cs_grammar.specs.Stuck.{IsStuckIn}
+use Rattle.cs_grammar.specs.declared.fault.SyntaxFault.{SyntaxFault}
+use Rattle.cs_grammar.specs.declared.fault.SyntaxFault.TheVariants.{OutOfMemory, NoToken, Syntax, LeftOut, IntegerRange, TooHigh}
+use Rattle.cs_grammar.specs.declared.profile.Profile.{Profile}
+use Rattle.cs_grammar.specs.declared.token.Token.{Token}
+use Rattle.cs_grammar.specs.View.{lexemes_view}
+use Rattle.cs_lexer.specs.Lexed.{Answers, Refuses, IsRefusalIn}
 use Rattle.cs_lexer.proofs.CutUnique.{cut_once, stuck_once, cut_not_stuck}
 use Rattle.cs_lexer.proofs.Slices.{slices}
 use Rattle.cs_lexer.proofs.cut.lex_in.Goals as goal
 
-pub text-preserved-in-Space : goal.text-preserved-in-Space
-text-preserved-in-Space c = record { in_range = omega arith; before = turn_blank _ _ _ _ _ c.text.invariant.before c.text-test.true c.in-Space.ensures }
+module _ (p : Profile) (bs : List ℕ) where
+  -- what has a cut isn't refused, but for want of memory
+  refused_alone : (e : SyntaxFault) → IsRefusalIn p bs e → (ks : List Lexeme) → IsCutIn p bs ks → Answers {X = Vec Token Global} (λ v. lexemes_view v.items) (Err e) ks
+  refused_alone OutOfMemory h ks cut = tt
+  refused_alone (NoToken o) h ks cut = cut_not_stuck cut h
+  refused_alone (Syntax o) h ks cut = cut_not_stuck cut h
+  refused_alone (LeftOut o) h ks cut = cut_not_stuck cut h
+  refused_alone (IntegerRange o) h ks cut = cut_not_stuck cut h
+  refused_alone TooHigh h ks cut = cut_not_stuck cut h
 
-pub text-preserved-in-NewLine : goal.text-preserved-in-NewLine
-text-preserved-in-NewLine c = record { in_range = omega arith; before = rw (c.line_ended-line.ensures, c.in_ok-end_line-in-NewLine.ensures) (turn_line _ _ _ _ _ c.text.invariant.before c.text-test.true c.in-NewLine.ensures) }
+  -- what is stuck is refused so
+  refused_so : (e : SyntaxFault) → IsRefusalIn p bs e → (f : SyntaxFault) → IsStuckIn p bs f → Refuses {X = Vec Token Global} (Err e) f
+  refused_so OutOfMemory h f stuck = tt
+  refused_so (NoToken o) h f stuck = stuck_once h stuck
+  refused_so (Syntax o) h f stuck = stuck_once h stuck
+  refused_so (LeftOut o) h f stuck = stuck_once h stuck
+  refused_so (IntegerRange o) h f stuck = stuck_once h stuck
+  refused_so TooHigh h f stuck = stuck_once h stuck
 
-pub overflow_add-at-in-Comment : goal.overflow_add-at-in-Comment
-overflow_add-at-in-Comment c = omega (arith, comment_within c.as_bytes-bytes.result.now c.text.at c.in-Comment.len c.text.invariant.in_range c.in-Comment.ensures.1)
+pub returns : goal.returns
+returns c =
+    let cut = c.in_ok-put_tokens.ensures in
+    record {
+      found = cut;
+      refused = tt;
+      only = λ ks other. cut_once c.args.profile cut other;
+      stuck = λ f at. cut_not_stuck cut at;
+      slices = slices c.args.source.now c.args.profile _ cut;
+    }
 
-pub text-preserved-in-Comment : goal.text-preserved-in-Comment
-text-preserved-in-Comment c = record { in_range = comment_within c.as_bytes-bytes.result.now c.text.at c.in-Comment.len c.text.invariant.in_range c.in-Comment.ensures.1; before = rw (c.line_ended-line-in-Comment.ensures, c.in_ok-end_line-in-Comment.ensures) (turn_comment _ _ _ _ _ c.text.invariant.before c.in-Comment.len c.in-Comment.ensures.0 c.in-Comment.ensures.1) }
-
-pub range-requires-clause-end_boundary : goal.range-requires-clause-end_boundary
-range-requires-clause-end_boundary c =
-    let e = c.as_bytes-bytes.ensures.value in
-    rw (← e) (token_boundary c.as_bytes-bytes.result.now c.text.at c.in-Token.len (rw e c.utf8.source) c.text.invariant.in_range c.in-Token.ensures.1)
-
-pub text-preserved-in-Token : goal.text-preserved-in-Token
-text-preserved-in-Token c =
-    let bs = c.as_bytes-bytes.result.now in
-    let at = c.text.at in
-    let len = c.in-Token.len in
-    let front = lexemes_view c.text.tokens.items in
-    let back : at + len - at ≡ len = omega arith in
-    let text-is : c.range.result.now ≡ take len (drop at bs) = c.range.ensures.value ∙ ap (λ k. take k (drop at c.args.source.now)) back ∙ ap (λ t. take len (drop at t)) (sym c.as_bytes-bytes.ensures.value) in
-    let line-is : c.line_after-line.result ≡ line_after c.in-Token.sort (take len (drop at bs)) = c.line_after-line.ensures ∙ ap (λ k. line_after c.in-Token.sort (take k (drop at bs))) back in
-    let pushed : lexemes_view c.push.new.self.items ≡ front ++ lexeme c.in-Token.sort (take len (drop at bs)) at ∷ [] =
-    ap lexemes_view c.in_ok-push-in-Token.ensures.items ∙ map_push lexeme_view c.text.tokens.items _ ∙ ap (λ t. front ++ lexeme c.in-Token.sort t at ∷ []) text-is in
-    record { in_range = token_within bs at len c.text.invariant.in_range c.in-Token.ensures.1; before = rw (line-is, pushed) (turn_token _ _ _ _ _ c.text.invariant.before len c.in-Token.sort c.in-Token.ensures.0) }
-
-pub overflow_add-at-in-Some : goal.overflow_add-at-in-Some
-overflow_add-at-in-Some c = omega (arith, attribute_within c.args.profile c.as_bytes-bytes.result.now c.text.at c.in-Some.len c.text.invariant.in_range (sym c.in_ok-len-in-NoToken.ensures ∙ c.in-Some.is))
-
-pub text-preserved : goal.text-preserved
-text-preserved c =
-    let is = sym c.in_ok-len-in-NoToken.ensures ∙ c.in-Some.is in
-    record { in_range = attribute_within c.args.profile c.as_bytes-bytes.result.now c.text.at c.in-Some.len c.text.invariant.in_range is; before = turn_attribute _ _ _ _ _ c.text.invariant.before c.in-Some.len is }
-
-pub returns-in-None-clause-refused : goal.returns-in-None-clause-refused
-returns-in-None-clause-refused c = rw (← c.as_bytes-bytes.ensures.value) (turn_none _ _ _ _ _ c.text.invariant.before c.in-NoToken.ensures (sym c.in_ok-len-in-NoToken.ensures ∙ c.in-None.is))
-
-pub returns-in-TooLarge-clause-refused : goal.returns-in-TooLarge-clause-refused
-returns-in-TooLarge-clause-refused c = rw (← c.as_bytes-bytes.ensures.value) (turn_large _ _ _ _ _ c.text.invariant.before _ c.in-TooLarge.ensures.1)
-
-pub returns-clause-found : goal.returns-clause-found
-returns-clause-found c =
-    let front = lexemes_view c.text.tokens.items in
-    let pushed : lexemes_view c.put.new.tokens.items ≡ front ++ comma_if c.text.line c.text.at (lexeme sorts.End [] c.text.at ∷ []) =
-    c.in_ok-put.ensures ∙ ap (λ ks. ks ++ lexeme sorts.End [] c.text.at ∷ []) c.in_ok-end_line.ensures ∙ comma_front front (lexeme sorts.End [] c.text.at ∷ []) c.text.line c.text.at in
-    rw (pushed, ← c.as_bytes-bytes.ensures.value) (at_end _ _ _ _ _ c.text.invariant.before (omega arith))
-
--- ---- the other clauses follow
-
-pub returns-in-None-clause-only : goal.returns-in-None-clause-only
-returns-in-None-clause-only c ks cut = cut_not_stuck cut (returns-in-None-clause-refused c)
-
-pub returns-in-None-clause-stuck : goal.returns-in-None-clause-stuck
-returns-in-None-clause-stuck c f stuck = stuck_once (returns-in-None-clause-refused c) stuck
-
-pub returns-in-TooLarge-clause-only : goal.returns-in-TooLarge-clause-only
-returns-in-TooLarge-clause-only c ks cut = cut_not_stuck cut (returns-in-TooLarge-clause-refused c)
-
-pub returns-in-TooLarge-clause-stuck : goal.returns-in-TooLarge-clause-stuck
-returns-in-TooLarge-clause-stuck c f stuck = stuck_once (returns-in-TooLarge-clause-refused c) stuck
-
-pub returns-clause-only : goal.returns-clause-only
-returns-clause-only c ks cut = cut_once c.args.profile (returns-clause-found c) cut
-
-pub returns-clause-stuck : goal.returns-clause-stuck
-returns-clause-stuck c f stuck = cut_not_stuck (returns-clause-found c) stuck
-
-pub returns-clause-slices : goal.returns-clause-slices
-returns-clause-slices c = slices c.args.source.now c.args.profile _ (returns-clause-found c)
+pub returns-in_err-put_tokens : goal.returns-in_err-put_tokens
+returns-in_err-put_tokens c =
+    let p = err_from_is_err_and c.from_residual.result c.from_residual.ensures.1 in
+    let refused = c.in_err-put_tokens.ensures in
+    rw (p.1, p.2) (record {
+      found = tt;
+      refused = refused;
+      only = refused_alone _ _ _ refused;
+      stuck = refused_so _ _ _ refused;
+      slices = tt;
+    })
