@@ -3,7 +3,7 @@ use Rattle.std.proofs.Common.{◌≡◌, ℕ, zero, suc, ◌+◌, ◌-◌, ◌*�
 use Rattle.std.proofs.lemmas.Bool.Decides.{nat_tests}
 use Rattle.std.specs.Prelude.{◌==◌, ◌||◌, nat_lt, nat_le, encode_utf8}
 use Rattle.std.specs.List.{list_all}
-use Rattle.std.proofs.lemmas.Bool.{and_parts}
+use Rattle.std.proofs.lemmas.Bool.{and_parts, eqb-true}
 use Rattle.cs_lexer.specs.declared.text.TextState.{TextState}
 use Rattle.cs_lexer.specs.declared.text.TextState.TheVariants.{Inside, Escaped, Digits}
 use Rattle.cs_grammar.specs.Spelling.{is_hex_digit, digit_value, escape_value, is_character, is_nothing, hex_number}
@@ -49,15 +49,18 @@ digits_pass (suc left) n (x ∷ y ∷ ds) xs len hex good =
 pub plain_step : (x : ℕ) → (x == 34 || x == 92 || x == 10) ≡ false → ((x == 34) ≡ false) × ((x == 92) ≡ false) × ((x == 10) ≡ false)
 plain_step x h = (grind (arith, nat_tests), grind (arith, nat_tests), grind (arith, nat_tests))
 
+none_is : {c : ℕ} → ◌≡◌ {A = Option ℕ} None (Some c) → ⊥
+none_is e = cc
+
 pub escape_letter : (x c : ℕ) → escape_value x ≡ Some c → ((x == 117) ≡ false) × ((x == 85) ≡ false)
 escape_letter x c h = (by_u (x == 117) refl, by_U (x == 85) refl)
   where
     by_u : (b : Bool) → (x == 117) ≡ b → b ≡ false
-    by_u true e = let is : x ≡ 117 = grind (arith, nat_tests) in let k : None ≡ Some c = subst (λ y. escape_value y ≡ Some c) is h in absurd cc
+    by_u true e = absurd (none_is (subst (λ y. escape_value y ≡ Some c) (eqb-true x 117 e) h))
     by_u false e = refl
 
     by_U : (b : Bool) → (x == 85) ≡ b → b ≡ false
-    by_U true e = let is : x ≡ 85 = grind (arith, nat_tests) in let k : None ≡ Some c = subst (λ y. escape_value y ≡ Some c) is h in absurd cc
+    by_U true e = absurd (none_is (subst (λ y. escape_value y ≡ Some c) (eqb-true x 85 e) h))
     by_U false e = refl
 
 pub parts_close : {xs cs : List ℕ} → TextParts xs cs → (closes Inside xs ≡ true) × (characters Inside xs ≡ cs)

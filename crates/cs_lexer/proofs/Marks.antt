@@ -34,13 +34,16 @@ is_ascii_byte x = nat_lt x 128
 abbrev is_ascii_text : List ℕ → Bool
 is_ascii_text t = list_all is_ascii_byte t
 
+none_is : {s : Sort} → ◌≡◌ {A = Option Sort} None (Some s) → ⊥
+none_is e = cc
+
 pub mark_has : (p : List ℕ → Bool) (t : List ℕ) (s : Sort) → list_all p used_marks ≡ true → list_all p left_out_marks ≡ true → mark_sort t ≡ Some s → p t ≡ true
 mark_has p t s used left h = has (list_any (bytes_eq t) used_marks) (list_any (bytes_eq t) left_out_marks) refl refl h
   where
     has : (b c : Bool) → list_any (bytes_eq t) used_marks ≡ b → list_any (bytes_eq t) left_out_marks ≡ c → cond b (Some sorts.Mark) (cond c (Some sorts.LeftOut) None) ≡ Some s → p t ≡ true
     has true c eb ec k = among_all p t used_marks eb used
     has false true eb ec k = among_all p t left_out_marks ec left
-    has false false eb ec k = absurd cc
+    has false false eb ec k = absurd (none_is k)
 
 pub mark_ascii : (t : List ℕ) (s : Sort) → mark_sort t ≡ Some s → list_all is_ascii_byte t ≡ true
 mark_ascii t s h = mark_has is_ascii_text t s refl refl h

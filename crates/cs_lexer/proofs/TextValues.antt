@@ -1,6 +1,6 @@
 -- What a text is by its characters and escapes (`text_value`), by its parts (`TextParts`), and to the lexer (`closes`, `characters`): all the same.
-use Rattle.std.proofs.Common.{◌≡◌, ℕ, List, [], ◌∷◌, ◌++◌, Bool, true, false, Option, Some, None, drop, cond, option_map, refl, sym, ap, ◌∙◌, arith}
-use Rattle.std.proofs.lemmas.Bool.Decides.{nat_tests}
+use Rattle.std.proofs.Common.{◌≡◌, ℕ, List, [], ◌∷◌, ◌++◌, Bool, true, false, Option, Some, None, drop, cond, option_map, refl, sym, ap, ◌∙◌}
+use Rattle.std.proofs.lemmas.Bool.{eqb-true}
 use Rattle.std.specs.Prelude.{◌==◌, ◌&&◌, ◌||◌, encode_utf8, is_some}
 use Rattle.std.specs.List.{list_all}
 use Rattle.std.specs.Option.{unwrap_or}
@@ -38,6 +38,9 @@ record Both (o p : Option (List ℕ)) (cs : List ℕ) : Type 0 where
 some_is : (a b : List ℕ) → Some a ≡ Some b → a ≡ b
 some_is a b e = cc
 
+none_is : {cs : List ℕ} → ◌≡◌ {A = Option (List ℕ)} None (Some cs) → ⊥
+none_is e = cc
+
 both_of : (o p : Option (List ℕ)) (cs : List ℕ) → followed o p ≡ Some cs → Both o p cs
 both_of None p cs e = absurd cc
 both_of (Some c) None cs e = absurd cc
@@ -64,12 +67,12 @@ value_step x xs again escaped cs h = by (x == 34) (x == 92) (x == 10) (is_nothin
   where
     by : (q b l z : Bool) → (x == 34) ≡ q → (x == 92) ≡ b → (x == 10) ≡ l → is_nothing xs ≡ z → cond q (cond z (Some []) None) (cond b (escaped_value xs) (cond l None (followed (Some (x ∷ [])) (text_value xs)))) ≡ Some cs → TextParts (x ∷ xs) cs
     by true b l true eq eb el ez e =
-        let is : x ≡ 34 = grind (arith, nat_tests) in
+        let is : x ≡ 34 = eqb-true x 34 eq in
         let none : cs ≡ [] = sym (some_is [] cs e) in
         rw (is, nothing_is xs ez, none) ends
-    by true b l false eq eb el ez e = absurd cc
-    by false true l z eq eb el ez e = let is : x ≡ 92 = grind (arith, nat_tests) in rw is (escaped cs e)
-    by false false true z eq eb el ez e = absurd cc
+    by true b l false eq eb el ez e = absurd (none_is e)
+    by false true l z eq eb el ez e = let is : x ≡ 92 = eqb-true x 92 eb in rw is (escaped cs e)
+    by false false true z eq eb el ez e = absurd (none_is e)
     by false false false z eq eb el ez e =
         let p : (x == 34 || x == 92 || x == 10) ≡ false = rw (eq, eb, el) refl in
         let r = both_of (Some (x ∷ [])) (text_value xs) cs e in
@@ -82,9 +85,9 @@ unfolding text_value
 escape_step x xs again by_four by_eight cs h = by (x == 117) (x == 85) (escape_value x) refl refl refl h
   where
     by : (u v : Bool) (o : Option ℕ) → (x == 117) ≡ u → (x == 85) ≡ v → escape_value x ≡ o → cond u (four_digits_value xs) (cond v (eight_digits_value xs) (followed (option_map (λ c. c ∷ []) o) (text_value xs))) ≡ Some cs → TextParts (92 ∷ x ∷ xs) cs
-    by true v o eu ev eo e = let is : x ≡ 117 = grind (arith, nat_tests) in rw is (by_four cs e)
-    by false true o eu ev eo e = let is : x ≡ 85 = grind (arith, nat_tests) in rw is (by_eight cs e)
-    by false false None eu ev eo e = absurd cc
+    by true v o eu ev eo e = let is : x ≡ 117 = eqb-true x 117 eu in rw is (by_four cs e)
+    by false true o eu ev eo e = let is : x ≡ 85 = eqb-true x 85 ev in rw is (by_eight cs e)
+    by false false None eu ev eo e = absurd (none_is e)
     by false false (Some c) eu ev eo e =
         let r = both_of (Some (c ∷ [])) (text_value xs) cs e in
         let f : r.first ≡ c ∷ [] = sym (some_is (c ∷ []) r.first r.first_is) in
