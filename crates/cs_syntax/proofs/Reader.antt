@@ -8,7 +8,9 @@ use Rattle.cs_grammar.specs.declared.ast.Name.{Name}
 use Rattle.cs_grammar.specs.Words.{Words}
 use Rattle.cs_grammar.specs.Tree.{Tree, conjunction, disjunction, more, DefinitionTree, NameTree}
 use Rattle.cs_grammar.specs.View.{expr_view, exprs_view, definition_view, name_view}
+use Rattle.cs_syntax.specs.Left.{left, viewed_before, with_front, Reads}
 use Rattle.cs_syntax.specs.Reading.{◌>>=◌, Fails, Read, many, conjunction_of, disjunction_of}
+use Rattle.cs_syntax.specs.declared.parser.place.Parser.{Parser}
 use Rattle.cs_syntax.specs.FileReading.{begins_end, before_end, begins_file_name, line_at, name_line_at, any_line_at, SeenLine, definition_seen, name_seen, definitions_seen, names_seen}
 use Rattle.cs_syntax.proofs.WordKinds.{stops, proceeds}
 
@@ -28,44 +30,62 @@ fails-of f m n e h = subst (λ r. Fails f r) e h
 -- ---- one after the other
 
 module _ {X A : Type 0} (view : X → A) where
-  -- these, seen by view, and then those
-  abbrev pub viewed_before : List X → List A → List A
-  viewed_before [] rest = rest
-  viewed_before (x ∷ xs) rest = view x ∷ viewed_before xs rest
-
-  -- what was read before, and what is still read
-  abbrev pub with_front : List X → Result (List A × Words) SyntaxFault → Result (List A × Words) SyntaxFault
-  with_front xs read = read >>= λ y. Ok (viewed_before xs y.0, y.1)
-
-  before-none : (xs : List X) → viewed_before xs [] ≡ map view xs
+  before-none : (xs : List X) → viewed_before view xs [] ≡ map view xs
   before-none [] = refl
   before-none (x ∷ xs) = ap (λ ys. view x ∷ ys) (before-none xs)
 
-  before-push : (xs : List X) (x : X) (rest : List A) → viewed_before (xs ++ x ∷ []) rest ≡ viewed_before xs (view x ∷ rest)
+  before-push : (xs : List X) (x : X) (rest : List A) → viewed_before view (xs ++ x ∷ []) rest ≡ viewed_before view xs (view x ∷ rest)
   before-push [] x rest = refl
   before-push (y ∷ xs) x rest = ap (λ ys. view y ∷ ys) (before-push xs x rest)
 
-  front-push : (xs : List X) (x : X) (read : Result (List A × Words) SyntaxFault) → with_front (xs ++ x ∷ []) read ≡ with_front xs (read >>= λ y. Ok (view x ∷ y.0, y.1))
+  front-push : (xs : List X) (x : X) (read : Result (List A × Words) SyntaxFault) → with_front view (xs ++ x ∷ []) read ≡ with_front view xs (read >>= λ y. Ok (view x ∷ y.0, y.1))
   front-push xs x (Ok y) = ap (λ ys. Ok (ys, y.1)) (before-push xs x y.0)
   front-push xs x (Err f) = refl
 
   module _ (skip : Words → Option Words) (p : Read A) (xs : List X) where
-    pub goes_on : (x : X) (k n : ℕ) (ts us vs : Words) → k ≡ suc n → skip ts ≡ Some us → p us ≡ Ok (view x, vs) → with_front (xs ++ x ∷ []) (many skip p n vs) ≡ with_front xs (many skip p k ts)
+    pub goes_on : (x : X) (k n : ℕ) (ts us vs : Words) → k ≡ suc n → skip ts ≡ Some us → p us ≡ Ok (view x, vs) → with_front view (xs ++ x ∷ []) (many skip p n vs) ≡ with_front view xs (many skip p k ts)
     unfolding many
     goes_on x k n ts us vs is s r = rw (is, s, r) (front-push xs x (many skip p n vs))
 
-    pub ends : (k : ℕ) (ts : Words) → skip ts ≡ None → with_front xs (many skip p k ts) ≡ Ok (map view xs, ts)
+    pub ends : (k : ℕ) (ts : Words) → skip ts ≡ None → with_front view xs (many skip p k ts) ≡ Ok (map view xs, ts)
     unfolding many
     ends zero ts s = ap (λ y. Ok (y, ts)) (before-none xs)
     ends (suc n) ts s = rw s (ap (λ y. Ok (y, ts)) (before-none xs))
 
-    pub out : (k : ℕ) (ts : Words) → k ≡ 0 → with_front xs (many skip p k ts) ≡ Ok (map view xs, ts)
+    pub out : (k : ℕ) (ts : Words) → k ≡ 0 → with_front view xs (many skip p k ts) ≡ Ok (map view xs, ts)
     unfolding many
     out k ts is = rw is (ap (λ y. Ok (y, ts)) (before-none xs))
 
-    pub breaks : (f : SyntaxFault) (k n : ℕ) (ts us : Words) → k ≡ suc n → skip ts ≡ Some us → Fails f (p us) → Fails f (with_front xs (many skip p k ts))
+    pub breaks : (f : SyntaxFault) (k n : ℕ) (ts us : Words) → k ≡ suc n → skip ts ≡ Some us → Fails f (p us) → Fails f (with_front view xs (many skip p k ts))
     unfolding many
-    breaks f k n ts us is s h = rw (is, s) (fails-bind f (p us >>= λ y. many skip p n y.1 >>= λ z. Ok (y.0 ∷ z.0, z.1)) (λ y. Ok (viewed_before xs y.0, y.1)) (fails-bind f (p us) (λ y. many skip p n y.1 >>= λ z. Ok (y.0 ∷ z.0, z.1)) h))
+    breaks f k n ts us is s h = rw (is, s) (fails-bind f (p us >>= λ y. many skip p n y.1 >>= λ z. Ok (y.0 ∷ z.0, z.1)) (λ y. Ok (viewed_before view xs y.0, y.1)) (fails-bind f (p us) (λ y. many skip p n y.1 >>= λ z. Ok (y.0 ∷ z.0, z.1)) h))
+
+    -- a fault of those that are still read is none of what was read before
+    pub front-fails : (f : SyntaxFault) (m : Result (List A × Words) SyntaxFault) → Fails f (with_front view xs m) → Fails f m
+    front-fails f (Err e) h = h
+    front-fails faults.OutOfMemory (Ok y) h = tt
+    front-fails (faults.NoToken o) (Ok y) h = absurd cc
+    front-fails (faults.Syntax o) (Ok y) h = absurd cc
+    front-fails (faults.LeftOut o) (Ok y) h = absurd cc
+    front-fails (faults.IntegerRange o) (Ok y) h = absurd cc
+    front-fails faults.TooHigh (Ok y) h = absurd cc
+
+  ok_same : (x y : List A × Words) → ◌≡◌ {A = Result (List A × Words) SyntaxFault} (Ok x) (Ok y) → x ≡ y
+  ok_same x y e = cc
+
+  -- the first, the others behind it, and what comes then
+  module _ {B C : Type 0} (seen : B → C) (x : X) (xs : List X) (ts : Words) (g : Read C) where
+    pub first_and_others : (m : Result (List A × Words) SyntaxFault) → with_front view (x ∷ []) m ≡ Ok (map view xs, ts) → (r : Result B SyntaxFault) (p : Parser) → Reads {Y = C} seen r p (g ts)
+        → Reads {Y = List A × C} (λ b. (map view xs, seen b)) r p (m >>= λ fs. g fs.1 >>= λ b. Ok ((view x ∷ fs.0, b.0), b.1))
+    first_and_others (Err f) h r p k = absurd cc
+    first_and_others (Ok y) h (Ok b) p k =
+        let pair = ok_same (view x ∷ y.0, y.1) (map view xs, ts) h in
+        let is = ap (λ (q : List A × Words). q.0) pair in
+        let there = ap (λ (q : List A × Words). q.1) pair in
+        rw (there, k, is) refl
+    first_and_others (Ok y) h (Err e) p k =
+        let there = ap (λ (q : List A × Words). q.1) (ok_same (view x ∷ y.0, y.1) (map view xs, ts) h) in
+        rw there (fails-bind e (g ts) (λ b. Ok ((view x ∷ y.0, b.0), b.1)) k)
 
 -- ---- the lines of a file
 

@@ -591,16 +591,19 @@ package_of ts = no_clause
 ok_is : (x y : FileTree) → ◌≡◌ {A = Result FileTree SyntaxFault} (Ok x) (Ok y) → x ≡ y
 ok_is x y e = cc
 
+no_file : {e : SyntaxFault} {f : FileTree} → ◌≡◌ {A = Result FileTree SyntaxFault} (Err e) (Ok f) → ⊥
+no_file e = cc
+
 -- what is behind the lines of a file
 end_file : (w : Bool) (ts us vs : Words) (c : Option (List ℕ)) (x : List DefinitionTree × List NameTree) (f : FileTree) → SpellsPackage c ts us → LinesOf w us x vs → (expected (end_kind w) vs >>= λ ws. whole (file c x.0 x.1) ws) ≡ Ok f → SpellsFile f ts
 end_file false ts us (finish q ∷ []) c x f s t e = subst (λ y. SpellsFile y ts) (ap (file c x.0) (sym t.1) ∙ ok_is (file c x.0 x.1) f e) (spelled s t.0)
-end_file false ts us (finish q ∷ w ∷ vs) c x f s t e = absurd cc
-end_file false ts us (relation atoms.less p ∷ vs) c x f s t e = absurd cc
-end_file false ts us vs c x f s t e = absurd cc
+end_file false ts us (finish q ∷ w ∷ vs) c x f s t e = absurd (no_file e)
+end_file false ts us (relation atoms.less p ∷ vs) c x f s t e = absurd (no_file e)
+end_file false ts us vs c x f s t e = absurd (no_file e)
 end_file true ts us (wide_finish q ∷ []) c x f s t e = subst (λ y. SpellsFile y ts) (ok_is (file c x.0 x.1) f e) (wide_spelled s t)
-end_file true ts us (wide_finish q ∷ w ∷ vs) c x f s t e = absurd cc
-end_file true ts us (relation atoms.less p ∷ vs) c x f s t e = absurd cc
-end_file true ts us vs c x f s t e = absurd cc
+end_file true ts us (wide_finish q ∷ w ∷ vs) c x f s t e = absurd (no_file e)
+end_file true ts us (relation atoms.less p ∷ vs) c x f s t e = absurd (no_file e)
+end_file true ts us vs c x f s t e = absurd (no_file e)
 
 read_file : (w : Bool) (ts : Words) (f : FileTree) → file_with w 29 ts ≡ Ok f → SpellsFile f ts
 unfolding file_with

@@ -14,7 +14,7 @@ use Rattle.cs_grammar.specs.Words.{Words}
 use Rattle.cs_grammar.specs.Tree.{Label, Test, DefinitionTree, NameTree}
 use Rattle.cs_grammar.specs.View.{lexemes_view, label_of, test_view, definition_view, name_view, Seen, SeenDeclaration, field_seen, embedding_seen, conditional_seen}
 use Rattle.cs_grammar.specs.TokenWords.{words}
-use Rattle.cs_syntax.specs.Reading.{Fails}
+use Rattle.cs_syntax.specs.Reading.{◌>>=◌, Fails}
 
 -- the tokens that are left, and their words
 abbrev pub left_tokens : Parser → List Token
@@ -68,6 +68,17 @@ Reads view (Err e) p read = Fails e read
 abbrev pub ReadsPast : {X : Type 0} → Result X SyntaxFault → Parser → Result Words SyntaxFault → Type 0
 ReadsPast (Ok x) p read = read ≡ Ok (left p)
 ReadsPast (Err e) p read = Fails e read
+
+-- ---- one after the other
+
+-- these, seen by view, and then those
+abbrev pub viewed_before : {X A : Type 0} → (X → A) → List X → List A → List A
+viewed_before view [] rest = rest
+viewed_before view (x ∷ xs) rest = view x ∷ viewed_before view xs rest
+
+-- what was read before, and what is still read
+abbrev pub with_front : {X A : Type 0} → (X → A) → List X → Result (List A × Words) SyntaxFault → Result (List A × Words) SyntaxFault
+with_front view xs read = read >>= λ y. Ok (viewed_before view xs y.0, y.1)
 
 -- ---- declarations of a literal
 

@@ -366,6 +366,12 @@ struct_if r ts None None = do
 unfoldable pub struct_with : (Bool → Read Tree) → Read (List Seen × Bool)
 struct_with r ts = struct_if r ts (after kinds.CloseStruct ts) (after kinds.Dots ts)
 
+-- the tree of a literal whose bracket is at p; for private contracts alone
+abbrev pub struct_tree : (Bool → Read Tree) → ℕ → Read Tree
+struct_tree r p ts = do
+  x ← struct_with r ts
+  Ok (struct p (fields_of x.0.0) x.0.1, x.1)
+
 -- ---- conditions of the wide profile
 
 abbrev pub scalar_or : Option Tree → List ℕ → ℕ → Words → Result (Atom × Words) SyntaxFault
@@ -582,6 +588,12 @@ wide_struct_if r ts None None = do
 unfoldable pub wide_struct_with : (Bool → Read Tree) → Read (List SeenDeclaration × Bool)
 wide_struct_with r ts = wide_struct_if r ts (after kinds.CloseStruct ts) (after kinds.Dots ts)
 
+-- its tree; for private contracts alone
+abbrev pub wide_struct_tree : (Bool → Read Tree) → ℕ → Read Tree
+wide_struct_tree r p ts = do
+  x ← wide_struct_with r ts
+  Ok (literal p (declarations_of x.0.0) x.0.1, x.1)
+
 -- ---- lists
 
 abbrev pub rest_if : (Bool → Read Tree) → Bool → Words → Result (End × Words) SyntaxFault
@@ -628,6 +640,12 @@ list_if r ts None None = do
 unfoldable pub list_with : (Bool → Read Tree) → Read (List Tree × End)
 list_with r ts = list_if r ts (after kinds.CloseList ts) (after kinds.Dots ts)
 
+-- its tree; for private contracts alone
+abbrev pub list_tree : (Bool → Read Tree) → Read Tree
+list_tree r ts = do
+  x ← list_with r ts
+  Ok (list (trees_of x.0.0) x.0.1, x.1)
+
 -- ---- expressions
 
 -- what is behind the bracket of a parenthesis
@@ -636,6 +654,12 @@ paren_with r ts = do
   e ← r false ts
   us ← paren_end e.1
   Ok (e.0, us)
+
+-- its tree; for private contracts alone
+abbrev pub paren_tree : (Bool → Read Tree) → Read Tree
+paren_tree r ts = do
+  x ← paren_with r ts
+  Ok (paren x.0, x.1)
 
 -- an operand without `close`
 unfoldable pub uncalled_with : (Bool → Read Tree) → Read Tree

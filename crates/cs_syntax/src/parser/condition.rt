@@ -101,12 +101,12 @@ impl Parser<'_, '_> {
         };
         match kind_of(&token) {
             Kind::Text => {
-                self.next += 1;
+                self.pass();
                 Ok(Scalar::Text(unescape(self.alloc, token.text)?))
             }
             Kind::Name => match scalar_of(token.text) {
                 Some(scalar) => {
-                    self.next += 1;
+                    self.pass();
                     Ok(scalar)
                 }
                 None => Err(fault_of(&token)),
@@ -147,16 +147,16 @@ impl Parser<'_, '_> {
         };
         match kind_of(&token) {
             Kind::Equal => {
-                self.next += 1;
+                self.pass();
                 self.compared(true)
             }
             Kind::Unequal => {
-                self.next += 1;
+                self.pass();
                 self.compared(false)
             }
             other => match relation_of(other) {
                 Some(relation) => {
-                    self.next += 1;
+                    self.pass();
                     self.related(relation)
                 }
                 None => Ok((Test::True, true)),

@@ -2,13 +2,13 @@
 // may nest. It begins at 29, a body and 28 values inside it, which is what
 // tokens within the limit of nesting need: however long a source is, the stack bears it.
 
-ghost use Rattle.std.specs.Prelude.{◌≡◌, ◌≤◌, map, length, true, false, IfOk};
+ghost use Rattle.std.specs.Prelude.{◌≡◌, ◌≤◌, [], map, length, true, false, IfOk};
 ghost use Rattle.cs_grammar.specs.Spells.{start_at};
 ghost use Rattle.cs_grammar.specs.View.{expr_view, field_view, declaration_view, end_view};
-ghost use Rattle.cs_syntax.specs.Left.{left, Reads};
-ghost use Rattle.cs_syntax.specs.Reading.{inner, field_with, fields_with, struct_with, rest_with, end_with, elements_with, list_with};
-ghost use Rattle.cs_syntax.specs.Reading.{declaration_with, declarations_with, wide_struct_with};
-ghost use Rattle.cs_syntax.specs.Reading.{paren_with, uncalled_with, operand_with, amps_with, conj_with, branch_with, bars_with, expr_with, most_depth};
+ghost use Rattle.cs_syntax.specs.Left.{left, with_front, Reads};
+ghost use Rattle.cs_syntax.specs.Reading.{inner, field_with, fields_with, struct_with, struct_tree, rest_with, end_with, elements_with, list_with, list_tree};
+ghost use Rattle.cs_syntax.specs.Reading.{declaration_with, declarations_with, wide_struct_with, wide_struct_tree};
+ghost use Rattle.cs_syntax.specs.Reading.{paren_with, paren_tree, uncalled_with, operand_with, amps_with, conj_with, branch_with, bars_with, expr_with, most_depth};
 
 use crate::parser::kind::kind_of;
 use crate::parser::literal::literal;
@@ -68,43 +68,53 @@ impl Parser<'_, '_> {
         })
     }
 
-    /// The fields after the first.
+    /// The fields after the first, behind it.
     #[cycle(parse)]
-    fn fields(&mut self, depth: usize) -> Result<Vec<Field>, SyntaxFault>
+    fn fields(&mut self, depth: usize, fields: &mut Vec<Field>) -> Result<(), SyntaxFault>
         requires { depth ≤ most_depth }
-        ensures { Reads (λ v. map field_view v.items) result self.new
-            (fields_with (inner depth) (length (left self.old)) (left self.old)) }
+        ensures { Reads (λ _. map field_view fields.new.items) result self.new
+            (with_front field_view fields.old.items (fields_with (inner depth) (length (left self.old)) (left self.old))) }
     {
-        let mut fields = Vec::new(self.alloc);
         for _ in self.next..self.tokens.len() {
             if !self.skip_to_field() {
-                return Ok(fields);
+                return Ok(());
             }
             fields.push(self.field(depth)?)?;
         }
-        Ok(fields)
+        Ok(())
     }
 
-    /// What follows the bracket that opens a struct: its fields, and whether it is opened.
+    /// What follows the bracket that opens a struct.
+    #[cycle(parse)]
+    fn structure(&mut self, depth: usize, at: usize) -> Result<Expr, SyntaxFault>
+        requires { depth ≤ most_depth }
+        ensures { Reads expr_view result self.new (struct_tree (inner depth) at (left self.old)) }
+    {
+        let mut fields = Vec::new(self.alloc);
+        let opened = self.struct_inside(depth, &mut fields)?;
+        Ok(Expr::Struct { at, fields, opened })
+    }
+
+    /// Puts the fields of a struct behind none, and answers whether it is opened. They are the caller's, so that no `?` drops them.
     #[cycle(parse)]
     #[tactic(auto, unfolding(crate::specs::Reading::struct_with))]
-    fn structure(&mut self, depth: usize) -> Result<(Vec<Field>, bool), SyntaxFault>
-        requires { depth ≤ most_depth }
-        ensures { Reads (λ x. (map field_view x.0.items, x.1)) result self.new
+    fn struct_inside(&mut self, depth: usize, fields: &mut Vec<Field>) -> Result<bool, SyntaxFault>
+        requires within { depth ≤ most_depth }
+        requires none { fields.old.items ≡ [] }
+        ensures { Reads (λ b. (map field_view fields.new.items, b)) result self.new
             (struct_with (inner depth) (left self.old)) }
     {
         if self.skip(Kind::CloseStruct) {
-            return Ok((Vec::new(self.alloc), false));
+            return Ok(false);
         }
         if self.skip(Kind::Dots) {
             self.close(Kind::CloseStruct)?;
-            return Ok((Vec::new(self.alloc), true));
+            return Ok(true);
         }
         let first = self.field(depth)?;
-        let mut fields = self.fields(depth)?;
-        let opened = self.opening()?;
-        fields.insert(0, first)?;
-        Ok((fields, opened))
+        fields.push(first)?;
+        self.fields(depth, fields)?;
+        self.opening()
     }
 
     /// A declaration of a literal of the wide profile: a name, a field, an expression that is embedded, or a literal under conditions.
@@ -129,43 +139,62 @@ impl Parser<'_, '_> {
         Ok(Declaration::Embedded { at, value })
     }
 
-    /// The declarations after the first.
+    /// The declarations after the first, behind it.
     #[cycle(parse)]
-    fn declarations(&mut self, depth: usize) -> Result<Vec<Declaration>, SyntaxFault>
+    fn declarations(
+        &mut self,
+        depth: usize,
+        declarations: &mut Vec<Declaration>,
+    ) -> Result<(), SyntaxFault>
         requires { depth ≤ most_depth }
-        ensures { Reads (λ v. map declaration_view v.items) result self.new
-            (declarations_with (inner depth) (length (left self.old)) (left self.old)) }
+        ensures { Reads (λ _. map declaration_view declarations.new.items) result self.new
+            (with_front declaration_view declarations.old.items (declarations_with (inner depth) (length (left self.old)) (left self.old))) }
     {
-        let mut declarations = Vec::new(self.alloc);
         for _ in self.next..self.tokens.len() {
             if !self.skip_to_field() {
-                return Ok(declarations);
+                return Ok(());
             }
             declarations.push(self.declaration(depth)?)?;
         }
-        Ok(declarations)
+        Ok(())
     }
 
-    /// What follows the bracket that opens a literal of the wide profile: its declarations, and whether it is opened.
+    /// What follows the bracket that opens a literal of the wide profile.
+    #[cycle(parse)]
+    fn wide_structure(&mut self, depth: usize, at: usize) -> Result<Expr, SyntaxFault>
+        requires { depth ≤ most_depth }
+        ensures { Reads expr_view result self.new
+            (wide_struct_tree (inner depth) at (left self.old)) }
+    {
+        let mut declarations = Vec::new(self.alloc);
+        let opened = self.wide_inside(depth, &mut declarations)?;
+        Ok(literal(self.alloc, at, declarations, opened)?)
+    }
+
+    /// Puts the declarations of such a literal behind none, and answers whether it is opened.
     #[cycle(parse)]
     #[tactic(auto, unfolding(crate::specs::Reading::wide_struct_with))]
-    fn wide_structure(&mut self, depth: usize) -> Result<(Vec<Declaration>, bool), SyntaxFault>
-        requires { depth ≤ most_depth }
-        ensures { Reads (λ x. (map declaration_view x.0.items, x.1)) result self.new
+    fn wide_inside(
+        &mut self,
+        depth: usize,
+        declarations: &mut Vec<Declaration>,
+    ) -> Result<bool, SyntaxFault>
+        requires within { depth ≤ most_depth }
+        requires none { declarations.old.items ≡ [] }
+        ensures { Reads (λ b. (map declaration_view declarations.new.items, b)) result self.new
             (wide_struct_with (inner depth) (left self.old)) }
     {
         if self.skip(Kind::CloseStruct) {
-            return Ok((Vec::new(self.alloc), false));
+            return Ok(false);
         }
         if self.skip(Kind::Dots) {
             self.close(Kind::CloseStruct)?;
-            return Ok((Vec::new(self.alloc), true));
+            return Ok(true);
         }
         let first = self.declaration(depth)?;
-        let mut declarations = self.declarations(depth)?;
-        let opened = self.opening()?;
-        declarations.insert(0, first)?;
-        Ok((declarations, opened))
+        declarations.push(first)?;
+        self.declarations(depth, declarations)?;
+        self.opening()
     }
 
     /// What follows the `...` of a list.
@@ -199,43 +228,52 @@ impl Parser<'_, '_> {
         self.list_rest(depth)
     }
 
-    /// The elements after the first.
+    /// The elements after the first, behind it.
     #[cycle(parse)]
-    fn elements(&mut self, depth: usize) -> Result<Vec<Expr>, SyntaxFault>
+    fn elements(&mut self, depth: usize, elements: &mut Vec<Expr>) -> Result<(), SyntaxFault>
         requires { depth ≤ most_depth }
-        ensures { Reads (λ v. map expr_view v.items) result self.new
-            (elements_with (inner depth) (length (left self.old)) (left self.old)) }
+        ensures { Reads (λ _. map expr_view elements.new.items) result self.new
+            (with_front expr_view elements.old.items (elements_with (inner depth) (length (left self.old)) (left self.old))) }
     {
-        let mut elements = Vec::new(self.alloc);
         for _ in self.next..self.tokens.len() {
             if !self.skip_to_element() {
-                return Ok(elements);
+                return Ok(());
             }
             elements.push(self.inside(depth, false)?)?;
         }
-        Ok(elements)
+        Ok(())
     }
 
     /// What follows the bracket that opens a list.
     #[cycle(parse)]
-    #[tactic(auto, unfolding(crate::specs::Reading::list_with))]
-    fn list(&mut self, depth: usize) -> Result<(Vec<Expr>, ListEnd), SyntaxFault>
+    fn list(&mut self, depth: usize) -> Result<Expr, SyntaxFault>
         requires { depth ≤ most_depth }
-        ensures { Reads (λ x. (map expr_view x.0.items, end_view x.1)) result self.new
+        ensures { Reads expr_view result self.new (list_tree (inner depth) (left self.old)) }
+    {
+        let mut front = Vec::new(self.alloc);
+        let end = self.list_inside(depth, &mut front)?;
+        Ok(Expr::List { front, end })
+    }
+
+    /// Puts the elements of a list behind none, and answers how it ends.
+    #[cycle(parse)]
+    #[tactic(auto, unfolding(crate::specs::Reading::list_with))]
+    fn list_inside(&mut self, depth: usize, front: &mut Vec<Expr>) -> Result<ListEnd, SyntaxFault>
+        requires within { depth ≤ most_depth }
+        requires none { front.old.items ≡ [] }
+        ensures { Reads (λ end. (map expr_view front.new.items, end_view end)) result self.new
             (list_with (inner depth) (left self.old)) }
     {
         if self.skip(Kind::CloseList) {
-            return Ok((Vec::new(self.alloc), ListEnd::Closed));
+            return Ok(ListEnd::Closed);
         }
         if self.skip(Kind::Dots) {
-            let end = self.list_rest(depth)?;
-            return Ok((Vec::new(self.alloc), end));
+            return self.list_rest(depth);
         }
         let first = self.inside(depth, false)?;
-        let mut front = self.elements(depth)?;
-        let end = self.list_end(depth)?;
-        front.insert(0, first)?;
-        Ok((front, end))
+        front.push(first)?;
+        self.elements(depth, front)?;
+        self.list_end(depth)
     }
 
     /// What follows the bracket that opens a parenthesis.
@@ -270,6 +308,16 @@ impl Parser<'_, '_> {
         }))
     }
 
+    /// What follows the bracket of a parenthesis that is kept.
+    #[cycle(parse)]
+    fn parenthesis(&mut self, depth: usize) -> Result<Expr, SyntaxFault>
+        requires { depth ≤ most_depth }
+        ensures { Reads expr_view result self.new (paren_tree (inner depth) (left self.old)) }
+    {
+        let kept = self.paren(depth)?;
+        Ok(Expr::Paren(Box::new(self.alloc, kept)?))
+    }
+
     /// An operand without `close`.
     #[cycle(parse)]
     #[tactic(auto, unfolding(crate::specs::Reading::uncalled_with))]
@@ -282,25 +330,20 @@ impl Parser<'_, '_> {
         };
         match kind_of(&token) {
             Kind::OpenParen | Kind::OpenCall => {
-                self.next += 1;
-                let kept = self.paren(depth)?;
-                Ok(Expr::Paren(Box::new(self.alloc, kept)?))
+                self.pass();
+                self.parenthesis(depth)
             }
             Kind::OpenStruct => {
-                self.next += 1;
-                let (fields, opened) = self.structure(depth)?;
-                let at = token.start;
-                Ok(Expr::Struct { at, fields, opened })
+                self.pass();
+                self.structure(depth, token.start)
             }
             Kind::OpenWide => {
-                self.next += 1;
-                let (declarations, opened) = self.wide_structure(depth)?;
-                Ok(literal(self.alloc, token.start, declarations, opened)?)
+                self.pass();
+                self.wide_structure(depth, token.start)
             }
             Kind::OpenList => {
-                self.next += 1;
-                let (front, end) = self.list(depth)?;
-                Ok(Expr::List { front, end })
+                self.pass();
+                self.list(depth)
             }
             _ => self.leaf(),
         }

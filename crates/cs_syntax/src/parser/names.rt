@@ -54,7 +54,7 @@ impl Parser<'_, '_> {
         let at = token.start;
         match kind_of(&token) {
             Kind::Text => {
-                self.next += 1;
+                self.pass();
                 let label = unescape(self.alloc, token.text)?;
                 Ok(Selector {
                     label,

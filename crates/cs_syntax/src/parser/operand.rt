@@ -60,14 +60,14 @@ impl Parser<'_, '_> {
         };
         match kind_of(&token) {
             Kind::Text => {
-                self.next += 1;
+                self.pass();
                 Ok(Expr::NotText(unescape(self.alloc, token.text)?))
             }
             Kind::Name => {
                 if token.text != "null" {
                     return Err(fault_of(&token));
                 }
-                self.next += 1;
+                self.pass();
                 Ok(Expr::NotNull)
             }
             _ => Ok(Expr::NotInt(self.number()?)),
@@ -93,49 +93,49 @@ impl Parser<'_, '_> {
         match kind_of(&token) {
             Kind::Integer | Kind::Minus => self.integer(),
             Kind::Top => {
-                self.next += 1;
+                self.pass();
                 Ok(Expr::Top)
             }
             Kind::Bottom => {
-                self.next += 1;
+                self.pass();
                 Ok(Expr::Bottom)
             }
             Kind::Definition => {
-                self.next += 1;
+                self.pass();
                 let text = String::from_str(self.alloc, bare_name(token.text))?;
                 let at = token.start;
                 Ok(Expr::Reference { text, at })
             }
             Kind::Local => {
-                self.next += 1;
+                self.pass();
                 let text = String::from_str(self.alloc, token.text)?;
                 let at = token.start;
                 Ok(Expr::Name { text, at })
             }
             Kind::Text => {
-                self.next += 1;
+                self.pass();
                 Ok(Expr::Text(unescape(self.alloc, token.text)?))
             }
             Kind::Name if is_reserved(token.text) => Err(fault_of(&token)),
             Kind::Name => match literal_of(token.text) {
                 Some(literal) => {
-                    self.next += 1;
+                    self.pass();
                     Ok(literal)
                 }
                 None => {
-                    self.next += 1;
+                    self.pass();
                     let text = String::from_str(self.alloc, token.text)?;
                     let at = token.start;
                     Ok(Expr::Name { text, at })
                 }
             },
             Kind::Unequal => {
-                self.next += 1;
+                self.pass();
                 self.unequal()
             }
             other => match relation_of(other) {
                 Some(relation) => {
-                    self.next += 1;
+                    self.pass();
                     self.bound(relation)
                 }
                 None => Err(fault_of(&token)),

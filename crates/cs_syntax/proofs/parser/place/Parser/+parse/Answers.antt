@@ -1,12 +1,12 @@
-use Rattle.std.proofs.Common.{◌≡◌, ◌+◌, ◌-◌, ◌<◌, suc, Ok, refl, map, sym, ap, ◌∙◌, arith, length, false}
+use Rattle.std.proofs.Common.{◌≡◌, ◌+◌, ◌-◌, ◌<◌, ◌++◌, [], ◌∷◌, suc, Ok, refl, map, sym, ap, ◌∙◌, arith, length, false}
 use Rattle.std.proofs.lemmas.Result.{err_from_is_err_and}
 use Rattle.cs_grammar.specs.declared.kind.Kind.TheVariants as kinds
-use Rattle.cs_grammar.specs.View.{expr_view, field_view, declaration_view}
+use Rattle.cs_grammar.specs.View.{expr_view, field_view, declaration_view, end_view}
 use Rattle.cs_grammar.proofs.Views.{view-And, view-Or}
 use Rattle.cs_syntax.specs.Left.{left}
-use Rattle.cs_syntax.specs.Reading.{inner, field_with, declaration_with, uncalled_with, operand_with, conj_with, branch_with, expr_with, after, another_field, another_element}
+use Rattle.cs_syntax.specs.Reading.{inner, field_with, declaration_with, uncalled_with, operand_with, conj_with, branch_with, expr_with, after, another_field, another_element, opening_at, end_with, struct_with, wide_struct_with, list_with}
 use Rattle.cs_syntax.proofs.WordKinds.{at_end, uncalled_end}
-use Rattle.cs_syntax.proofs.Reader.{goes_on, ends, out, breaks, fails-of, met, joined}
+use Rattle.cs_syntax.proofs.Reader.{goes_on, ends, out, breaks, fails-bind, fails-of, front-fails, first_and_others, met, joined}
 use Rattle.cs_syntax.proofs.parser.place.Parser.+parse.Goals as goal
 
 pub fields-returns-in_err-field : goal.fields-returns-in_err-field
@@ -118,6 +118,73 @@ bars-returns-then-not-skip t c = sym c.loop.invariant ∙ ends expr_view (after 
 
 pub bars-returns : goal.bars-returns
 bars-returns t c = sym c.loop.invariant ∙ out expr_view (after kinds.Bar) (branch_with (inner c.args.depth)) c.loop.operands.items _ (left c.loop.self) (omega arith)
+
+-- ---- what is between brackets
+
+pub struct_inside-returns : goal.struct_inside-returns
+unfolding struct_with
+struct_inside-returns t c =
+    let r = inner c.args.depth in
+    let same = c.if-skip-2.ensures.1 ∙ c.if-skip.ensures.1 in
+    let none = ap (after kinds.Dots) (sym c.if-skip.ensures.1) ∙ c.if-skip-2.ensures.0 in
+    let first = ap (field_with r) (sym same) ∙ c.in_ok-first.ensures.read in
+    let alone = c.in_ok-push.ensures.items ∙ ap (λ xs. xs ++ c.in_ok-first.first ∷ []) c.requires.none in
+    rw (c.if-skip.ensures.0, none, first) (first_and_others field_view (λ b. b) c.in_ok-first.first _ _ opening_at _ (rw alone at c.in_ok-fields.ensures) _ _ c.opening.ensures)
+
+pub struct_inside-returns-in_err-fields : goal.struct_inside-returns-in_err-fields
+unfolding struct_with
+struct_inside-returns-in_err-fields t c =
+    let r = inner c.args.depth in
+    let p = err_from_is_err_and c.from_residual-in_err-fields.result c.from_residual-in_err-fields.ensures.1 in
+    let same = c.if-skip-2.ensures.1 ∙ c.if-skip.ensures.1 in
+    let none = ap (after kinds.Dots) (sym c.if-skip.ensures.1) ∙ c.if-skip-2.ensures.0 in
+    let first = ap (field_with r) (sym same) ∙ c.in_ok-first.ensures.read in
+    let f = c.in_err-fields.field-0.0 in
+    rw (p.1, p.2) (rw (c.if-skip.ensures.0, none, first) (fails-bind f _ _ (front-fails field_view another_field (field_with r) _ f _ c.in_err-fields.ensures)))
+
+pub wide_inside-returns : goal.wide_inside-returns
+unfolding wide_struct_with
+wide_inside-returns t c =
+    let r = inner c.args.depth in
+    let same = c.if-skip-2.ensures.1 ∙ c.if-skip.ensures.1 in
+    let none = ap (after kinds.Dots) (sym c.if-skip.ensures.1) ∙ c.if-skip-2.ensures.0 in
+    let first = ap (declaration_with r) (sym same) ∙ c.in_ok-first.ensures in
+    let alone = c.in_ok-push.ensures.items ∙ ap (λ xs. xs ++ c.in_ok-first.first ∷ []) c.requires.none in
+    rw (c.if-skip.ensures.0, none, first) (first_and_others declaration_view (λ b. b) c.in_ok-first.first _ _ opening_at _ (rw alone at c.in_ok-declarations.ensures) _ _ c.opening.ensures)
+
+pub wide_inside-returns-in_err-declarations : goal.wide_inside-returns-in_err-declarations
+unfolding wide_struct_with
+wide_inside-returns-in_err-declarations t c =
+    let r = inner c.args.depth in
+    let p = err_from_is_err_and c.from_residual-in_err-declarations.result c.from_residual-in_err-declarations.ensures.1 in
+    let same = c.if-skip-2.ensures.1 ∙ c.if-skip.ensures.1 in
+    let none = ap (after kinds.Dots) (sym c.if-skip.ensures.1) ∙ c.if-skip-2.ensures.0 in
+    let first = ap (declaration_with r) (sym same) ∙ c.in_ok-first.ensures in
+    let f = c.in_err-declarations.field-0.0 in
+    rw (p.1, p.2) (rw (c.if-skip.ensures.0, none, first) (fails-bind f _ _ (front-fails declaration_view another_field (declaration_with r) _ f _ c.in_err-declarations.ensures)))
+
+pub list_inside-returns : goal.list_inside-returns
+unfolding list_with
+list_inside-returns t c =
+    let r = inner c.args.depth in
+    let same = c.if-skip-2.ensures.1 ∙ c.if-skip.ensures.1 in
+    let none = ap (after kinds.Dots) (sym c.if-skip.ensures.1) ∙ c.if-skip-2.ensures.0 in
+    let first = ap (r false) (sym same) ∙ c.in_ok-first.ensures in
+    let alone = c.in_ok-push.ensures.items ∙ ap (λ xs. xs ++ c.in_ok-first.first ∷ []) c.requires.none in
+    rw (c.if-skip.ensures.0, none, first) (first_and_others expr_view end_view c.in_ok-first.first _ _ (end_with r) _ (rw alone at c.in_ok-elements.ensures) _ _ c.list_end.ensures)
+
+pub list_inside-returns-in_err-elements : goal.list_inside-returns-in_err-elements
+unfolding list_with
+list_inside-returns-in_err-elements t c =
+    let r = inner c.args.depth in
+    let p = err_from_is_err_and c.from_residual-in_err-elements.result c.from_residual-in_err-elements.ensures.1 in
+    let same = c.if-skip-2.ensures.1 ∙ c.if-skip.ensures.1 in
+    let none = ap (after kinds.Dots) (sym c.if-skip.ensures.1) ∙ c.if-skip-2.ensures.0 in
+    let first = ap (r false) (sym same) ∙ c.in_ok-first.ensures in
+    let f = c.in_err-elements.field-0.0 in
+    rw (p.1, p.2) (rw (c.if-skip.ensures.0, none, first) (fails-bind f _ _ (front-fails expr_view another_element (r false) _ f _ c.in_err-elements.ensures)))
+
+-- ---- operands
 
 pub conj-returns : goal.conj-returns
 unfolding conj_with

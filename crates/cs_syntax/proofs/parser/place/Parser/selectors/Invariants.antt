@@ -1,8 +1,7 @@
 use Rattle.std.proofs.Common.{◌≡◌, length, ◌-◌}
 use Rattle.cs_grammar.specs.View.{selector_view}
-use Rattle.cs_syntax.specs.Left.{left}
+use Rattle.cs_syntax.specs.Left.{left, with_front}
 use Rattle.cs_syntax.specs.Reading.{selectors_at}
-use Rattle.cs_syntax.proofs.Reader.{with_front}
 use Rattle.cs_syntax.proofs.parser.place.Parser.selectors.Given as goal
 
 abbrev pub invariant-loop : goal.invariant-loop
