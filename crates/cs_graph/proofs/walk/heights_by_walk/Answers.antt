@@ -1,5 +1,5 @@
-use Rattle.std.proofs.Common.{◌≡◌, ℕ, ◌+◌, ◌<◌, [], length, map, sym, ap, subst, ◌∙◌, arith}
-use Rattle.std.proofs.lemmas.Option.{get_or_from_slice_get}
+use Rattle.std.proofs.Common.{◌≡◌, ℕ, ◌+◌, ◌<◌, [], Some, length, map, sym, ap, subst, ◌∙◌, arith}
+use Rattle.std.proofs.lemmas.Option.{get_or_from_slice_get, slice_get-get_or}
 use Rattle.std.proofs.lemmas.Result.{err_from_is_err_and}
 use Rattle.cs_graph.specs.Graph.{graph_of}
 use Rattle.cs_graph.specs.Walk.{State, IsDone, Solved, height_of}
@@ -10,6 +10,15 @@ use Rattle.cs_graph.proofs.Frames.{done_of}
 use Rattle.cs_graph.proofs.AllDone.{one_more, solved}
 use Rattle.cs_graph.proofs.walk.heights_by_walk.Goals as goal
 use Rattle.cs_graph.proofs.walk.heights_by_walk.Goals.{in-New+in_ok-walk_from, in_default}
+
+pub index-requires : goal.index-requires
+index-requires c = let s = c.loop-number.invariant.state in omega (arith, s.marked.long, graph_long c.args.graph.now)
+
+pub walk_from-requires-clause-new : goal.walk_from-requires-clause-new
+walk_from-requires-clause-new c =
+    let s = c.loop-number.invariant.state in
+    slice_get-get_or c.loop-number.walk.marks.items c.loop-number.number c.index.result.now (omega (arith, s.marked.long, graph_long c.args.graph.now))
+    ∙ ap (λ m. Some m) (sym c.index.ensures ∙ c.in-New.is)
 
 pub loop-number-preserved : goal.loop-number-preserved
 loop-number-preserved c =

@@ -23,6 +23,13 @@ bounds c =
     let f = c.loop-frame.frame in
     next_within (graph_of c.args.graph.now) f xs c.loop-frame.invariant.row c.args.marks.now c.requires.within c.requires.marked c.loop-frame-test.true
 
+pub bounds-marks-next : goal.bounds-marks-next
+bounds-marks-next c =
+    let xs = c.as_slice-references.result.now in
+    let f = c.loop-frame.frame in
+    let l = next_within (graph_of c.args.graph.now) f xs c.loop-frame.invariant.row c.args.marks.now c.requires.within c.requires.marked c.loop-frame-test.true in
+    search (rules, l)
+
 pub offset_bounds-marks-next : goal.offset_bounds-marks-next
 offset_bounds-marks-next c =
     let xs = c.as_slice-references.result.now in
