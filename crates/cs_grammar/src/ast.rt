@@ -4,6 +4,7 @@ ghost use Rattle.cs_grammar.specs.Atoms.{is_atom};
 ghost use Rattle.cs_grammar.specs.View.{expr_view};
 
 use std::alloc::AllocError;
+use std::fmt;
 
 /// A file: its package clause, if it has one, and its definitions and its other names, each in order.
 #[derive(Drop)]
@@ -89,7 +90,7 @@ pub enum Expr {
 
 /// The forms of expressions that the wide profile takes beside those of the default one.
 #[cycle(ast)]
-#[derive(Debug, Drop)]
+#[derive(Drop)]
 pub enum Wide {
     /// `*e`: the operand of a disjunction that is meant where a field is missing, and the offset of its mark (CUE, default values).
     Marked {
@@ -117,8 +118,15 @@ pub enum Wide {
     },
 }
 
+impl fmt::Debug for Wide {
+    /// Its parts aren't shown: where trees are shown, they are those of the default profile, which has none of these forms.
+    fn fmt<W: fmt::Write>(&self, f: &mut fmt::Formatter<W>) -> fmt::Result {
+        f.write_str("Wide { .. }")
+    }
+}
+
 /// What a selector asks for.
-#[derive(Debug, Drop)]
+#[derive(Drop)]
 pub struct Selector {
     /// As it is written without quotes, of a definition with its `#`.
     pub label: String,
@@ -129,7 +137,7 @@ pub struct Selector {
 
 /// A declaration of a struct literal with embeddings or conditions.
 #[cycle(ast)]
-#[derive(Debug, Drop)]
+#[derive(Drop)]
 pub enum Declaration {
     Field(Field),
     /// An expression that is embedded, and the offset at which it begins.
@@ -147,7 +155,7 @@ pub enum Declaration {
 }
 
 /// What an `if` asks of a field of the literal that it stands in.
-#[derive(Debug, Drop)]
+#[derive(Drop)]
 pub struct Condition {
     /// The label of the field, a name.
     pub label: String,
@@ -159,7 +167,7 @@ pub struct Condition {
 }
 
 /// What is asked of the value of a field.
-#[derive(Debug, Drop)]
+#[derive(Drop)]
 pub enum Test {
     /// `f != _|_`: the field is there.
     Present,
@@ -172,7 +180,7 @@ pub enum Test {
 }
 
 /// A literal that a field is compared with.
-#[derive(Debug, Drop)]
+#[derive(Drop)]
 pub enum Scalar {
     Null,
     Bool(bool),
