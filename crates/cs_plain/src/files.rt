@@ -36,8 +36,8 @@ impl<'a> Placing<'_, '_, 'a> {
         ensures { (value : List ℕ → Option Tree) (hides : List ℕ → Bool) → TellsPlacing self.now value hides
             → IfOk result (λ d. definition_view d ≡ placed_definition value hides (definition_view definition.now)) }
     {
-        let body = self.placed(Standing::Alone, &definition.body)?;
         let name = definition.name.clone()?;
+        let body = self.placed(Standing::Alone, &definition.body)?;
         Ok(Definition {
             name,
             at: definition.at,

@@ -241,8 +241,9 @@ impl<'a> Placing<'_, '_, 'a> {
         ensures { (value : List ℕ → Option Tree) (hides : List ℕ → Bool) → TellsPlacing self.now value hides
             → IfOk result (λ f. field_view f ≡ placed_field_seen value hides standing (field_view field.now)) }
     {
-        let value = self.placed(standing, &field.value)?;
         let label = field.label.clone()?;
+        let site = field.site.copy()?;
+        let value = self.placed(standing, &field.value)?;
         Ok(Field {
             label,
             quoted: field.quoted,
@@ -250,7 +251,7 @@ impl<'a> Placing<'_, '_, 'a> {
             scoped: field.scoped,
             mark: field.mark,
             value,
-            site: field.site.copy()?,
+            site,
         })
     }
 
