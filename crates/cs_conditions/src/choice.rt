@@ -34,8 +34,8 @@ impl Choosing<'_, '_> {
         let asked = table.of_label(&condition.label);
         let is_met = holds == condition.is_met;
         let at = condition.at;
-        let value = value_where(self.alloc, &condition.test, is_met, asked.said.kinds, at)?;
         let label = condition.label.clone()?;
+        let value = value_where(self.alloc, &condition.test, is_met, asked.said.kinds, at)?;
         Ok(Field {
             label,
             quoted: false,

@@ -122,8 +122,9 @@ impl<'a> Choosing<'_, 'a> {
         ensures { (known : Knowledge) → TellsKnown self.now.known.now known
             → IfOk result (λ f. field_view f ≡ chosen_field_seen known (field_view field.now)) }
     {
-        let value = self.chosen(&field.value)?;
         let label = field.label.clone()?;
+        let site = field.site.copy()?;
+        let value = self.chosen(&field.value)?;
         Ok(Field {
             label,
             quoted: field.quoted,
@@ -131,7 +132,7 @@ impl<'a> Choosing<'_, 'a> {
             scoped: field.scoped,
             mark: field.mark,
             value,
-            site: field.site.copy()?,
+            site,
         })
     }
 
@@ -200,9 +201,9 @@ impl<'a> Choosing<'_, 'a> {
         ensures { (known : Knowledge) → TellsKnown self.now.known.now known
             → IfOk result (λ d. definition_view d ≡ chosen_definition known (definition_view definition.now)) }
     {
-        let body = self.chosen(&definition.body)?;
         let name = definition.name.clone()?;
         let at = definition.at;
+        let body = self.chosen(&definition.body)?;
         Ok(Definition { name, at, body })
     }
 

@@ -1,12 +1,12 @@
 use Rattle.std.proofs.Common.{map, sym, ap, ap₂, ◌∙◌}
 use Rattle.std.proofs.lemmas.List.{take_all}
-use Rattle.cs_grammar.specs.View.{expr_view, exprs_view, trees_of, fields_of, declarations_of, wide_view, field_view, declaration_view, declarations_view, condition_view, field_seen, embedding_seen}
-use Rattle.cs_grammar.specs.Tree.{list, wide, merged}
-use Rattle.cs_grammar.proofs.Views.{view-List, view-Merged, view-declared-field, view-embedded, view-conditional}
+use Rattle.cs_grammar.specs.View.{expr_view, exprs_view, fields_view, trees_of, fields_of, declarations_of, wide_view, field_view, declaration_view, declarations_view, condition_view, field_seen, embedding_seen}
+use Rattle.cs_grammar.specs.Tree.{struct, list, wide, marked, merged, shut}
+use Rattle.cs_grammar.proofs.Views.{view-Struct, view-List, view-Wide, view-Marked, view-Merged, view-Shut, view-declared-field, view-embedded, view-conditional}
 use Rattle.cs_conditions.specs.Checks.{chosen_field_seen, chosen_seen}
 use Rattle.cs_conditions.specs.Choice.{choice}
 use Rattle.cs_conditions.specs.Chosen as Spec
-use Rattle.cs_conditions.specs.Chosen.{chosen_each, chosen_declarations}
+use Rattle.cs_conditions.specs.Chosen.{chosen_each, chosen_fields, chosen_declarations}
 use Rattle.cs_conditions.proofs.Walks.{map_pushed}
 use Rattle.cs_conditions.proofs.Parts.{chosen_trees, chosen_field_list, chosen_parts}
 use Rattle.cs_conditions.proofs.choice.Choosing.+choose.Goals as goal
@@ -66,3 +66,34 @@ chosen_form-returns-in_ok-declarations-in-Merged t c known tells =
     let is = ap (λ w. Spec.chosen known (wide (wide_view w))) c.in-Merged.is in
     ap wide (view-Merged o c.in_ok-declarations-in-Merged.declarations opened) ∙ ap (λ ds. wide (merged o ds opened)) made ∙ same
     ∙ sym (is ∙ ap (λ w. Spec.chosen known (wide w)) (view-Merged o c.in-Merged.declarations opened))
+
+-- ---- other forms
+
+pub chosen-returns-in_ok-fields-in-Struct : goal.chosen-returns-in_ok-fields-in-Struct
+chosen-returns-in_ok-fields-in-Struct t c known tells =
+    let o = c.in-Struct.at in
+    let opened = c.in-Struct.opened in
+    let is = ap (Spec.chosen known) (ap expr_view c.in-Struct.is ∙ view-Struct o c.in-Struct.fields opened) in
+    let made = c.in_ok-fields-in-Struct.ensures known tells ∙ ap (λ fs. chosen_fields known (fields_view fs)) c.deref-in-Struct.ensures.value in
+    view-Struct o c.in_ok-fields-in-Struct.fields opened ∙ ap (λ fs. struct o fs opened) made ∙ sym is
+
+pub chosen-returns-in_ok-chosen_form-in-Wide : goal.chosen-returns-in_ok-chosen_form-in-Wide
+chosen-returns-in_ok-chosen_form-in-Wide t c known tells =
+    let is = ap (Spec.chosen known) (ap expr_view c.in-Wide.is ∙ view-Wide c.in-Wide.form) in
+    view-Wide _ ∙ c.in_ok-chosen_form-in-Wide.ensures known tells ∙ sym is
+
+pub chosen_form-returns-in_ok-value-in-Marked-2 : goal.chosen_form-returns-in_ok-value-in-Marked-2
+chosen_form-returns-in_ok-value-in-Marked-2 t c known tells =
+    let o = c.in-Marked.at in
+    let v = c.in_ok-value-in-Marked-2 in
+    let is = ap (λ w. Spec.chosen known (wide w)) (ap wide_view c.in-Marked.is ∙ view-Marked o c.in-Marked.value) in
+    let made = c.in_ok-value-in-Marked.ensures known tells ∙ ap (λ e. Spec.chosen known (expr_view e)) c.deref.ensures in
+    ap wide (view-Marked o v.value ∙ ap (λ e. marked o (expr_view e)) v.ensures.ok ∙ ap (marked o) made) ∙ sym is
+
+pub chosen_form-returns-in_ok-value-in-Shut-2 : goal.chosen_form-returns-in_ok-value-in-Shut-2
+chosen_form-returns-in_ok-value-in-Shut-2 t c known tells =
+    let o = c.in-Shut.at in
+    let v = c.in_ok-value-in-Shut-2 in
+    let is = ap (λ w. Spec.chosen known (wide w)) (ap wide_view c.in-Shut.is ∙ view-Shut o c.in-Shut.value) in
+    let made = c.in_ok-value-in-Shut.ensures known tells ∙ ap (λ e. Spec.chosen known (expr_view e)) c.deref-in-Shut.ensures in
+    ap wide (view-Shut o v.value ∙ ap (λ e. shut o (expr_view e)) v.ensures.ok ∙ ap (shut o) made) ∙ sym is
