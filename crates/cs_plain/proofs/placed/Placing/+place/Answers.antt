@@ -1,8 +1,8 @@
 use Rattle.std.proofs.Common.{◌≡◌, map, sym, ap, ap₂, subst, ◌∙◌, IfOk}
 use Rattle.std.proofs.lemmas.List.{take_all}
-use Rattle.cs_grammar.specs.Tree.{struct, list, wide, merged, shut}
+use Rattle.cs_grammar.specs.Tree.{conjunction, paren, struct, list, wide, marked, merged, shut}
 use Rattle.cs_grammar.specs.View.{expr_view, exprs_view, trees_of, end_view, fields_of, fields_view, declarations_of, wide_view, field_view, declaration_view, declarations_view, condition_view, field_seen, embedding_seen, conditional_seen}
-use Rattle.cs_grammar.proofs.Views.{view-Struct, view-List, view-Wide, view-Merged, view-Shut, view-Reference, view-declared-field, view-embedded, view-conditional}
+use Rattle.cs_grammar.proofs.Views.{view-And, view-Paren, view-Struct, view-List, view-Wide, view-Marked, view-Merged, view-Shut, view-Reference, view-declared-field, view-embedded, view-conditional}
 use Rattle.cs_plain.specs.Checks.{placed_field_seen, placed_seen}
 use Rattle.cs_plain.specs.Placed as Spec
 use Rattle.cs_plain.proofs.Copied.{placed_trees, placed_field_list, placed_parts}
@@ -97,3 +97,24 @@ placed_form-returns-in_ok-value-in-Shut-2 t c value hides told =
     let is = ap (Spec.placed_wide value hides c.args.standing) (ap wide_view c.in-Shut.is ∙ view-Shut o c.in-Shut.value) in
     let made = c.in_ok-value-in-Shut.ensures value hides told ∙ ap₂ (λ p e. Spec.placed value hides p (expr_view e)) c.as_enclosed.ensures c.deref-in-Shut.ensures in
     view-Shut o c.in_ok-value-in-Shut-2.value ∙ ap (λ e. shut o (expr_view e)) c.in_ok-value-in-Shut-2.ensures.ok ∙ ap (shut o) made ∙ sym is
+
+-- ---- forms of one part
+
+pub placed-returns-in_ok-placed_each-in-And : goal.placed-returns-in_ok-placed_each-in-And
+placed-returns-in_ok-placed_each-in-And t c value hides told =
+    let is = ap (Spec.placed value hides c.args.standing) (ap expr_view c.in-And.is ∙ view-And c.in-And.operands) in
+    let made = c.in_ok-placed_each-in-And.ensures value hides told ∙ ap₂ (λ p es. Spec.placed_each value hides p (exprs_view es)) c.as_operand.ensures c.deref.ensures.value in
+    view-And c.in_ok-placed_each-in-And.field-0 ∙ ap conjunction made ∙ sym is
+
+pub placed-returns-in_ok-new-in-Paren : goal.placed-returns-in_ok-new-in-Paren
+placed-returns-in_ok-new-in-Paren t c value hides told =
+    let is = ap (Spec.placed value hides c.args.standing) (ap expr_view c.in-Paren.is ∙ view-Paren c.in-Paren.inside) in
+    let made = c.in_ok-inside-in-Paren.ensures value hides told ∙ ap₂ (λ p e. Spec.placed value hides p (expr_view e)) c.in_parens.ensures c.deref-in-Paren.ensures in
+    view-Paren c.in_ok-new-in-Paren.field-0 ∙ ap (λ e. paren (expr_view e)) c.in_ok-new-in-Paren.ensures.ok ∙ ap paren made ∙ sym is
+
+pub placed_form-returns-in_ok-value-in-Marked-2 : goal.placed_form-returns-in_ok-value-in-Marked-2
+placed_form-returns-in_ok-value-in-Marked-2 t c value hides told =
+    let o = c.in-Marked.at in
+    let is = ap (Spec.placed_wide value hides c.args.standing) (ap wide_view c.in-Marked.is ∙ view-Marked o c.in-Marked.value) in
+    let made = c.in_ok-value-in-Marked.ensures value hides told ∙ ap₂ (λ p e. Spec.placed value hides p (expr_view e)) c.as_operand.ensures c.deref.ensures in
+    view-Marked o c.in_ok-value-in-Marked-2.value ∙ ap (λ e. marked o (expr_view e)) c.in_ok-value-in-Marked-2.ensures.ok ∙ ap (marked o) made ∙ sym is
