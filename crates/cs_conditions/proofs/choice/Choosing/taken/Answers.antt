@@ -10,5 +10,5 @@ returns c known all told =
     let o = c.args.at in
     let ds = c.push.new.self in
     let all_of = ap (map declaration_view) c.in_ok-push.ensures.items ∙ map-append declaration_view c.in_ok-declarations.declarations.items _
-        ∙ ap₂ (λ xs d. xs ++ d ∷ []) (c.in_ok-declarations.ensures known all told) (view-embedded o c.args.value) in
+    ∙ ap₂ (λ xs d. xs ++ d ∷ []) (c.in_ok-declarations.ensures known all told) (view-embedded o c.args.value) in
     view-Wide _ ∙ ap wide (view-Merged o ds false ∙ ap (λ xs. merged o (declarations_of xs) false) all_of)
