@@ -1,6 +1,9 @@
 // What files stand for without names.
 ghost use Rattle.std.specs.Prelude.{◌≡◌, [], map, IfOk, IfErr, IsOkUnless};
 ghost use Rattle.cs_grammar.specs.View.{file_view};
+ghost use Rattle.cs_names.specs.Checks.{TellsLifts, TellsScope};
+ghost use Rattle.cs_names.specs.Lifted as Lifted;
+ghost use Rattle.cs_names.specs.Lifted.{all_definitions, lifts};
 ghost use Rattle.cs_names.specs.Names.{AreNamed, IsRefusal, name_faults};
 
 use crate::NameFault;
@@ -34,9 +37,25 @@ pub fn without_names(alloc: Global, files: &[File]) -> Result<Vec<File>, NameFau
     let paths = paths_in(alloc, files)?;
     let shared = Scope::shared(alloc, files, &paths)?;
     let lifting = Lifting::of(alloc, &shared, files)?;
-    check_files(&lifting, &shared, files)?;
-    let named = named_files(&lifting, &shared, files)?;
-    check_named(&lifting, &named)?;
-    let names = value_names(&lifting)?;
-    Ok(in_places(alloc, &names, &named)?)
+    lifted_files(&lifting, &shared, files)
+}
+
+/// The same, of which this is lifted and shared.
+fn lifted_files<'a>(
+    lifting: &Lifting<'a>,
+    shared: &Scope<'a>,
+    files: &'a [File],
+) -> Result<Vec<File>, NameFault>
+    ensures found { let fs = map file_view files.now in TellsLifts lifting.now (all_definitions fs) (lifts fs) → TellsScope shared.now (Lifted.shared fs)
+        → IfOk result (λ v. AreNamed fs (map file_view v.items)) }
+    ensures refused { let fs = map file_view files.now in TellsLifts lifting.now (all_definitions fs) (lifts fs) → TellsScope shared.now (Lifted.shared fs)
+        → IfErr result (λ e. IsRefusal e fs) }
+    ensures only { let fs = map file_view files.now in TellsLifts lifting.now (all_definitions fs) (lifts fs) → TellsScope shared.now (Lifted.shared fs)
+        → name_faults fs ≡ [] → IsOkUnless result NameFault.OutOfMemory }
+{
+    check_files(lifting, shared, files)?;
+    let named = named_files(lifting, shared, files)?;
+    check_named(lifting, &named)?;
+    let names = value_names(lifting)?;
+    Ok(in_places(lifting.alloc, &names, &named)?)
 }

@@ -28,18 +28,21 @@ impl<'l, 'a> Naming<'l, 'a> {
         }
     }
 
-    /// Adds a definition behind others.
-    fn add_definition(
+    /// Adds a definition behind others, of which this is the body in these scopes.
+    fn add_resolved(
         &self,
         found: &mut Vec<Definition>,
+        scopes: &[Around<'_, 'a>],
         name: &str,
         at: usize,
-        body: Expr,
+        body: &'a Expr,
     ) -> Result<(), AllocError>
-        ensures { OnOk result (map definition_view found.new.items
-            ≡ map definition_view found.old.items ++ definition name.now at (expr_view body) ∷ []) }
+        ensures { OnOk result ((all : List DefinitionTree) (ts : Lifts) (ss : List Scopes.Scope) → TellsLifts self.now.lifting.now all ts → TellScopes scopes.now ss
+            → map definition_view found.new.items
+            ≡ map definition_view found.old.items ++ definition name.now at (Spec.resolved (known ts) (is_open ts) self.now.file ss (expr_view body.now)) ∷ []) }
     {
         let name = String::from_str(self.alloc, name)?;
+        let body = self.resolved(scopes, body)?;
         found.push(Definition { name, at, body })?;
         Ok(())
     }
@@ -143,8 +146,8 @@ impl<'l, 'a> Naming<'l, 'a> {
     {
         let scopes = Around::of_value(&*own, &*field).and(self.alloc, &*outside)?;
         if let Some(name) = self.definition_of(own, field) {
-            let body = self.resolved(&scopes, &field.value)?;
-            self.add_definition(found, name, field.scoped.unwrap_or(0), body)?;
+            let at = field.scoped.unwrap_or(0);
+            self.add_resolved(found, &scopes, name, at, &field.value)?;
         }
         self.add_inside(found, &scopes, &field.value)
     }
@@ -218,8 +221,13 @@ impl<'l, 'a> Naming<'l, 'a> {
             → map definition_view found.new.items
             ≡ map definition_view found.old.items ++ of_definition (known ts) (is_open ts) self.now.file ss (definition_view definition.now)) }
     {
-        let body = self.resolved(scopes, &definition.body)?;
-        self.add_definition(found, &definition.name, definition.at, body)?;
+        self.add_resolved(
+            found,
+            scopes,
+            &definition.name,
+            definition.at,
+            &definition.body,
+        )?;
         self.add_inside(found, scopes, &definition.body)
     }
 
@@ -272,8 +280,7 @@ impl<'l, 'a> Naming<'l, 'a> {
         let outside = [Around::whole(shared)];
         let scopes = Around::of_name(bound, name).and(self.alloc, &outside)?;
         if let Some(definition) = self.definition_of_name(shared, bound, name) {
-            let body = self.resolved(&scopes, &name.value)?;
-            self.add_definition(found, definition, name.at, body)?;
+            self.add_resolved(found, &scopes, definition, name.at, &name.value)?;
         }
         self.add_inside(found, &scopes, &name.value)
     }

@@ -287,8 +287,9 @@ impl<'l, 'a> Naming<'l, 'a> {
             → TellsScope own.now scope → TellScopes outside.now ss
             → IfOk result (λ f. field_view f ≡ resolved_field_seen (known ts) (is_open ts) self.now.file scope ss (field_view field.now)) }
     {
-        let value = self.resolved_value(own, outside, field)?;
         let label = field.label.clone()?;
+        let site = field.site.copy()?;
+        let value = self.resolved_value(own, outside, field)?;
         Ok(Field {
             label,
             quoted: field.quoted,
@@ -296,7 +297,7 @@ impl<'l, 'a> Naming<'l, 'a> {
             scoped: field.scoped,
             mark: field.mark,
             value,
-            site: field.site.copy()?,
+            site,
         })
     }
 

@@ -1,7 +1,7 @@
 use Rattle.std.proofs.Common.{refl, sym, ◌∙◌}
-use Rattle.cs_grammar.specs.View.{declaration_view, declarations_view, field_view, fields_view}
+use Rattle.cs_grammar.specs.View.{expr_view, exprs_view, declaration_view, declarations_view, field_view, fields_view}
 use Rattle.cs_names.specs.Checks.{seen_has, field_has}
-use Rattle.cs_names.specs.Having.{declarations_have, fields_have}
+use Rattle.cs_names.specs.Having.{has_name, some_has, declarations_have, fields_have}
 use Rattle.cs_names.proofs.Parts.{has_parts, field_has_parts}
 use Rattle.cs_plain.proofs.Walks.{none_more, one_here, none_at_all}
 use Rattle.cs_names.proofs.having.+has.Goals as goal
@@ -35,3 +35,18 @@ pub fields_have-returns : goal.fields_have-returns
 fields_have-returns t c =
     none_at_all (λ xs. fields_have (fields_view xs)) (λ f. field_has (field_view f)) field_has_parts c.args.fields.now c.loop-field.field-index c.loop-field.invariant
     refl c.loop-field-test.false
+
+pub some_has-returns-then-has_name : goal.some_has-returns-then-has_name
+some_has-returns-then-has_name t c =
+    one_here (λ es. some_has (exprs_view es)) (λ e. has_name (expr_view e)) (λ e es. refl) c.args.exprs.now c.loop-expr.expr-index c.loop-expr.invariant
+    c.expr-item.result c.loop-expr-test.true c.expr-item.is (sym c.has_name.ensures ∙ c.if-has_name.true)
+
+pub some_has-loop-expr-preserved : goal.some_has-loop-expr-preserved
+some_has-loop-expr-preserved t c =
+    none_more (λ es. some_has (exprs_view es)) (λ e. has_name (expr_view e)) (λ e es. refl) c.args.exprs.now c.loop-expr.expr-index c.loop-expr.invariant
+    c.expr-item.result c.loop-expr-test.true c.expr-item.is (sym c.has_name.ensures ∙ c.if-has_name.false)
+
+pub some_has-returns : goal.some_has-returns
+some_has-returns t c =
+    none_at_all (λ es. some_has (exprs_view es)) (λ e. has_name (expr_view e)) (λ e es. refl) c.args.exprs.now c.loop-expr.expr-index c.loop-expr.invariant
+    refl c.loop-expr-test.false

@@ -13,7 +13,7 @@ use Rattle.cs_names.specs.Scopes.{Scope, scope_of_fields, scope_of_declarations,
 use Rattle.cs_names.proofs.Parts.{inside_field_parts, inside_parts, defined_some, defined_none}
 use Rattle.cs_names.proofs.Tables.{inside_of, on_ok}
 use Rattle.cs_names.proofs.resolved.Naming.+inside.Goals as goal
-use Rattle.cs_names.proofs.resolved.Naming.+inside.Goals.{add_field-in-Some+in_ok-body+in_ok-add_definition, add_field-in_default}
+use Rattle.cs_names.proofs.resolved.Naming.+inside.Goals.{add_field-in-Some+in_ok-add_resolved, add_field-in_default}
 
 pub add_each-loop-expr-preserved : goal.add_each-loop-expr-preserved
 add_each-loop-expr-preserved t c all ts ss tells told =
@@ -143,12 +143,13 @@ add_field-returns t c =
     let around = inside_of c.of_value.result here c.args.outside.now c.deref-2.result.now ss (c.deref-2.ensures.value ∙ c.in_ok-scopes.ensures) (c.of_value.ensures scope own) told in
     let rest = step all ts (here ∷ ss) tells around ∙ ap (λ e. mid ++ Spec.inside by opens i (here ∷ ss) e) (sym (view-value f)) in
     elim c.match-definition_of.branch [
-      | add_field-in-Some+in_ok-body+in_ok-add_definition w ↦
+      | add_field-in-Some+in_ok-add_resolved w ↦
           let within = inside_of c.of_value.result here c.args.outside.now w.deref.result.now ss (w.deref.ensures.value ∙ c.in_ok-scopes.ensures) (c.of_value.ensures scope own) told in
-          let at = w.unwrap_or.ensures ∙ sym (ap (λ l. Spec.offset_of l.scoped) (view-label f)) in
-          let same = w.in_ok-body.ensures all ts (here ∷ ss) tells within ∙ ap (Spec.resolved by opens i (here ∷ ss)) (sym (view-value f)) in
-          defined_some old mid new place w.in-Some.name.now (Spec.offset_of s.label.scoped) (expr_view w.in_ok-body.body) value inner rest
-          (ap (λ v. map definition_view v.items) w.found-is ∙ w.in_ok-add_definition.ensures ∙ ap (λ o. old ++ definition w.in-Some.name.now o (expr_view w.in_ok-body.body) ∷ []) at)
+          let at = w.unwrap_or-at.ensures ∙ sym (ap (λ l. Spec.offset_of l.scoped) (view-label f)) in
+          let body = Spec.resolved by opens i (here ∷ ss) (expr_view f.value) in
+          let same = ap (Spec.resolved by opens i (here ∷ ss)) (sym (view-value f)) in
+          defined_some old mid new place w.in-Some.name.now (Spec.offset_of s.label.scoped) body value inner rest
+          (ap (λ v. map definition_view v.items) w.found-is ∙ w.in_ok-add_resolved.ensures all ts (here ∷ ss) tells within ∙ ap (λ o. old ++ definition w.in-Some.name.now o body ∷ []) at)
           same (sym (w.in-Some.ensures all ts scope tells own))
       | add_field-in_default w ↦
           defined_none old mid new place (Spec.offset_of s.label.scoped) value inner rest (ap (λ v. map definition_view v.items) w.found-is) (sym (w.in_default.ensures all ts scope tells own))

@@ -1,7 +1,7 @@
 use Rattle.std.proofs.Common.{rules, ◌≡◌, true, false, [], ◌∷◌, ◌++◌, map, take, refl, sym, ap, ap₂, ◌∙◌, subst, IfOk}
 use Rattle.std.proofs.lemmas.List.{take_all, append-nil, map-append}
 use Rattle.std.specs.List.{flat_map}
-use Rattle.cs_grammar.proofs.Views.{view-Name, view-Reference, view-Struct, view-List, view-Wide, view-Merged, view-Selected, view-value}
+use Rattle.cs_grammar.proofs.Views.{view-Name, view-Reference, view-Paren, view-Struct, view-List, view-Wide, view-Marked, view-Merged, view-Shut, view-Selected, view-value}
 use Rattle.cs_grammar.specs.Tree as T
 use Rattle.cs_grammar.specs.View.{expr_view, exprs_view, trees_of, field_view, fields_view, fields_of, declaration_view, declarations_view, declarations_of, wide_view, selector_view}
 use Rattle.cs_names.specs.Checks.{TellsScope}
@@ -130,3 +130,30 @@ resolved_wide-returns-in_ok-declarations-in-Merged t c all ts ss tells told =
     let own = subst (λ ds. TellsScope c.in_ok-own-in-Merged.own (scope_of_declarations i (declarations_view ds))) c.deref-in-Merged.ensures.value c.in_ok-own-in-Merged.ensures in
     let same = c.in_ok-declarations-in-Merged.ensures all ts scope ss tells own told ∙ ap (λ ds. Spec.resolved_declarations by opens i scope ss (declarations_view ds)) c.deref-in-Merged-2.ensures.value in
     view-Wide _ ∙ ap T.wide (view-Merged o c.in_ok-declarations-in-Merged.declarations b ∙ ap (λ ds. T.merged o ds b) same) ∙ sym (ap (Spec.resolved_wide by opens i ss) is)
+
+-- ---- forms of one part
+
+pub resolved-returns-in_ok-new-in-Paren : goal.resolved-returns-in_ok-new-in-Paren
+resolved-returns-in_ok-new-in-Paren t c all ts ss tells told =
+    let i = c.args.self.now.file in
+    let is = ap (Spec.resolved (known ts) (is_open ts) i ss) (ap expr_view c.in-Paren.is ∙ view-Paren c.in-Paren.inside) in
+    let made = c.in_ok-inside-in-Paren.ensures all ts ss tells told ∙ ap (λ e. Spec.resolved (known ts) (is_open ts) i ss (expr_view e)) c.deref-in-Paren.ensures in
+    view-Paren c.in_ok-new-in-Paren.field-0 ∙ ap (λ e. T.paren (expr_view e)) c.in_ok-new-in-Paren.ensures.ok ∙ ap T.paren made ∙ sym is
+
+pub resolved_wide-returns-in_ok-value-in-Marked-2 : goal.resolved_wide-returns-in_ok-value-in-Marked-2
+resolved_wide-returns-in_ok-value-in-Marked-2 t c all ts ss tells told =
+    let i = c.args.self.now.file in
+    let o = c.in-Marked.at in
+    let v = c.in_ok-value-in-Marked-2 in
+    let is = ap (Spec.resolved_wide (known ts) (is_open ts) i ss) (ap wide_view c.in-Marked.is ∙ view-Marked o c.in-Marked.value) in
+    let made = c.in_ok-value-in-Marked.ensures all ts ss tells told ∙ ap (λ e. Spec.resolved (known ts) (is_open ts) i ss (expr_view e)) c.deref.ensures in
+    view-Wide _ ∙ ap T.wide (view-Marked o v.value ∙ ap (λ e. T.marked o (expr_view e)) v.ensures.ok ∙ ap (T.marked o) made) ∙ sym is
+
+pub resolved_wide-returns-in_ok-value-in-Shut-2 : goal.resolved_wide-returns-in_ok-value-in-Shut-2
+resolved_wide-returns-in_ok-value-in-Shut-2 t c all ts ss tells told =
+    let i = c.args.self.now.file in
+    let o = c.in-Shut.at in
+    let v = c.in_ok-value-in-Shut-2 in
+    let is = ap (Spec.resolved_wide (known ts) (is_open ts) i ss) (ap wide_view c.in-Shut.is ∙ view-Shut o c.in-Shut.value) in
+    let made = c.in_ok-value-in-Shut.ensures all ts ss tells told ∙ ap (λ e. Spec.resolved (known ts) (is_open ts) i ss (expr_view e)) c.deref-in-Shut.ensures in
+    view-Wide _ ∙ ap T.wide (view-Shut o v.value ∙ ap (λ e. T.shut o (expr_view e)) v.ensures.ok ∙ ap (T.shut o) made) ∙ sym is

@@ -1,4 +1,4 @@
-use Rattle.std.proofs.Common.{◌≡◌, List, [], ◌∷◌, ◌++◌, map, sym, ap, ◌∙◌}
+use Rattle.std.proofs.Common.{◌≡◌, List, [], ◌∷◌, ◌++◌, map, refl, sym, ap, ◌∙◌}
 use Rattle.cs_grammar.specs.Tree.{DefinitionTree}
 use Rattle.cs_grammar.specs.View.{definition_view, name_view, expr_view}
 use Rattle.cs_names.specs.Checks.{TellsLifts, TellsScope, TellScopes}
@@ -8,7 +8,7 @@ use Rattle.cs_names.specs.Scopes.{Scope, name_scope}
 use Rattle.cs_names.proofs.Parts.{defined_some, defined_none}
 use Rattle.cs_names.proofs.Tables.{inside_of, on_ok}
 use Rattle.cs_names.proofs.resolved.Naming.add_name.Goals as goal
-use Rattle.cs_names.proofs.resolved.Naming.add_name.Goals.{in-Some+in_ok-body+in_ok-add_definition, in_default}
+use Rattle.cs_names.proofs.resolved.Naming.add_name.Goals.{in-Some+in_ok-add_resolved, in_default}
 
 pub returns : goal.returns
 returns c =
@@ -28,11 +28,11 @@ returns c =
     (c.whole.ensures every told, tt) in
     let rest = step all ts ss tells around in
     elim c.match-definition_of_name.branch [
-      | in-Some+in_ok-body+in_ok-add_definition w ↦
+      | in-Some+in_ok-add_resolved w ↦
           let here = inside_of c.of_name.result (name_scope n own) (c.whole.result ∷ []) w.deref.result.now (every ∷ []) (w.deref.ensures.value ∙ c.in_ok-scopes.ensures) (c.of_name.ensures own bound)
           (c.whole.ensures every told, tt) in
-          defined_some old mid new (Spec.at_place by (top_place every own n)) w.in-Some.definition.now n.at (expr_view w.in_ok-body.body) (Spec.resolved by opens i ss n.value) (Spec.inside by opens i ss n.value) rest
-          (ap (λ v. map definition_view v.items) w.found-is ∙ w.in_ok-add_definition.ensures) (w.in_ok-body.ensures all ts ss tells here) (sym (w.in-Some.ensures all ts every own tells told bound))
+          defined_some old mid new (Spec.at_place by (top_place every own n)) w.in-Some.definition.now n.at (Spec.resolved by opens i ss n.value) (Spec.resolved by opens i ss n.value) (Spec.inside by opens i ss n.value) rest
+          (ap (λ v. map definition_view v.items) w.found-is ∙ w.in_ok-add_resolved.ensures all ts ss tells here) refl (sym (w.in-Some.ensures all ts every own tells told bound))
       | in_default w ↦
           defined_none old mid new (Spec.at_place by (top_place every own n)) n.at (Spec.resolved by opens i ss n.value) (Spec.inside by opens i ss n.value) rest
           (ap (λ v. map definition_view v.items) w.found-is) (sym (w.in_default.ensures all ts every own tells told bound))
