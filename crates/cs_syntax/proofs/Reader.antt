@@ -8,7 +8,7 @@ use Rattle.cs_grammar.specs.declared.ast.Name.{Name}
 use Rattle.cs_grammar.specs.Words.{Words}
 use Rattle.cs_grammar.specs.Tree.{Tree, conjunction, disjunction, more, DefinitionTree, NameTree}
 use Rattle.cs_grammar.specs.View.{expr_view, exprs_view, definition_view, name_view}
-use Rattle.cs_syntax.specs.Left.{left, viewed_before, with_front, Reads}
+use Rattle.cs_syntax.specs.Left.{viewed_before, with_front, Reads}
 use Rattle.cs_syntax.specs.Reading.{◌>>=◌, Fails, Read, many, conjunction_of, disjunction_of}
 use Rattle.cs_syntax.specs.declared.parser.place.Parser.{Parser}
 use Rattle.cs_syntax.specs.FileReading.{begins_end, before_end, begins_file_name, line_at, name_line_at, any_line_at, SeenLine, definition_seen, name_seen, definitions_seen, names_seen}
