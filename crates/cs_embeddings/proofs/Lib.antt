@@ -47,6 +47,7 @@ pub mod Steps
 pub mod Operands
 -- whether each part of a list is well
 pub mod Walks
+pub mod Some
 -- samples
 pub mod Samples
 -- a law of the definitions

@@ -172,8 +172,8 @@ fn joined_definition<'a>(
         levels: MOST_HEIGHT,
     };
     let standing = &kept.standing;
-    let body = joiner.joined_standing(standing, room, nodes)?;
     let name = String::from_str(joiner.alloc, standing.label())?;
+    let body = joiner.joined_standing(standing, room, nodes)?;
     let at = standing.place().unwrap_or(0);
     Ok(Definition { name, at, body })
 }

@@ -13,7 +13,7 @@ use Rattle.cs_embeddings.proofs.files.joined_definition.Goals as goal
 
 pub returns-in_err-body : goal.returns-in_err-body
 returns-in_err-body c ds tells well sound embeds =
-    let p = err_from_is_err_and c.from_residual.result c.from_residual.ensures.1 in
+    let p = err_from_is_err_and c.from_residual-in_err-body.result c.from_residual-in_err-body.ensures.1 in
     let k = c.args.kept.now in let whole = joined_with ds (joined_value ds most_height) true k.place (gathered_view k.standing).value in
     let e = c.in_err-body.field-0.0 in let file = c.args.joiner.file in let nodes = c.args.nodes.now in
     let within : most_height ≤ most_height = omega arith in
