@@ -110,9 +110,10 @@ impl Unmarking<'_, '_> {
         ensures { (has : List ℕ → Bool) → TellsHanding self.now.handing.now has
             → IfOk result (λ f. field_view f ≡ unmarked_seen has (field_view field.now)) }
     {
-        let value = self.unmarked(&field.value)?;
         let label = field.label.clone()?;
+        let site = field.site.copy()?;
         let mark = optional_if(self.handing.has_default(&field.value), field.mark);
+        let value = self.unmarked(&field.value)?;
         Ok(Field {
             label,
             quoted: field.quoted,
@@ -120,7 +121,7 @@ impl Unmarking<'_, '_> {
             scoped: field.scoped,
             mark,
             value,
-            site: field.site.copy()?,
+            site,
         })
     }
 
@@ -143,9 +144,9 @@ impl Unmarking<'_, '_> {
         ensures { (has : List ℕ → Bool) → TellsHanding self.now.handing.now has
             → IfOk result (λ d. definition_view d ≡ unmarked_definition has (definition_view definition.now)) }
     {
-        let body = self.unmarked(&definition.body)?;
         let name = definition.name.clone()?;
         let at = definition.at;
+        let body = self.unmarked(&definition.body)?;
         Ok(Definition { name, at, body })
     }
 

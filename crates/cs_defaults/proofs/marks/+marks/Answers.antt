@@ -1,9 +1,10 @@
-use Rattle.std.proofs.Common.{rules, ◌≡◌, ℕ, ◌+◌, Bool, true, false, ◌&&◌, not, List, [], ◌∷◌, ◌++◌, Some, slice_get, cond, drop, refl, sym, ap, ◌∙◌}
+use Rattle.std.proofs.Common.{rules, ◌≡◌, ℕ, ◌+◌, Bool, true, false, ◌&&◌, not, List, [], ◌∷◌, ◌++◌, Some, slice_get, cond, drop, refl, sym, ap, subst, ◌∙◌}
 use Rattle.std.proofs.lemmas.Result.{err_from_is_err_and}
 use Rattle.cs_grammar.specs.View.{expr_view, exprs_view, fields_view, end_view}
 use Rattle.cs_grammar.specs.declared.ast.Field.{Field}
 use Rattle.cs_grammar.specs.Tree.{Tree, Trees, more}
-use Rattle.cs_grammar.proofs.Views.{view-List, view-value}
+use Rattle.cs_grammar.proofs.Views.{view-And, view-Paren, view-Struct, view-List, view-value}
+use Rattle.cs_defaults.specs.Checks.{Finds}
 use Rattle.cs_defaults.specs.Marks.{misplaced, misplaced_each, misplaced_operands, misplaced_fields, misplaced_end, is_default, is_marked}
 use Rattle.cs_defaults.proofs.Found.{at_place, first_left, first_here, none_more}
 use Rattle.cs_defaults.proofs.marks.+marks.Goals as goal
@@ -54,3 +55,35 @@ check_operands-returns-in_err-check_marks t c =
     ] in
     let here = operand_here may (expr_view x) (exprs_view (drop (i + 1) xs)) _ isnt c.in_err-check_marks.ensures in
     rw (p.1, p.2) (ap (λ os. slice_get os 0) (c.loop-operand.invariant ∙ ap (λ es. misplaced_operands may (exprs_view es)) (at_place xs i x c.loop-operand-test.true c.operand-item.is)) ∙ here)
+
+-- ---- an expression
+
+pub check_marks-returns-in-And : goal.check_marks-returns-in-And
+check_marks-returns-in-And t c =
+    let is = ap (misplaced c.args.is_whole) (ap expr_view c.in-And.is ∙ view-And c.in-And.operands) in
+    subst (λ os. Finds c.check_each.result os) (ap (λ es. misplaced_each false (exprs_view es)) c.deref.ensures.value ∙ sym is) c.check_each.ensures
+
+pub check_marks-returns-in-Paren : goal.check_marks-returns-in-Paren
+check_marks-returns-in-Paren t c =
+    let w = c.args.is_whole in
+    let is = ap (misplaced w) (ap expr_view c.in-Paren.is ∙ view-Paren c.in-Paren.inside) in
+    subst (λ os. Finds c.check_marks.result os) (ap (λ e. misplaced w (expr_view e)) c.deref-in-Paren.ensures ∙ sym is) c.check_marks.ensures
+
+pub check_marks-returns-in-Struct : goal.check_marks-returns-in-Struct
+check_marks-returns-in-Struct t c =
+    let is = ap (misplaced c.args.is_whole) (ap expr_view c.in-Struct.is ∙ view-Struct c.in-Struct.at c.in-Struct.fields c.in-Struct.opened) in
+    subst (λ os. Finds c.check_fields.result os) (ap (λ fs. misplaced_fields (fields_view fs)) c.deref-in-Struct.ensures.value ∙ sym is) c.check_fields.ensures
+
+pub check_marks-returns-in_ok-check_each-in-List : goal.check_marks-returns-in_ok-check_each-in-List
+check_marks-returns-in_ok-check_each-in-List t c =
+    let w = c.args.is_whole in
+    let end = misplaced_end (end_view c.in-List.end) in
+    let is = ap (misplaced w) (ap expr_view c.in-List.is ∙ view-List c.in-List.front c.in-List.end) in
+    let front = ap (λ es. misplaced_each true (exprs_view es)) (sym c.deref-in-List.ensures.value) ∙ c.in_ok-check_each-in-List.ensures in
+    subst (λ os. Finds c.check_end.result os) (sym (is ∙ ap (λ os. os ++ end) front)) c.check_end.ensures
+
+pub check_each-loop-expr-preserved : goal.check_each-loop-expr-preserved
+check_each-loop-expr-preserved t c =
+    let w = c.args.are_whole in
+    none_more (λ es. misplaced_each w (exprs_view es)) (λ e. misplaced w (expr_view e)) (λ e es. refl) c.args.exprs.now c.loop-expr.expr-index c.expr-item.result c.loop-expr-test.true c.expr-item.is
+    c.loop-expr.invariant c.in_ok-check_marks.ensures

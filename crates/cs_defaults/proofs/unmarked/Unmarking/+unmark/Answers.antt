@@ -2,10 +2,10 @@ use Rattle.std.proofs.Common.{rules, ◌≡◌, ℕ, List, [], ◌∷◌, Bool, 
 use Rattle.std.proofs.lemmas.List.{take_all}
 use Rattle.std.specs.Result.{IfOk}
 use Rattle.cs_grammar.specs.View.{expr_view, exprs_view, trees_of, fields_of, field_view, fields_view, Seen, wide_view}
-use Rattle.cs_grammar.specs.Tree.{Fields, more, field, list, wide}
+use Rattle.cs_grammar.specs.Tree.{Fields, more, field, conjunction, paren, struct, list, wide}
 use Rattle.cs_grammar.specs.declared.ast.Expr.{Expr}
 use Rattle.cs_grammar.specs.declared.ast.Field.{Field}
-use Rattle.cs_grammar.proofs.Views.{view-List, view-Wide, view-Marked}
+use Rattle.cs_grammar.proofs.Views.{view-And, view-Paren, view-Struct, view-List, view-Wide, view-Marked, view-Shut}
 use Rattle.cs_defaults.specs.Unmarked as Spec
 use Rattle.cs_defaults.specs.Unmarked.{unmarked_each, unmarked_fields}
 use Rattle.cs_defaults.specs.Checks.{unmarked_seen}
@@ -48,3 +48,31 @@ pub unmarked_form-returns-in-Marked : goal.unmarked_form-returns-in-Marked
 unmarked_form-returns-in-Marked t c has tells =
     let is : Spec.unmarked has (wide (wide_view c.args.form.now)) ≡ Spec.unmarked has (expr_view c.deref.result.now) = search (rules, view-Marked, c.deref.ensures, c.in-Marked.is) in
     subst (λ e. IfOk c.unmarked.result (λ f. expr_view f ≡ e)) (sym is) (c.unmarked.ensures has tells)
+
+-- ---- other forms
+
+pub unmarked-returns-in_ok-unmarked_each-in-And : goal.unmarked-returns-in_ok-unmarked_each-in-And
+unmarked-returns-in_ok-unmarked_each-in-And t c has tells =
+    let is = ap (Spec.unmarked has) (ap expr_view c.in-And.is ∙ view-And c.in-And.operands) in
+    let made = c.in_ok-unmarked_each-in-And.ensures has tells ∙ ap (λ es. unmarked_each has (exprs_view es)) c.deref.ensures.value in
+    view-And c.in_ok-unmarked_each-in-And.field-0 ∙ ap conjunction made ∙ sym is
+
+pub unmarked-returns-in_ok-new-in-Paren : goal.unmarked-returns-in_ok-new-in-Paren
+unmarked-returns-in_ok-new-in-Paren t c has tells =
+    let is = ap (Spec.unmarked has) (ap expr_view c.in-Paren.is ∙ view-Paren c.in-Paren.inside) in
+    let made = c.in_ok-inside-in-Paren.ensures has tells ∙ ap (λ e. Spec.unmarked has (expr_view e)) c.deref-in-Paren.ensures in
+    view-Paren c.in_ok-new-in-Paren.field-0 ∙ ap (λ e. paren (expr_view e)) c.in_ok-new-in-Paren.ensures.ok ∙ ap paren made ∙ sym is
+
+pub unmarked-returns-in_ok-fields-in-Struct : goal.unmarked-returns-in_ok-fields-in-Struct
+unmarked-returns-in_ok-fields-in-Struct t c has tells =
+    let o = c.in-Struct.at in
+    let opened = c.in-Struct.opened in
+    let is = ap (Spec.unmarked has) (ap expr_view c.in-Struct.is ∙ view-Struct o c.in-Struct.fields opened) in
+    let made = c.in_ok-fields-in-Struct.ensures has tells ∙ ap (λ fs. unmarked_fields has (fields_view fs)) c.deref-in-Struct.ensures.value in
+    view-Struct o c.in_ok-fields-in-Struct.fields opened ∙ ap (λ fs. struct o fs opened) made ∙ sym is
+
+pub unmarked_form-returns-in_ok-new-in-Shut : goal.unmarked_form-returns-in_ok-new-in-Shut
+unmarked_form-returns-in_ok-new-in-Shut t c has tells =
+    let is = ap (λ w. Spec.unmarked has (wide w)) (ap wide_view c.in-Shut.is ∙ view-Shut c.in-Shut.at c.in-Shut.value) in
+    let made = c.in_ok-value-in-Shut.ensures has tells ∙ ap (λ e. Spec.unmarked has (expr_view e)) c.deref-in-Shut.ensures in
+    view-Paren c.in_ok-new-in-Shut.field-0 ∙ ap (λ e. paren (expr_view e)) c.in_ok-new-in-Shut.ensures.ok ∙ ap paren made ∙ sym is
