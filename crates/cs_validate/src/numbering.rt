@@ -3,7 +3,7 @@
 ghost use Rattle.std.specs.Prelude.{◌≡◌, map, option_map, option_to_list, option_and_then, string_bytes, IfOk};
 ghost use Rattle.cs_document.specs.View.{doc_view};
 ghost use Rattle.cs_profile.specs.SchemaDocument.{schema_view, schemas_view};
-ghost use Rattle.cs_validate.specs.Placing.{object_of, optional_view, number_in, Places, PlacesAll};
+ghost use Rattle.cs_validate.specs.Placing.{State, object_of, optional_view, number_in, Places, PlacesAll};
 
 mod definitions;
 mod inner;
@@ -19,6 +19,14 @@ use cs_flat::{DocSet, Names};
 use cs_profile::{Keywords, Schema};
 use cs_rules::Numberer;
 use std::alloc::{AllocError, Global};
+
+/// The numbers of the schemas that the keywords of an object ask of the same document.
+#[derive(Drop)]
+struct Operands {
+    all_of: Vec<usize>,
+    any_of: Vec<usize>,
+    negated: Option<usize>,
+}
 
 /// Numbers a schema after what it asks of the same document.
 #[cycle(numbering)]
@@ -48,18 +56,12 @@ fn place_object<'a>(
     let all_of = place_all(alloc, &keywords.all_of, numbers, numberer)?;
     let any_of = place_all(alloc, &keywords.any_of, numbers, numberer)?;
     let negated = place_option(alloc, &keywords.negated, numbers, numberer)?;
-    let _count = keywords.properties.len(); // for the proof: the names are in order
-    let conjunction = Conjunction {
-        keywords,
-        required: Names::new(alloc, &keywords.required)?,
-        one_of: set_of(alloc, &keywords.one_of)?,
-        reference: number_of(&keywords.reference, numbers),
+    let operands = Operands {
         all_of,
         any_of,
         negated,
-        first: wait_inside(keywords, &mut numberer.pending)?,
     };
-    numberer.put(Rule::Object(conjunction))
+    put_object(alloc, keywords, operands, numbers, numberer)
 }
 
 #[cycle(numbering)]
@@ -96,6 +98,51 @@ fn place_option<'a>(
         Some(schema) => Ok(Some(place(alloc, schema, numbers, numberer)?)),
         None => Ok(None),
     }
+}
+
+/// Numbers the keywords of an object, once what they ask of the same document is numbered.
+fn put_object<'a>(
+    alloc: Global,
+    keywords: &'a Keywords,
+    operands: Operands,
+    numbers: &Numbers<'_>,
+    numberer: &mut Numberer<'a, Schema, Rule<'a>>,
+) -> Result<usize, AllocError>
+    ensures { (n0 n1 n2 : State)
+        → PlacesAll numbers.now n0 n1 (schemas_view keywords.now.all_of.items) operands.all_of.items
+        → PlacesAll numbers.now n1 n2 (schemas_view keywords.now.any_of.items) operands.any_of.items
+        → PlacesAll numbers.now n2 numberer.old (optional_view keywords.now.negated)
+        (option_to_list operands.negated)
+        → IfOk result (Places numbers.now n0 numberer.new (object_of keywords.now)) }
+{
+    let _count = keywords.properties.len(); // for the proof: the names are in order
+    let first = wait_inside(keywords, &mut numberer.pending)?;
+    let (required, one_of) = look_ups(alloc, keywords)?;
+    numberer.put(Rule::Object(Conjunction {
+        keywords,
+        required,
+        one_of,
+        reference: number_of(&keywords.reference, numbers),
+        all_of: operands.all_of,
+        any_of: operands.any_of,
+        negated: operands.negated,
+        first,
+    }))
+}
+
+/// The names of `required` and the values of `enum`, for look-ups.
+fn look_ups<'a>(
+    alloc: Global,
+    keywords: &'a Keywords,
+) -> Result<(Names<'a>, Option<DocSet<'a>>), AllocError>
+    ensures names { IfOk result
+        (λ t. t.0 ≡ map string_bytes keywords.now.required.items) }
+    ensures values { IfOk result
+        (λ t. t.1 ≡ option_map (λ v. map doc_view v.items) keywords.now.one_of) }
+{
+    let required = Names::new(alloc, &keywords.required)?;
+    let one_of = set_of(alloc, &keywords.one_of)?;
+    Ok((required, one_of))
 }
 
 /// The number of the definition that `$ref` names, if it has one.

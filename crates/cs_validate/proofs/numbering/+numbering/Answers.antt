@@ -51,26 +51,10 @@ place_option-returns-in_ok-place-in-Some t c =
 pub place_object-returns : goal.place_object-returns
 place_object-returns t c =
     let numbers = c.args.numbers.now in
-    let k = c.args.keywords.now in
     let n0 = c.args.numberer.now in
     let n1 = c.place_all.new.numberer in
     let n2 = c.place_all-2.new.numberer in
-    let n3 = c.place_option.new.numberer in
-    let n4 : State = record { rules = n3.rules; pending = c.wait_inside.new.pending } in
-    let j : Conjunction = record {
-      names = _;
-      ordered = _;
-      keywords = c.args.keywords;
-      required = c.in_ok-new.field-0;
-      one_of = c.in_ok-set_of.field-0;
-      reference = c.number_of.result;
-      all_of = c.in_ok-all_of.all_of;
-      any_of = c.in_ok-any_of.any_of;
-      negated = c.in_ok-negated.negated;
-      first = c.in_ok-wait_inside.field-0;
-    } in
-    object_placed c.put.result numbers n0 n1 n2 n3 n4 c.put.new.self j c.put.ensures.number c.put.ensures.pending
-    (subst (λ xs. PlacesAll numbers n0 n1 (schemas_view xs) j.all_of.items) c.deref.ensures.value c.in_ok-all_of.ensures)
-    (subst (λ xs. PlacesAll numbers n1 n2 (schemas_view xs) j.any_of.items) c.deref-2.ensures.value c.in_ok-any_of.ensures)
-    c.in_ok-negated.ensures refl c.in_ok-wait_inside.ensures.waits c.in_ok-wait_inside.ensures.first
-    (c.in_ok-new.ensures.texts ∙ ap (map string_bytes) c.deref-3.ensures.value) c.in_ok-set_of.ensures c.number_of.ensures
+    c.put_object.ensures n0 n1 n2
+    (subst (λ xs. PlacesAll numbers n0 n1 (schemas_view xs) c.in_ok-all_of.all_of.items) c.deref.ensures.value c.in_ok-all_of.ensures)
+    (subst (λ xs. PlacesAll numbers n1 n2 (schemas_view xs) c.in_ok-any_of.any_of.items) c.deref-2.ensures.value c.in_ok-any_of.ensures)
+    c.in_ok-negated.ensures
