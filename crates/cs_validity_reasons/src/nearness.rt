@@ -11,20 +11,30 @@ pub(crate) mod tags;
 use crate::book::Book;
 use crate::cause::PlacedCause;
 use crate::graph::ValidGraph;
-use crate::nearness::constants::constants_of;
+use crate::nearness::constants::is_constant;
 use crate::nearness::leaves::{Leaf, all_leaves};
-use crate::nearness::repeated::met_rules;
+use crate::nearness::repeated::keep_met;
 use crate::nearness::tags::{Tag, find_tag};
 use cs_flat::Flat;
 use cs_reasons::Cause;
-use cs_rules::RulebookJudge;
-use cs_table::{Judge, Row};
+use cs_table::Row;
 use std::alloc::{AllocError, Global};
 
 /// Whether a kind that has these verdicts leaves it open that a rule holds, or decides that it does.
 fn is_taken(row: &Row<'_>, rule: usize) -> bool {
     let is_there = row.item < row.table.items() && rule < row.table.rules();
     is_there && row.table.get(row.item, rule) || row.left.binary_search(&rule).is_ok()
+}
+
+/// Whether a rule takes the kind of a value.
+fn takes_kind(book: &Book<'_>, flat: &Flat<'_>, item: usize, rule: usize) -> bool {
+    if item >= flat.len() {
+        return false;
+    }
+    match book.decided(flat, item) {
+        None => true,
+        Some(row) => is_taken(&row, rule),
+    }
 }
 
 /// The rules that take the kind of a value, of these.
@@ -36,13 +46,8 @@ pub(crate) fn of_kind(
     rules: &[usize],
 ) -> Result<Vec<usize>, AllocError> {
     let mut taking = Vec::with_capacity(alloc, rules.len())?;
-    if item >= flat.len() {
-        return Ok(taking);
-    }
-    let judge = book.over(flat);
-    let row = judge.decided(item);
     for rule in rules {
-        if row.as_ref().is_none_or(|row| is_taken(row, *rule)) {
+        if takes_kind(book, flat, item, *rule) {
             taking.push(*rule)?;
         }
     }
@@ -52,7 +57,7 @@ pub(crate) fn of_kind(
 /// Whether all of these rules ask for constants alone.
 fn are_constants(alloc: Global, book: &Book<'_>, rules: &[usize]) -> Result<bool, AllocError> {
     for rule in rules {
-        if constants_of(alloc, book, *rule)?.is_none() {
+        if !is_constant(alloc, book, *rule)? {
             return Ok(false);
         }
     }
@@ -86,6 +91,20 @@ fn of_tag(
     Ok(near)
 }
 
+/// Of the alternatives that take the kind of a value those whose tag it has; all where they have no tag.
+fn tagged_rules(
+    alloc: Global,
+    graph: &ValidGraph<'_, '_>,
+    item: usize,
+    taking: Vec<usize>,
+) -> Result<Vec<usize>, AllocError> {
+    let leaves = all_leaves(alloc, graph.book, &taking)?;
+    match find_tag(alloc, graph.book, graph.flat, item, &leaves)? {
+        Some(tag) => of_tag(alloc, graph, &leaves, &tag),
+        None => Ok(taking),
+    }
+}
+
 /// Of these alternatives those that may have been meant.
 fn near_rules(
     alloc: Global,
@@ -97,12 +116,9 @@ fn near_rules(
     if are_constants(alloc, graph.book, &taking)? {
         return Ok(Vec::new(alloc));
     }
-    let leaves = all_leaves(alloc, graph.book, &taking)?;
-    let tagged = match find_tag(alloc, graph.book, graph.flat, item, &leaves)? {
-        Some(tag) => of_tag(alloc, graph, &leaves, &tag)?,
-        None => taking,
-    };
-    met_rules(alloc, graph, item, tagged)
+    let mut left = tagged_rules(alloc, graph, item, taking)?;
+    keep_met(alloc, graph, item, &mut left)?;
+    Ok(left)
 }
 
 /// The rules that causes lead to.

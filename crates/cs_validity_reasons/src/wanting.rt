@@ -1,7 +1,7 @@
 // What values would have to be by alternatives, for wording.
 use crate::book::{Book, conjunction_at};
 use crate::explaining::{Want, Wanted};
-use crate::nearness::leaves::{Leaf, all_leaves};
+use crate::nearness::leaves::all_leaves;
 use crate::nearness::of_kind;
 use crate::nearness::tags::{Tag, conjuncts_of, find_tag};
 use cs_document::Doc;
@@ -96,6 +96,43 @@ fn add_keywords<'a>(keywords: &'a Keywords, wants: &mut Vec<Want<'a>>) -> Result
     Ok(())
 }
 
+/// Adds the constants that keywords ask for, each as an alternative. Answers whether there are such.
+fn add_constants<'a>(
+    keywords: &'a Keywords,
+    alternatives: &mut Vec<Vec<Want<'a>>>,
+) -> Result<bool, AllocError> {
+    match (&keywords.equal, &keywords.one_of) {
+        (Some(value), _) => {
+            add_value(alternatives, value)?;
+            Ok(true)
+        }
+        (None, Some(values)) => {
+            add_values(alternatives, values)?;
+            Ok(true)
+        }
+        (None, None) => Ok(false),
+    }
+}
+
+/// Adds the constants of the first of these rules that asks for some, and the kinds and limits of those before it to what
+/// is wanted. Answers whether there are such constants.
+fn add_wants<'a>(
+    book: &'a Book<'_>,
+    conjuncts: &[usize],
+    wants: &mut Vec<Want<'a>>,
+    alternatives: &mut Vec<Vec<Want<'a>>>,
+) -> Result<bool, AllocError> {
+    for conjunct in conjuncts {
+        if let Some(conjunction) = conjunction_at(book, *conjunct) {
+            if add_constants(conjunction.keywords, alternatives)? {
+                return Ok(true);
+            }
+            add_keywords(conjunction.keywords, wants)?;
+        }
+    }
+    Ok(false)
+}
+
 /// Adds what an alternative asks: its constants where it has such, and otherwise kinds and limits together.
 fn add_leaf<'a>(
     alloc: Global,
@@ -103,30 +140,23 @@ fn add_leaf<'a>(
     rule: usize,
     alternatives: &mut Vec<Vec<Want<'a>>>,
 ) -> Result<(), AllocError> {
+    let conjuncts = conjuncts_of(alloc, book, rule)?;
     let mut wants = Vec::new(alloc);
-    for conjunct in conjuncts_of(alloc, book, rule)? {
-        if let Some(conjunction) = conjunction_at(book, conjunct) {
-            let keywords = conjunction.keywords;
-            if let Some(value) = &keywords.equal {
-                return add_value(alternatives, value);
-            }
-            if let Some(values) = &keywords.one_of {
-                return add_values(alternatives, values);
-            }
-            add_keywords(keywords, &mut wants)?;
-        }
+    if add_wants(book, &conjuncts, &mut wants, alternatives)? {
+        return Ok(());
     }
     add_alternative(alternatives, wants)
 }
 
-/// What the alternatives ask of the value itself.
+/// What the alternatives of these rules ask of the value itself.
 fn by_value<'a>(
     alloc: Global,
     book: &'a Book<'_>,
-    leaves: &[Leaf],
+    any_of: &[usize],
 ) -> Result<Wanted<'a>, AllocError> {
+    let leaves = all_leaves(alloc, book, any_of)?;
     let mut alternatives = Vec::new(alloc);
-    for leaf in leaves {
+    for leaf in &leaves {
         if alternatives.len() < MOST_WANTED {
             add_leaf(alloc, book, leaf.rule, &mut alternatives)?;
         }
@@ -169,6 +199,6 @@ pub(crate) fn wanted_of<'a>(
     let leaves = all_leaves(alloc, book, &taking)?;
     match find_tag(alloc, book, flat, item, &leaves)? {
         Some(tag) => by_tag(alloc, &tag),
-        None => by_value(alloc, book, &all_leaves(alloc, book, any_of)?),
+        None => by_value(alloc, book, any_of),
     }
 }

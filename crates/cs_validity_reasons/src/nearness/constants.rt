@@ -79,6 +79,24 @@ fn add_parts(
     Ok(false)
 }
 
+/// Adds the constants that a rule asks for, or else the rules that have to ask for some. Answers whether there are such.
+fn add_step<'a>(
+    book: &'a Book<'_>,
+    rule: usize,
+    found: &mut Vec<&'a Doc>,
+    waiting: &mut Vec<usize>,
+) -> Result<bool, AllocError> {
+    let Some(conjunction) = conjunction_at(book, rule) else {
+        return Ok(false);
+    };
+    let keywords = conjunction.keywords;
+    if keywords.equal.is_some() || keywords.one_of.is_some() {
+        add_constants(keywords, found)
+    } else {
+        add_parts(book, conjunction, waiting)
+    }
+}
+
 /// The constants of which a value has to be one by a rule, all of them scalars; none where it asks for more, or in more steps
 /// than are followed.
 pub(crate) fn constants_of<'a>(
@@ -93,20 +111,17 @@ pub(crate) fn constants_of<'a>(
         let Some(next) = waiting.pop() else {
             return Ok(Some(found));
         };
-        let Some(conjunction) = conjunction_at(book, next) else {
-            return Ok(None);
-        };
-        let keywords = conjunction.keywords;
-        let is_constant = if keywords.equal.is_some() || keywords.one_of.is_some() {
-            add_constants(keywords, &mut found)?
-        } else {
-            add_parts(book, conjunction, &mut waiting)?
-        };
-        if !is_constant {
+        if !add_step(book, next, &mut found, &mut waiting)? {
             return Ok(None);
         }
     }
     Ok(None)
+}
+
+/// Whether a rule asks for constants alone, as `constants_of` finds them.
+pub(crate) fn is_constant(alloc: Global, book: &Book<'_>, rule: usize) -> Result<bool, AllocError> {
+    let constants = constants_of(alloc, book, rule)?;
+    Ok(constants.is_some())
 }
 
 /// Whether each of these values is one of those.

@@ -21,24 +21,42 @@ fn leaves_maps_alone(conjunction: &Conjunction<'_>) -> bool {
         && conjunction.all_of.is_empty()
 }
 
-/// Adds what a rule asks for in place of itself, the first behind the others: its alternatives, or the definition that it names.
+/// Adds what a rule asks for in place of itself, the first behind the others: its alternatives, or the definition that it names,
+/// where it has one of these and not both.
 fn add_nested(conjunction: &Conjunction<'_>, waiting: &mut Vec<usize>) -> Result<bool, AllocError> {
-    if !leaves_maps_alone(conjunction) {
+    let is_one = conjunction.reference.is_some() == conjunction.any_of.is_empty();
+    if !is_one || !leaves_maps_alone(conjunction) {
         return Ok(false);
     }
-    match (conjunction.reference, conjunction.any_of.is_empty()) {
-        (Some(reference), true) => {
-            waiting.push(reference)?;
-            Ok(true)
-        }
-        (None, false) => {
-            for part in conjunction.any_of.iter().rev() {
-                waiting.push(*part)?;
-            }
-            Ok(true)
-        }
-        (Some(_), false) | (None, true) => Ok(false),
+    if let Some(reference) = conjunction.reference {
+        waiting.push(reference)?;
     }
+    push_reversed(&conjunction.any_of, waiting)?;
+    Ok(true)
+}
+
+/// Adds rules, the last one first, so that the first one is taken next.
+pub(crate) fn push_reversed(rules: &[usize], waiting: &mut Vec<usize>) -> Result<(), AllocError> {
+    for rule in rules.iter().rev() {
+        waiting.push(*rule)?;
+    }
+    Ok(())
+}
+
+/// Adds a leaf, unless it asks for others in place of itself, which wait.
+fn add_leaf(
+    book: &Book<'_>,
+    leaf: Leaf,
+    leaves: &mut Vec<Leaf>,
+    waiting: &mut Vec<usize>,
+) -> Result<(), AllocError> {
+    if let Some(conjunction) = conjunction_at(book, leaf.rule)
+        && add_nested(conjunction, waiting)?
+    {
+        return Ok(());
+    }
+    leaves.push(leaf)?;
+    Ok(())
 }
 
 /// Adds the leaves of an alternative. Answers whether they took no more steps than are followed.
@@ -51,17 +69,29 @@ fn add_leaves(
     waiting.push(alternative)?;
     for _step in 0..MOST_STEPS {
         let Some(rule) = waiting.pop() else {
-            return Ok(true);
+            break;
         };
-        let is_nested = match conjunction_at(book, rule) {
-            Some(conjunction) => add_nested(conjunction, &mut waiting)?,
-            None => false,
-        };
-        if !is_nested {
-            leaves.push(Leaf { alternative, rule })?;
-        }
+        add_leaf(book, Leaf { alternative, rule }, leaves, &mut waiting)?;
     }
     Ok(waiting.is_empty())
+}
+
+/// Adds the leaves of an alternative, or itself where it has too many.
+fn add_alternative(
+    book: &Book<'_>,
+    alternative: usize,
+    leaves: &mut Vec<Leaf>,
+) -> Result<(), AllocError> {
+    let count = leaves.len();
+    if add_leaves(book, alternative, leaves)? {
+        return Ok(());
+    }
+    leaves.truncate(count);
+    leaves.push(Leaf {
+        alternative,
+        rule: alternative,
+    })?;
+    Ok(())
 }
 
 /// The leaves of alternatives; one that has too many is taken as it is.
@@ -72,14 +102,7 @@ pub(crate) fn all_leaves(
 ) -> Result<Vec<Leaf>, AllocError> {
     let mut leaves = Vec::new(alloc);
     for alternative in alternatives {
-        let count = leaves.len();
-        if !add_leaves(book, *alternative, &mut leaves)? {
-            leaves.truncate(count);
-            leaves.push(Leaf {
-                alternative: *alternative,
-                rule: *alternative,
-            })?;
-        }
+        add_alternative(book, *alternative, &mut leaves)?;
     }
     Ok(leaves)
 }

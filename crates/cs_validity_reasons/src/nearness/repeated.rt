@@ -27,17 +27,16 @@ fn repeated_names<'a>(
     book: &Book<'_>,
     conjunction: &Conjunction<'a>,
 ) -> Result<Vec<&'a str>, AllocError> {
-    let first = first_name(conjunction).unwrap_or(usize::MAX);
-    let properties = conjunction.keywords.properties.keys().take(MOST_PROPERTIES);
+    let mut place = first_name(conjunction).unwrap_or(usize::MAX);
     let mut names = Vec::new(alloc);
-    for (count, name) in properties.enumerate() {
-        let place = first.saturating_add(count);
+    for name in conjunction.keywords.properties.keys().take(MOST_PROPERTIES) {
         if let Some(property) = book.numbering.children.get(place)
             && names.len() < MOST_NAMES
             && is_repeated(book, *property)
         {
             names.push(name.as_str())?;
         }
+        place = place.saturating_add(1);
     }
     Ok(names)
 }
@@ -158,30 +157,42 @@ fn under(members: &[(&str, usize)], key: &str) -> Option<usize> {
     Some(members.get(place)?.1)
 }
 
-/// Of the rules of alternatives those that ask under each name that the first of them declares more than once what a map has there, as far as
-/// this leaves some.
-pub(crate) fn met_rules(
+/// Leaves of these rules those whose declarations of a name are met, as far as this leaves some.
+fn keep_meeting(
+    alloc: Global,
+    graph: &ValidGraph<'_, '_>,
+    members: &[(&str, usize)],
+    name: &str,
+    left: &mut Vec<usize>,
+) -> Result<(), AllocError> {
+    let meeting = meeting(alloc, graph, under(members, name), left, name)?;
+    if !meeting.is_empty() {
+        *left = meeting;
+    }
+    Ok(())
+}
+
+/// Leaves of the rules of alternatives those that ask under each name that the first of them declares more than once what a map has there, as
+/// far as this leaves some.
+pub(crate) fn keep_met(
     alloc: Global,
     graph: &ValidGraph<'_, '_>,
     item: usize,
-    rules: Vec<usize>,
-) -> Result<Vec<usize>, AllocError> {
-    let mut left = rules;
+    left: &mut Vec<usize>,
+) -> Result<(), AllocError> {
     let first = left.first().copied().unwrap_or(usize::MAX);
     let Some(conjunction) = conjunction_at(graph.book, first) else {
-        return Ok(left);
+        return Ok(());
     };
     if item >= graph.flat.len() {
-        return Ok(left);
+        return Ok(());
     }
     let Item::Object(members) = graph.flat.item(item) else {
-        return Ok(left);
+        return Ok(());
     };
-    for name in repeated_names(alloc, graph.book, conjunction)? {
-        let meeting = meeting(alloc, graph, under(members, name), &left, name)?;
-        if !meeting.is_empty() {
-            left = meeting;
-        }
+    let names = repeated_names(alloc, graph.book, conjunction)?;
+    for name in &names {
+        keep_meeting(alloc, graph, members, name, left)?;
     }
-    Ok(left)
+    Ok(())
 }

@@ -1,7 +1,7 @@
 // Keys whose values tell alternatives apart.
 use crate::book::{Book, conjunction_at};
-use crate::nearness::constants::{MOST_STEPS, are_same, constants_of};
-use crate::nearness::leaves::Leaf;
+use crate::nearness::constants::{MOST_STEPS, are_same, constants_of, is_constant};
+use crate::nearness::leaves::{Leaf, push_reversed};
 use cs_document::Doc;
 use cs_flat::{Flat, Item};
 use cs_validate::Conjunction;
@@ -29,6 +29,25 @@ pub(crate) struct Tag<'a> {
     pub(crate) asked: Vec<Asked<'a>>,
 }
 
+/// Adds a rule to the conjuncts, and to those that wait what is asked together with it: its parts, and behind them, to be taken
+/// first, what it refers to.
+fn add_conjunct(
+    book: &Book<'_>,
+    rule: usize,
+    conjuncts: &mut Vec<usize>,
+    waiting: &mut Vec<usize>,
+) -> Result<(), AllocError> {
+    let Some(conjunction) = conjunction_at(book, rule) else {
+        return Ok(());
+    };
+    push_reversed(&conjunction.all_of, waiting)?;
+    if let Some(reference) = conjunction.reference {
+        waiting.push(reference)?;
+    }
+    conjuncts.push(rule)?;
+    Ok(())
+}
+
 /// A rule with those that it refers to and its parts: all that is asked together.
 pub(crate) fn conjuncts_of(
     alloc: Global,
@@ -40,17 +59,9 @@ pub(crate) fn conjuncts_of(
     waiting.push(rule)?;
     for _step in 0..MOST_STEPS {
         let Some(next) = waiting.pop() else {
-            return Ok(conjuncts);
+            break;
         };
-        if let Some(conjunction) = conjunction_at(book, next) {
-            for part in conjunction.all_of.iter().rev() {
-                waiting.push(*part)?;
-            }
-            if let Some(reference) = conjunction.reference {
-                waiting.push(reference)?;
-            }
-            conjuncts.push(next)?;
-        }
+        add_conjunct(book, next, &mut conjuncts, &mut waiting)?;
     }
     Ok(conjuncts)
 }
@@ -71,12 +82,12 @@ pub(crate) fn rule_under(
     conjunction: &Conjunction<'_>,
     key: &str,
 ) -> Option<usize> {
-    let first = first_name(conjunction)?;
-    for (count, name) in conjunction.keywords.properties.keys().enumerate() {
+    let mut place = first_name(conjunction)?;
+    for name in conjunction.keywords.properties.keys() {
         if name.as_str() == key {
-            let place = first.checked_add(count)?;
             return book.numbering.children.get(place).copied();
         }
+        place = place.saturating_add(1);
     }
     None
 }
@@ -102,6 +113,39 @@ fn property_of(book: &Book<'_>, rule: usize, key: &str) -> Option<usize> {
     rule_under(book, conjunction, key)
 }
 
+/// Adds the rule of a property, if it asks for constants.
+fn add_property<'a>(
+    alloc: Global,
+    book: &'a Book<'_>,
+    property: usize,
+    asked: &mut Asked<'a>,
+) -> Result<(), AllocError> {
+    if let Some(values) = constants_of(alloc, book, property)? {
+        asked.values = values;
+        asked.rules.push(property)?;
+    }
+    Ok(())
+}
+
+/// What these rules ask with constants of the value under a key.
+fn asked_by_these<'a>(
+    alloc: Global,
+    book: &'a Book<'_>,
+    conjuncts: &[usize],
+    key: &str,
+) -> Result<Asked<'a>, AllocError> {
+    let mut asked = Asked {
+        rules: Vec::new(alloc),
+        values: Vec::new(alloc),
+    };
+    for conjunct in conjuncts {
+        if let Some(property) = property_of(book, *conjunct, key) {
+            add_property(alloc, book, property, &mut asked)?;
+        }
+    }
+    Ok(asked)
+}
+
 /// What an alternative asks of the value under a key, if it requires the key, with constants.
 fn asked_under<'a>(
     alloc: Global,
@@ -113,22 +157,24 @@ fn asked_under<'a>(
     if !is_required(book, &conjuncts, key) {
         return Ok(None);
     }
-    let mut asked = Asked {
-        rules: Vec::new(alloc),
-        values: Vec::new(alloc),
-    };
-    for conjunct in &conjuncts {
-        if let Some(property) = property_of(book, *conjunct, key)
-            && let Some(values) = constants_of(alloc, book, property)?
-        {
-            asked.rules.push(property)?;
-            asked.values = values;
-        }
-    }
+    let asked = asked_by_these(alloc, book, &conjuncts, key)?;
     if asked.rules.is_empty() {
         return Ok(None);
     }
     Ok(Some(asked))
+}
+
+/// Whether some alternative asks for other constants than the first.
+fn do_differ(all: &[Asked<'_>]) -> bool {
+    let Some((first, others)) = all.split_first() else {
+        return false;
+    };
+    for asked in others {
+        if !are_same(&first.values, &asked.values) {
+            return true;
+        }
+    }
+    false
 }
 
 /// What each alternative asks of the value under a key, if it tells them apart.
@@ -139,20 +185,13 @@ fn asked_by_all<'a>(
     key: &str,
 ) -> Result<Option<Vec<Asked<'a>>>, AllocError> {
     let mut all: Vec<Asked<'a>> = Vec::new(alloc);
-    let mut is_tag = false;
     for leaf in leaves {
         let Some(asked) = asked_under(alloc, book, leaf.rule, key)? else {
             return Ok(None);
         };
-        if let Some(first) = all.first() {
-            is_tag = is_tag || !are_same(&first.values, &asked.values);
-        }
         all.push(asked)?;
     }
-    if !is_tag {
-        return Ok(None);
-    }
-    Ok(Some(all))
+    Ok(if do_differ(&all) { Some(all) } else { None })
 }
 
 /// Adds the declared names whose schemas ask for constants.
@@ -162,14 +201,14 @@ fn add_constant_names<'a>(
     conjunction: &'a Conjunction<'a>,
     names: &mut Vec<&'a str>,
 ) -> Result<(), AllocError> {
-    let first = first_name(conjunction).unwrap_or(usize::MAX);
-    for (count, name) in conjunction.keywords.properties.keys().enumerate() {
-        let place = first.saturating_add(count);
+    let mut place = first_name(conjunction).unwrap_or(usize::MAX);
+    for name in conjunction.keywords.properties.keys() {
         if let Some(property) = book.numbering.children.get(place)
-            && constants_of(alloc, book, *property)?.is_some()
+            && is_constant(alloc, book, *property)?
         {
             names.push(name.as_str())?;
         }
+        place = place.saturating_add(1);
     }
     Ok(())
 }
@@ -180,9 +219,10 @@ fn constant_names<'a>(
     book: &'a Book<'_>,
     rule: usize,
 ) -> Result<Vec<&'a str>, AllocError> {
+    let conjuncts = conjuncts_of(alloc, book, rule)?;
     let mut names = Vec::new(alloc);
-    for conjunct in conjuncts_of(alloc, book, rule)? {
-        if let Some(conjunction) = conjunction_at(book, conjunct) {
+    for conjunct in &conjuncts {
+        if let Some(conjunction) = conjunction_at(book, *conjunct) {
             add_constant_names(alloc, book, conjunction, &mut names)?;
         }
     }
@@ -226,11 +266,12 @@ pub(crate) fn find_tag<'a>(
     if item >= flat.len() {
         return Ok(None);
     }
-    match (flat.item(item), leaves.first()) {
-        (Item::Object(members), Some(leaf)) => {
-            let names = constant_names(alloc, book, leaf.rule)?;
-            first_tag(alloc, book, members, leaves, &names)
-        }
-        (_, _) => Ok(None),
-    }
+    let Item::Object(members) = flat.item(item) else {
+        return Ok(None);
+    };
+    let Some(leaf) = leaves.first() else {
+        return Ok(None);
+    };
+    let names = constant_names(alloc, book, leaf.rule)?;
+    first_tag(alloc, book, members, leaves, &names)
 }
