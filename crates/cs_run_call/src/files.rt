@@ -26,6 +26,14 @@ pub fn read_source(rt: &HostRuntime) -> Result<Vec<u8>, Fault> {
     read_all(rt, None, MOST_BYTES)?.ok_or(Fault::SourcesTooLong)
 }
 
+/// The bytes of the sources that the words name, or of standard input as the one source where they name none.
+pub fn given_sources(call: Call<'_, '_>) -> Result<Vec<Vec<u8>>, Fault> {
+    match call.words.get_strs("FILE") {
+        Some(paths) => read_sources(call.rt, paths),
+        None => Ok(vec![in call.alloc(); read_source(call.rt)?]?),
+    }
+}
+
 /// The bytes of a schema or a document: of a file, or of standard input where none is named.
 pub fn read_input(rt: &HostRuntime, path: Option<&str>) -> Result<Vec<u8>, Fault> {
     read_all(rt, path, MOST_INPUT_BYTES)?.ok_or(Fault::InputTooLong)

@@ -1,7 +1,5 @@
 // Refusals of commands, told as their words ask for it.
-use crate::files::{
-    STANDARD_INPUT, named_sources, read_source, read_sources, sizes_of, unread_file,
-};
+use crate::files::{STANDARD_INPUT, given_sources, named_sources, sizes_of, unread_file};
 use crate::{Call, Status};
 use cs_fault_words::{About, Profile, why_refused, write_refusal_json};
 use cs_place::Named;
@@ -22,10 +20,7 @@ pub fn over_sources<A: FnOnce(&[&[u8]], &[Named<'_>]) -> Status>(
 ) -> Status
     requires { A.IsAlwaysCallable answer }
 {
-    let sources = match call.words.get_strs("FILE") {
-        Some(paths) => read_sources(call.rt, paths)?,
-        None => vec![in call.alloc(); read_source(call.rt)?]?,
-    };
+    let sources = given_sources(call)?;
     let named = named_sources(call.alloc(), call.paths("FILE"), &sources)?;
     let texts = slices_of(call.alloc(), &sources)?;
     let about = About::of(&named, call.word("root"));
@@ -187,14 +182,18 @@ fn is_joined(alloc: Global, fault: &Fault, about: About<'_>) -> Result<bool, All
     for source in about.sources {
         texts.push(source.text)?;
     }
-    match stands_for_in(alloc, Profile::Wide, &texts) {
+    let meant = stands_for_in(alloc, Profile::Wide, &texts);
+    is_behind(&meant, (*file, *offset))
+}
+
+/// Whether what sources stand for is taken, or refused behind a place.
+fn is_behind(
+    meant: &Result<Option<String>, Fault>,
+    place: (usize, usize),
+) -> Result<bool, AllocError> {
+    match meant {
         Err(Fault::OutOfMemory) => Err(AllocError),
-        Err(
-            Fault::NotOpened {
-                file: other,
-                offset: next,
-            },
-        ) => Ok((*file, *offset) < (other, next)),
+        Err(Fault::NotOpened { file, offset }) => Ok(place < (*file, *offset)),
         Ok(_) | Err(Fault::Cycle { .. } | Fault::ChainTooLong { .. }) => Ok(true),
         Err(_) => Ok(false),
     }

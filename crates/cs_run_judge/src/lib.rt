@@ -3,14 +3,14 @@
 
 use cs_fault_words::About;
 use cs_judge::{
-    LinesOutcome, TextJudge, Why, Written, prepare, run_document, run_lines, write_document,
-    write_unread,
+    LinesOutcome, Prepared, TextJudge, Why, Written, prepare, run_document, run_lines,
+    write_document, write_unread,
 };
 use cs_place::{Label, Named};
 use cs_reason_words::Form;
 use cs_run_call::{
-    Call, Reasons, STANDARD_INPUT, Status, named_sources, named_text, or_told, read_input,
-    read_source, read_sources, sources_of,
+    Call, Reasons, STANDARD_INPUT, Status, given_sources, named_sources, named_text, or_told,
+    read_input, sources_of,
 };
 use cs_tool::{Fault, Rules};
 use std::fs::File;
@@ -61,22 +61,30 @@ fn judge_read(call: Call<'_, '_>, rules: &Rules, text: Option<&[u8]>) -> Status 
     or_told(call, about, answer)
 }
 
-/// The rules of a command, and the bytes of its one document where it judges no others. Named files are read before standard input.
+/// The rules of a command, and the bytes of its one document where it judges no others. Named files are read before standard input,
+/// and the document before a source from there.
 fn input_of(call: Call<'_, '_>, command: &str) -> Result<(Rules, Option<Vec<u8>>), Fault> {
+    if command != "validate" && call.paths("FILE").is_empty() {
+        let text = document_of(call)?;
+        let rules = rules_of(call, command)?;
+        return Ok((rules, text));
+    }
+    let rules = rules_of(call, command)?;
+    let text = document_of(call)?;
+    Ok((rules, text))
+}
+
+/// The rules of a command.
+fn rules_of(call: Call<'_, '_>, command: &str) -> Result<Rules, Fault> {
     if command == "validate" {
         let schema = read_input(call.rt, Some(call.word("schema")))?;
-        let text = document_of(call)?;
-        return Ok((Rules::Schema { schema }, text));
+        return Ok(Rules::Schema { schema });
     }
     let root = String::from_str(call.alloc(), call.word("root"))?;
-    let mut sources = read_sources(call.rt, call.paths("FILE"))?;
-    let text = document_of(call)?;
-    if sources.is_empty() {
-        sources.push(read_source(call.rt)?)?;
-    }
+    let sources = given_sources(call)?;
     Ok(match command {
-        "agree" => (Rules::Both { sources, root }, text),
-        _ => (Rules::Root { sources, root }, text),
+        "agree" => Rules::Both { sources, root },
+        _ => Rules::Root { sources, root },
     })
 }
 
@@ -103,10 +111,11 @@ fn judge_meant(
     sources: &[Named<'_>],
     document: Option<Named<'_>>,
 ) -> Status {
-    let written = match call.reasons() {
-        Some(reasons) => Written::of(call.alloc(), reasons.form, sources)?,
-        None => Written::of(call.alloc(), Form::Lines, &[])?,
+    let (form, told): (Form, &[Named<'_>]) = match call.reasons() {
+        Some(reasons) => (reasons.form, sources),
+        None => (Form::Lines, &[]),
     };
+    let written = Written::of(call.alloc(), form, told)?;
     judge_by(call, rules, &written, document)
 }
 
@@ -117,13 +126,13 @@ fn judge_by(
     sources: &Written<'_>,
     document: Option<Named<'_>>,
 ) -> Status {
-    let judged = match document {
+    let mut judged = match document {
         Some(document) => Judged::One(document),
         None => opened(call)?,
     };
     let prepared = prepare(call.alloc(), rules)?;
     let why = why_of(call, sources);
-    Judging { call, why }.judge(prepared.judge(call.alloc())?, judged)
+    Judging { call, why }.judge(&prepared, &mut judged)
 }
 
 /// How the words ask for reasons, which are told from these sources.
@@ -159,26 +168,46 @@ struct Judging<'m, 'w, 'y> {
     why: Option<Why<'y>>,
 }
 
+// A judge is large: what makes one hands it on, so that it is let go at one place.
 impl Judging<'_, '_, '_> {
     /// The status of what is judged.
-    fn judge(self, mut judge: TextJudge<'_>, judged: Judged<'_>) -> Status {
-        let Judging { call, why } = self;
-        let output = &mut call.rt.stdout();
+    fn judge(self, prepared: &Prepared<'_>, judged: &mut Judged<'_>) -> Status {
+        let judge = prepared.judge(self.call.alloc())?;
         match judged {
-            Judged::One(document) => {
-                let truth = run_document(call.alloc(), &mut judge, document, why, output)?;
-                Ok(if truth { 0 } else { INVALID })
-            }
-            Judged::Input => self.judge_lines(judge, STANDARD_INPUT, &mut call.rt.stdin()),
-            Judged::Lines(name, mut file) => self.judge_lines(judge, name, &mut file),
-            Judged::Files(labels) => {
-                let mut status = 0;
-                for label in &labels {
-                    status = status.max(self.judge_file(&mut judge, label)?);
-                }
-                Ok(status)
-            }
+            Judged::One(document) => self.judge_texts(judge, Some(*document), &[]),
+            Judged::Input => self.judge_lines(judge, STANDARD_INPUT, &mut self.call.rt.stdin()),
+            Judged::Lines(name, file) => self.judge_lines(judge, name, file),
+            Judged::Files(labels) => self.judge_texts(judge, None, labels),
         }
+    }
+
+    /// The status of the one document, or else of the files of these labels.
+    fn judge_texts(
+        self,
+        mut judge: TextJudge<'_>,
+        document: Option<Named<'_>>,
+        labels: &[Label<'_>],
+    ) -> Status {
+        self.judge_each(&mut judge, document, labels)
+    }
+
+    /// The same by a judge that is kept.
+    fn judge_each(
+        self,
+        judge: &mut TextJudge<'_>,
+        document: Option<Named<'_>>,
+        labels: &[Label<'_>],
+    ) -> Status {
+        let Judging { call, why } = self;
+        if let Some(document) = document {
+            let truth = run_document(call.alloc(), judge, document, why, &mut call.rt.stdout())?;
+            return Ok(if truth { 0 } else { INVALID });
+        }
+        let mut status = 0;
+        for label in labels {
+            status = status.max(self.judge_file(judge, label)?);
+        }
+        Ok(status)
     }
 
     /// The status after the lines of an input. Reasons in lines go to standard error, and nothing else does.
