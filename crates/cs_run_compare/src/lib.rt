@@ -6,7 +6,7 @@ use cs_compare::{
     write_comparison,
 };
 use cs_fault_words::About;
-use cs_judge::{Why, Written, prepare};
+use cs_judge::{Prepared, TextJudge, Why, Written, prepare};
 use cs_place::Named;
 use cs_reason_words::Form;
 use cs_run_call::{
@@ -54,11 +54,16 @@ pub fn compare(call: Call<'_, '_>) -> Status {
 fn compared(call: Call<'_, '_>) -> Compared<u8> {
     let old = rules_of(call, Side::Old)?;
     let new = rules_of(call, Side::New)?;
-    let old_sources = named_sources(call.alloc(), call.paths("old"), sources_of(&old))?;
-    let new_sources = named_sources(call.alloc(), call.paths("new"), sources_of(&new))?;
-    let before = Edition::of(&old, &old_sources, root_of(call, Side::Old));
-    let after = Edition::of(&new, &new_sources, root_of(call, Side::New));
-    Ok(compare_editions(call, before, after)?)
+    Ok(compare_rules(call, &old, &new)?)
+}
+
+/// The status of `compare` by the rules of both sides.
+fn compare_rules(call: Call<'_, '_>, old: &Rules, new: &Rules) -> Status {
+    let old_sources = named_sources(call.alloc(), call.paths("old"), sources_of(old))?;
+    let new_sources = named_sources(call.alloc(), call.paths("new"), sources_of(new))?;
+    let before = Edition::of(old, &old_sources, root_of(call, Side::Old));
+    let after = Edition::of(new, &new_sources, root_of(call, Side::New));
+    compare_editions(call, before, after)
 }
 
 /// The word of a side, for its files and before what is told of it.
@@ -136,9 +141,7 @@ fn write_answers(call: Call<'_, '_>, before: Edition<'_>, after: Edition<'_>) ->
 /// Whether each document of an edition is one of the other edition, and where it is asked for why one isn't.
 fn told_answer(call: Call<'_, '_>, from: Edition<'_>, to: Edition<'_>) -> Compared<Told> {
     let alloc = call.alloc();
-    let admitting = slices_of(alloc, sources_of(from.rules))?;
-    let refusing = slices_of(alloc, sources_of(to.rules))?;
-    let comparison = compare_sources(alloc, &admitting, from.root, &refusing, to.root)?;
+    let comparison = comparison_of(alloc, from, to)?;
     let reasons = match (&comparison, call.reasons()) {
         (Comparison::Breaking(shown), Some(reasons)) => reasons_of(alloc, shown, to, reasons)?,
         _ => Vec::new(alloc),
@@ -149,14 +152,27 @@ fn told_answer(call: Call<'_, '_>, from: Edition<'_>, to: Edition<'_>) -> Compar
     })
 }
 
-/// What an edition tells of the text of a document that it refuses: the lines below the verdict, or the object without its newline.
-fn reasons_of(alloc: Global, shown: &[u8], to: Edition<'_>, reasons: Reasons) -> Compared<Vec<u8>> {
-    let written = Written::of(alloc, reasons.form, to.sources)?;
-    Ok(told_from(alloc, shown, to.rules, &written, reasons)?)
+/// Whether each document of an edition is one of the other edition.
+fn comparison_of(alloc: Global, from: Edition<'_>, to: Edition<'_>) -> Compared<Comparison> {
+    let admitting = slices_of(alloc, sources_of(from.rules))?;
+    let refusing = slices_of(alloc, sources_of(to.rules))?;
+    compare_sources(alloc, &admitting, from.root, &refusing, to.root)
 }
 
-/// The same from these sources.
-fn told_from(
+/// What an edition tells of the text of a document that it refuses: the lines below the verdict, or the object without its newline.
+fn reasons_of(
+    alloc: Global,
+    shown: &[u8],
+    to: Edition<'_>,
+    reasons: Reasons,
+) -> Result<Vec<u8>, Fault> {
+    let written = Written::of(alloc, reasons.form, to.sources)?;
+    told_by(alloc, shown, to.rules, &written, reasons)
+}
+
+/// The same from these sources. What is read of rules, and the judge, are large: what makes one hands it on, so that it is let go at one
+/// place.
+fn told_by(
     alloc: Global,
     shown: &[u8],
     rules: &Rules,
@@ -170,10 +186,30 @@ fn told_from(
         telling,
     };
     let prepared = prepare(alloc, rules)?;
+    told_of(alloc, shown, &prepared, why)
+}
+
+/// The same by rules that were read.
+fn told_of(
+    alloc: Global,
+    shown: &[u8],
+    prepared: &Prepared<'_>,
+    why: Why<'_>,
+) -> Result<Vec<u8>, Fault> {
     let mut judge = prepared.judge(alloc)?;
+    told_from(alloc, shown, &mut judge, why)
+}
+
+/// The same from a judge.
+fn told_from(
+    alloc: Global,
+    shown: &[u8],
+    judge: &mut TextJudge<'_>,
+    why: Why<'_>,
+) -> Result<Vec<u8>, Fault> {
     let mut told = Vec::new(alloc);
     judge.explain(named_text("document", shown), Some(why), &mut told)?;
-    let bare = match form {
+    let bare = match why.form {
         Form::Object(_) => told.trim_ascii_end(),
         Form::Lines => told.strip_prefix(b"invalid\n").unwrap_or(&told),
     };
