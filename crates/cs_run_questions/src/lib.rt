@@ -6,6 +6,7 @@ use cs_check::{
 };
 use cs_compare::write_lines;
 use cs_fault_words::{About, explained};
+use cs_guard::Guarded;
 use cs_listing::{put_listing, put_listing_json};
 use cs_place::Named;
 use cs_reason_words::Form;
@@ -93,12 +94,17 @@ pub fn list(call: Call<'_, '_>) -> Status {
 
 /// Writes the definitions of the package of these sources, in lines or as an object.
 fn write_listing(call: Call<'_, '_>, sources: &[&[u8]], named: &[Named<'_>]) -> Status {
+    let package = accepted_package(call.alloc(), sources)?;
+    list_package(call, &package, named)
+}
+
+/// Writes the definitions of a package.
+fn list_package(call: Call<'_, '_>, package: &Guarded, named: &[Named<'_>]) -> Status {
     let alloc = call.alloc();
-    let package = accepted_package(alloc, sources)?;
     let mut text = Vec::new(alloc);
     match call.told_form() {
-        Some(Form::Object(_)) => put_listing_json(alloc, named, &package, &mut text)?,
-        Some(Form::Lines) | None => put_listing(alloc, named, &package, &mut text)?,
+        Some(Form::Object(_)) => put_listing_json(alloc, named, package, &mut text)?,
+        Some(Form::Lines) | None => put_listing(alloc, named, package, &mut text)?,
     }
     call.print(&text)
 }
@@ -130,7 +136,12 @@ pub fn write_samples(call: Call<'_, '_>) -> Status {
 fn write_found(call: Call<'_, '_>, sources: &[&[u8]]) -> Status {
     let most = call.words.get_one("most").unwrap_or(MOST_SAMPLES);
     let found = found_in(call, sources, most)?;
-    let left = left_of(call.alloc(), &found, most)?;
+    write_texts(call, &found, most)
+}
+
+/// Writes documents that were found, and says what is left.
+fn write_texts(call: Call<'_, '_>, found: &SampleTexts, most: usize) -> Status {
+    let left = left_of(call.alloc(), found, most)?;
     let has_some = write_lines(call.alloc(), &found.texts, &mut call.rt.stdout())?;
     if !left.is_empty() {
         let _ = write_text(&mut call.rt.stderr(), left.as_bytes());
@@ -152,11 +163,14 @@ fn found_in(call: Call<'_, '_>, sources: &[&[u8]], most: usize) -> Result<Sample
         Sampled::Valid
     };
     let package = read_root(call.alloc(), sources, root)?;
-    match samples(call.alloc(), &package, root, which, most) {
-        Ok(found) => Ok(found),
-        Err(QuestionFault::OutOfMemory) => Err(Fault::OutOfMemory),
-        Err(QuestionFault::UnknownRoot) => Err(Fault::UnknownRoot),
-        Err(QuestionFault::TooManyCases) => Err(Fault::TooManyCases),
+    samples(call.alloc(), &package, root, which, most).map_err(fault_of)
+}
+
+fn fault_of(fault: QuestionFault) -> Fault {
+    match fault {
+        QuestionFault::OutOfMemory => Fault::OutOfMemory,
+        QuestionFault::UnknownRoot => Fault::UnknownRoot,
+        QuestionFault::TooManyCases => Fault::TooManyCases,
     }
 }
 
