@@ -62,9 +62,30 @@ pub fn run_lines<R: Read, W: Write, E: Write>(
     ensures unread { IfErr result (λ e. IsOfRules e → (input.new ≡ input.old) × (output.new ≡ output.old)) }
     ensures only { IfErr result (λ e. (e ≡ Fault.OutOfMemory) ⊎ (e ≡ Fault.ReadFailed) ⊎ (e ≡ Fault.WriteFailed)) }
 {
+    // What makes the buffers borrows the judge, which is large, so that it is let go at one place.
+    answer_lines(alloc, &mut judge, name, why, input, output, notes)
+}
+
+/// Answers the lines of the input.
+fn answer_lines<R: Read, W: Write, E: Write>(
+    alloc: Global,
+    judge: &mut TextJudge<'_>,
+    name: &str,
+    why: Option<Why<'_>>,
+    input: &mut R,
+    output: &mut W,
+    notes: &mut E,
+) -> Result<LinesOutcome, Fault>
+    ensures done { IfOk result (IsDone (asked_form why.entry) judge.old
+        (R.remaining input.old) (W.contents output.old) (W.contents output.new)) }
+    ensures refused { IfErr result (λ e. LeavesLines (asked_form why.entry) judge.old e
+        (R.remaining input.old) (R.remaining input.new) (W.contents output.old) (W.contents output.new)) }
+    ensures unread { IfErr result (λ e. IsOfRules e → (input.new ≡ input.old) × (output.new ≡ output.old)) }
+    ensures only { IfErr result (λ e. (e ≡ Fault.OutOfMemory) ⊎ (e ≡ Fault.ReadFailed) ⊎ (e ≡ Fault.WriteFailed)) }
+{
     let mut run = LineRun::new(alloc, name)?;
     let mut chunk = vec![in alloc; 0u8; CHUNK]?;
-    answer_chunks(&mut judge, &mut run, why, &mut chunk, input, output, notes)
+    answer_chunks(judge, &mut run, why, &mut chunk, input, output, notes)
 }
 
 /// Answers the lines of the input, as many bytes at a time as the chunk has.
