@@ -133,14 +133,16 @@ pub fn last_verdict(table: &Verdicts, rule: usize) -> bool {
     }
 }
 
-/// A judge's verdict of its last item by a rule, where a table says no for every pair.
-pub fn by_refusals<J: Judge>(alloc: Global, judge: &J, rule: usize) -> Result<bool, Fault> {
+/// A judge's verdict of its last item by a rule, where a table says no for every pair, in a word.
+pub fn by_refusals<J: Judge>(alloc: Global, judge: &J, rule: usize) -> Result<Vec<u8>, Fault> {
     let never = Thirds {
         affirms: false,
         ..by_thirds(judge.items(), judge.rules())
     };
     let done = fill(alloc, &never)?;
-    Ok(verdict_by(judge, rule, &done))
+    let verdict = verdict_by(judge, rule, &done);
+    drop(done);
+    Ok(format!(in alloc; "{verdict}")?.into_bytes())
 }
 
 /// A judge's verdict of its last item by a rule, where a table gives the others.

@@ -41,8 +41,7 @@ fn instance_by_refusals(
     flat: &Flat<'_>,
 ) -> Result<Vec<u8>, Fault> {
     let (judge, rule) = instance_judge(alloc, package, root, flat)?;
-    let verdict = by_refusals(alloc, &judge, rule)?;
-    Ok(format!(in alloc; "{verdict}")?.into_bytes())
+    by_refusals(alloc, &judge, rule)
 }
 
 fn instance_by_table(
@@ -53,6 +52,7 @@ fn instance_by_table(
 ) -> Result<Vec<u8>, Fault> {
     let (table, rule) = instance_table(alloc, package, root, flat)?;
     let (judged, verdict) = (table.judged(), last_verdict(&table, rule));
+    drop(table);
     Ok(format!(in alloc; "{judged} {verdict}")?.into_bytes())
 }
 
@@ -78,8 +78,7 @@ fn validity_by_refusals(
     flat: &Flat<'_>,
 ) -> Result<Vec<u8>, Fault> {
     let (judge, rule) = valid_judge(alloc, schema, flat)?;
-    let verdict = by_refusals(alloc, &judge, rule)?;
-    Ok(format!(in alloc; "{verdict}")?.into_bytes())
+    by_refusals(alloc, &judge, rule)
 }
 
 /// By the table, by the judge, which is asked for each judgement of it, and by the call that gives the verdict alone.
@@ -92,6 +91,7 @@ fn validity_by_all(
     let asked = times_asked(alloc, schema, flat)?;
     let (table, rule) = valid_table(alloc, schema, flat)?;
     let (judged, last) = (table.judged(), last_verdict(&table, rule));
+    drop(table);
     let verdict = is_valid(alloc, schema, doc)?;
     Ok(format!(in alloc; "{judged} {asked} {last} {verdict}")?.into_bytes())
 }
@@ -110,7 +110,7 @@ pub fn filling(alloc: Global, cells: &str) -> Result<Vec<u8>, Fault> {
         counts: true,
         ..by_thirds(number_of(items), number_of(rules))
     };
-    let table = fill(alloc, &judge)?;
-    let (judged, asked) = (table.judged(), judge.asked.get());
+    let judged = fill(alloc, &judge)?.judged();
+    let asked = judge.asked.get();
     Ok(format!(in alloc; "{judged} {asked}")?.into_bytes())
 }
