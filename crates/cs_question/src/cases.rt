@@ -6,7 +6,7 @@ ghost use Rattle.cs_question.specs.Asked.{meets, meets_all};
 ghost use Rattle.cs_question.specs.Nodes.{Judgement, IsMeaning};
 ghost use Rattle.cs_question.specs.Outlines.{NoScalar};
 ghost use Rattle.cs_question.specs.Truth.{NoDocument};
-ghost use Rattle.cs_question.specs.Cases.{IsCovered, Continues, Covers};
+ghost use Rattle.cs_question.specs.Cases.{IsCovered, Continues, Covers, NoOther};
 
 use crate::fault::{Effort, MOST_STEPS, Made, SearchFault, Searched};
 use crate::lists::list_of;
@@ -89,12 +89,8 @@ fn document_of<'a>(
     map_of(nodes, table, asked, effort)
 }
 
-/// A case: what is asked, and the last of it that is opened next.
-#[derive(Drop, PartialEq, Eq, PartialOrd, Ord)]
-struct Case {
-    opened: Option<Literal>,
-    asked: Vec<Literal>,
-}
+/// A case: the last of what is asked that is opened next, which cases are in the order of, and all that is asked.
+type Case = (Option<Literal>, Vec<Literal>);
 
 /// The rules that a rule asks of the same document, if it asks others of it.
 fn parts_of<'n>(nodes: &'n Nodes<'_>, literal: Literal) -> Option<&'n [usize]> {
@@ -138,9 +134,9 @@ fn put(nodes: &Nodes<'_>, cases: &mut BTreeSet<Case>, asked: Vec<Literal>) -> Se
     ensures there { OnOk result (Covers asked.items cases.new.keys) }
 {
     let opened = opened_at(nodes, &asked).map(|(_place, literal)| literal);
-    let case = Case { opened, asked };
+    let case = (opened, asked);
     if let Some(same) = cases.get(&case) {
-        if are_same(&same.asked, &case.asked) {
+        if are_same(&same.1, &case.1) {
             return Ok(());
         }
         return Err(SearchFault::TooManyCases);
@@ -274,6 +270,27 @@ fn cost_of(nodes: &Nodes<'_>, asked: &[Literal]) -> usize {
     (fields / FIELDS).saturating_add(values / COMPARISONS)
 }
 
+/// Looks at a case that was taken from the others: opens what is opened next, or else looks for a document.
+fn look_at<'a>(
+    nodes: &Nodes<'a>,
+    table: &Table<'_>,
+    cases: &mut BTreeSet<Case>,
+    asked: &[Literal],
+    effort: &mut Effort,
+) -> Searched<Option<Found<'a>>>
+    ensures kept { OnOk result (Continues cases.old.keys cases.new.keys) }
+    ensures none { IfOk result (λ o. IsNone o → NoOther nodes.now table.now asked.now cases.new.keys) }
+{
+    effort.take(1)?;
+    let Some((place, literal)) = opened_at(nodes, asked) else {
+        effort.take(cost_of(nodes, asked))?;
+        return document_of(nodes, table, asked, effort);
+    };
+    effort.take(cost_of_opening(nodes, literal, asked.len()))?;
+    open(nodes, cases, asked, place, literal, effort)?;
+    Ok(None)
+}
+
 /// A document that is all that is asked.
 ///
 /// # Errors
@@ -286,24 +303,16 @@ pub(crate) fn found_for<'a>(
 ) -> Searched<Option<Found<'a>>>
     ensures { IfOk result (λ o. IsNone o → NoDocument nodes.now table.now asked.now) }
 {
+    let first = Vec::from_slice(effort.alloc, asked)?;
     let mut cases = BTreeSet::new(effort.alloc);
-    put(nodes, &mut cases, Vec::from_slice(effort.alloc, asked)?)?;
+    put(nodes, &mut cases, first)?;
     for _ in 0..MOST_STEPS {
-        let Some(case) = cases.pop_last() else {
+        let Some((_opened, all)) = cases.pop_last() else {
             return Ok(None);
         };
-        effort.take(1)?;
-        match opened_at(nodes, &case.asked) {
-            Some((place, literal)) => {
-                effort.take(cost_of_opening(nodes, literal, case.asked.len()))?;
-                open(nodes, &mut cases, &case.asked, place, literal, effort)?;
-            }
-            None => {
-                effort.take(cost_of(nodes, &case.asked))?;
-                if let Some(found) = document_of(nodes, table, &case.asked, effort)? {
-                    return Ok(Some(found));
-                }
-            }
+        let found = look_at(nodes, table, &mut cases, &all, effort)?;
+        if found.is_some() {
+            return Ok(found);
         }
     }
     Err(SearchFault::TooManyCases)

@@ -6,7 +6,7 @@ use Rattle.cs_question.proofs.cases.put.Goals as goal
 
 pub returns-then-are_same-clause-there : goal.returns-then-are_same-clause-there
 returns-then-are_same-clause-there c = λ J x h.
-    key_found _ (λ k. meets_all J x k.asked.items) c.args.cases.now.keys c.in-Some.same.now (sym c.in-Some.ensures.key)
+    key_found _ (λ k. meets_all J x k.1.items) c.args.cases.now.keys c.in-Some.same.now (sym c.in-Some.ensures.key)
     (ap (meets_all J x) (sym c.deref-in-Some.ensures.value ∙ c.are_same.ensures c.if-are_same.true ∙ c.deref-in-Some-2.ensures.value) ∙ h)
 
 pub returns-clause-kept : goal.returns-clause-kept
