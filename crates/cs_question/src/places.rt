@@ -1,5 +1,5 @@
 // Places in a list or a map, what is asked of the values there, and the search for ways in which a list or a map fails to meet rules.
-ghost use Rattle.std.specs.Prelude.{◌≡◌, ℕ, IfOk, IsNone, IsTrue, OnOk};
+ghost use Rattle.std.specs.Prelude.{◌≡◌, ℕ, [], IfOk, IsNone, IsTrue, OnOk};
 ghost use Rattle.std.specs.List.{AllByRecursion};
 ghost use Rattle.cs_question.specs.Nodes.{Judgement};
 ghost use Rattle.cs_question.specs.Spread.{name_of, Spread, SomeOf, ByTable, HoldsPlace, HoldsPlaces, HoldsState, HoldsFurther, PutsState};
@@ -265,6 +265,27 @@ fn pick(
     Ok(best)
 }
 
+/// Puts a state for each way at a place that is open, where a state has left the places so.
+fn push_open<'a>(
+    table: &Table<'_>,
+    places: &[Place<'a>],
+    state: &State<'a>,
+    ways: &[Way<'a>],
+    states: &mut Vec<State<'a>>,
+    effort: &mut Effort,
+) -> Made<()>
+    ensures { OnOk result (ByTable table.now (λ t s. PutsState t.J s states.old.items states.new.items
+        (λ some. HoldsPlaces t.J t.n s places.now → HoldsState t.J s state.now
+        → SomeOf (λ way. (IsBehind way → ⊥) × IsTaken t.J s way) ways.now → some))) }
+{
+    for way in ways {
+        if !matches!(way, Way::Behind(_)) && !is_shut(table, places, way, effort)? {
+            states.push(state.with(effort.alloc, *way)?)?;
+        }
+    }
+    Ok(())
+}
+
 /// Puts the states that a rule's ways make of a state, which has left the places so.
 fn push_states<'a>(
     table: &Table<'_>,
@@ -283,12 +304,7 @@ fn push_states<'a>(
         state.further.push(asked)?;
         return Ok(states.push(state)?);
     }
-    for way in ways {
-        if !matches!(way, Way::Behind(_)) && !is_shut(table, places, way, effort)? {
-            states.push(state.with(effort.alloc, *way)?)?;
-        }
-    }
-    Ok(())
+    push_open(table, places, &state, ways, states, effort)
 }
 
 fn copy_places<'a>(alloc: Global, places: &[Place<'a>]) -> Made<Vec<Place<'a>>>
@@ -319,13 +335,42 @@ fn cost_of(places: usize, chosen: usize) -> usize {
     (places.saturating_add(chosen) / COPIES).saturating_add(1)
 }
 
-/// The numbers of so many rules.
-fn numbers_of(alloc: Global, rules: usize) -> Made<Vec<usize>> {
-    let mut numbers = Vec::with_capacity(alloc, rules)?;
-    for number in 0..rules {
-        numbers.push(number)?;
+/// The state in which no way is chosen yet, and each of so many rules is left.
+fn first_state<'a>(alloc: Global, rules: usize) -> Made<State<'a>>
+    ensures { IfOk result (λ s. s.chosen.items ≡ []) }
+{
+    let mut left = Vec::with_capacity(alloc, rules)?;
+    for rule in 0..rules {
+        left.push(rule)?;
     }
-    Ok(numbers)
+    Ok(State {
+        chosen: Vec::new(alloc),
+        left,
+        further: Vec::new(alloc),
+    })
+}
+
+/// Puts the states that the ways of a next rule make of a state; what the state ends with, where no rule is left.
+fn step<'a>(
+    table: &Table<'_>,
+    demands: &Demands<'a>,
+    mut state: State<'a>,
+    states: &mut Vec<State<'a>>,
+    effort: &mut Effort,
+) -> Searched<Option<Chosen<'a>>>
+    ensures { IfOk result (λ o. IsNone o → ByTable table.now (λ t s. PutsState t.J s states.old.items states.new.items
+        (λ some. HoldsPlaces t.J t.n s demands.now.places.items → HoldsFurther t.J t.n s demands.now.further
+        → AllByRecursion (λ w. AreTaken t.J s w.items) demands.now.rules.items → HoldsState t.J s state.entry → some))) }
+{
+    effort.take(cost_of(demands.places.len(), state.chosen.len()))?;
+    let places = places_after(effort.alloc, &demands.places, &state.chosen)?;
+    let rule = pick(table, &places, &state.left, demands, effort)?;
+    let Some(ways) = demands.rules.get(rule) else {
+        return Ok(Some(chosen_of(effort.alloc, state, places)?));
+    };
+    state.left.retain(|left| *left != rule);
+    push_states(table, &places, state, demands, ways, states, effort)?;
+    Ok(None)
 }
 
 /// A choice of one way for each rule, such that there can be values as all places ask.
@@ -346,39 +391,39 @@ pub(crate) fn choice<'a>(
     if has_dead(table, &demands.places, effort)? {
         return Ok(None);
     }
-    let mut states = Vec::new(effort.alloc);
-    states.push(State {
-        chosen: Vec::new(effort.alloc),
-        left: numbers_of(effort.alloc, demands.rules.len())?,
-        further: Vec::new(effort.alloc),
-    })?;
+    let first = first_state(effort.alloc, demands.rules.len())?;
+    let mut states = vec![in effort.alloc; first]?;
     for _ in 0..MOST_STEPS {
-        let Some(mut state) = states.pop() else {
+        let Some(state) = states.pop() else {
             return Ok(None);
         };
-        effort.take(cost_of(demands.places.len(), state.chosen.len()))?;
-        let changed = places_after(effort.alloc, &demands.places, &state.chosen)?;
-        let rule = pick(table, &changed, &state.left, demands, effort)?;
-        let Some(ways) = demands.rules.get(rule) else {
-            return Ok(Some(chosen_of(effort.alloc, state, changed)?));
-        };
-        state.left.retain(|left| *left != rule);
-        push_states(table, &changed, state, demands, ways, &mut states, effort)?;
+        let chosen = step(table, demands, state, &mut states, effort)?;
+        if chosen.is_some() {
+            return Ok(chosen);
+        }
     }
     Err(SearchFault::TooManyCases)
 }
 
 /// What a choice ends with, where its ways have left the places so.
 fn chosen_of<'a>(alloc: Global, state: State<'a>, places: Vec<Place<'a>>) -> Made<Chosen<'a>> {
-    let State { mut further, .. } = state;
-    let mut keys = Vec::new(alloc);
-    let mut parts = Vec::with_capacity(alloc, places.len())?;
+    let mut further = state.further;
+    let mut chosen = Chosen {
+        keys: Vec::new(alloc),
+        parts: Vec::new(alloc),
+    };
     for place in places {
-        if place.is_needed {
-            keys.push(place.key)?;
-            parts.push(place.asked)?;
-        }
+        put_part(&mut chosen, place)?;
     }
-    parts.append(&mut further)?;
-    Ok(Chosen { keys, parts })
+    chosen.parts.append(&mut further)?;
+    Ok(chosen)
+}
+
+/// Puts what is asked at a place, if there has to be a value.
+fn put_part<'a>(chosen: &mut Chosen<'a>, place: Place<'a>) -> Made<()> {
+    if place.is_needed {
+        chosen.keys.push(place.key)?;
+        chosen.parts.push(place.asked)?;
+    }
+    Ok(())
 }

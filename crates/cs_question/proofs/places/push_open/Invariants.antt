@@ -1,7 +1,7 @@
 use Rattle.std.proofs.Common.{◌≡◌, true, take}
 use Rattle.cs_question.specs.Spread.{Spread, SomeOf, HoldsPlaces, HoldsState, IsTaken, IsBehind}
 use Rattle.cs_question.specs.Truth.{Truth}
-use Rattle.cs_question.proofs.places.push_states.Given as goal
+use Rattle.cs_question.proofs.places.push_open.Given as goal
 
 abbrev pub invariant-loop-way : goal.invariant-loop-way
 invariant-loop-way l = l.table.is_final ≡ true → (t : Truth l.table.entries.items) (s : Spread)
