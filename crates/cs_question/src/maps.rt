@@ -194,20 +194,14 @@ fn extra_ways<'a>(labels: &[&'a str], fields: &Fields<'a>, ways: &mut Vec<Way<'a
     Ok(())
 }
 
-/// Adds the labels of a struct literal.
-fn add_labels<'a>(labels: &mut Vec<&'a str>, fields: &Fields<'a>) -> Made<()> {
-    for field in &fields.all {
-        labels.push(field.label)?;
-    }
-    Ok(())
-}
-
 /// The labels that the rules declare, in order, each once.
 fn labels_of<'a>(nodes: &Nodes<'a>, asked: &[Literal]) -> Made<Vec<&'a str>> {
     let mut labels = Vec::new(nodes.alloc);
     for literal in asked {
         if let Some(Node::Struct { fields, .. }) = nodes.of(*literal) {
-            add_labels(&mut labels, fields)?;
+            for field in &fields.all {
+                labels.push(field.label)?;
+            }
         }
     }
     labels.sort_unstable();
