@@ -103,7 +103,7 @@ pub(crate) enum Node<'a> {
 }
 
 /// What follows the fixed elements of a list: nothing, anything, or instances of a rule.
-#[derive(Clone, Copy, PartialEq, Eq, PartialOrd, Ord)]
+#[derive(Clone, Copy, PartialEq, Eq)]
 pub(crate) enum NodeEnd {
     Closed,
     Any,

@@ -17,11 +17,15 @@ use cs_package::{FieldMark, Kind, Literal, Relation, Shape, Simple};
 use std::alloc::Global;
 use std::collections::BTreeMap;
 
-/// What a constant or a range is found by.
+/// What a rule is found by, or a piece of that: a constant, a range, a declaration, or what a list has.
 #[derive(Clone, Copy, PartialEq, Eq, PartialOrd, Ord)]
 pub(crate) enum Sign<'a> {
     Literal(Literal<'a>),
     Range(i64, Option<i64>),
+    Field(&'a str, usize),
+    Element(usize),
+    /// What follows the fixed elements, where that is something: instances of a rule, or anything.
+    Further(Option<usize>),
 }
 
 /// What a rule is found by, where it is a constant or a range.
@@ -65,36 +69,30 @@ pub(crate) fn are_alike(first: &Node<'_>, second: &Node<'_>) -> bool
     }
 }
 
-/// What a rule is found by: a piece of it for each of its parts.
-#[derive(Clone, Copy, PartialEq, Eq, PartialOrd, Ord)]
-pub(crate) enum Part<'a> {
-    Value(Sign<'a>),
-    Field(&'a str, usize),
-    Element(usize),
-    End(NodeEnd),
-}
-
-/// What a rule is found by: nothing, where it asks others of the same document.
-fn form_of<'a>(alloc: Global, node: &Node<'a>) -> Made<Vec<Part<'a>>> {
+/// What a rule is found by, with a piece for each of its parts: nothing, where it asks others of the same document.
+fn form_of<'a>(alloc: Global, node: &Node<'a>) -> Made<Vec<Sign<'a>>> {
     let mut form = Vec::new(alloc);
-    if let Some(sign) = sign_of(node) {
-        form.push(Part::Value(sign))?;
-    }
     match node {
         Node::Struct { fields, .. } => {
             for field in &fields.all {
-                form.push(Part::Field(field.label, field.value))?;
+                form.push(Sign::Field(field.label, field.value))?;
             }
         }
         Node::List { front, end } => {
             for element in front {
-                form.push(Part::Element(*element))?;
+                form.push(Sign::Element(*element))?;
             }
-            if *end != NodeEnd::Closed {
-                form.push(Part::End(*end))?;
+            match end {
+                NodeEnd::Closed => {}
+                NodeEnd::Any => form.push(Sign::Further(None))?,
+                NodeEnd::Each(rule) => form.push(Sign::Further(Some(*rule)))?,
             }
         }
-        Node::Simple(_) | Node::Within { .. } | Node::All(_) | Node::Any(_) => {}
+        Node::Simple(_) | Node::Within { .. } | Node::All(_) | Node::Any(_) => {
+            if let Some(sign) = sign_of(node) {
+                form.push(sign)?;
+            }
+        }
     }
     Ok(form)
 }
@@ -291,7 +289,7 @@ fn are_same(nodes: &[Node<'_>], first: usize, second: usize) -> bool
 fn first_of<'a>(
     alloc: Global,
     nodes: &[Node<'a>],
-    firsts: &mut BTreeMap<Vec<Part<'a>>, usize>,
+    firsts: &mut BTreeMap<Vec<Sign<'a>>, usize>,
     rule: usize,
 ) -> Made<usize>
     ensures { IfOk result (λ r. (J : ℕ → Document → Bool) → IsSide (map asked_of nodes.now) J → (x : Document) → J r x ≡ J rule x) }
