@@ -1,10 +1,8 @@
-// A token of a source and what is near it, a part of a source and its parts, and where sources declare definitions.
+// A token of a source and what is near it, and a part of a source and its parts.
 use crate::source::Separator::{Amp, Bar, Colon, Comma};
-use crate::source::{Bracket, Inside, Separation, Separator, Source};
-use crate::tokens::{end_of, is_mark, precedes_declaration};
+use crate::source::{Bracket, Inside, MOST_AROUND, Separation, Separator, Source};
+use crate::tokens::{end_of, follows_label, is_mark, precedes_declaration};
 use cs_grammar::{Profile, Sort, Token};
-use cs_place::Made;
-use std::alloc::Global;
 use std::iter::successors;
 use std::mem;
 
@@ -113,21 +111,23 @@ impl<'s, 'a> Near<'s, 'a> {
         may_begin && self.begins_declaration() && self.part().count(Colon) == 0
     }
 
+    /// Whether a label ends with the token: a colon is behind it, or a mark and a colon.
+    pub fn is_label(self) -> bool {
+        self.source.ends_label(self.place.saturating_add(1))
+    }
+
     /// Whether a declaration of a struct begins with the token that is an `if`, and no field of this label.
     pub fn begins_conditional(self) -> bool {
         let here = self.here();
         let is_if = here.sort == Sort::Name && here.text == "if";
-        is_if
-            && precedes_declaration(self.before(1))
-            && self.inside() == Inside::Struct
-            && !self.source.ends_label(self.place.saturating_add(1))
+        is_if && self.begins_declaration() && self.inside() == Inside::Struct && !self.is_label()
     }
 
     /// Whether a declaration begins with the token that is a `let`, and no field of this label.
     pub fn begins_let(self) -> bool {
         let here = self.here();
         let is_let = here.sort == Sort::Name && here.text == "let";
-        is_let && self.begins_declaration() && !self.source.ends_label(self.place.saturating_add(1))
+        is_let && self.begins_declaration() && !self.is_label()
     }
 
     /// Whether the declaration that begins with the token gives a name that is none of the data, and no definition of a file: by a `let`, with `#` or
@@ -139,8 +139,7 @@ impl<'s, 'a> Near<'s, 'a> {
             Inside::File => self.begins_declaration() && matches!(sort, Sort::Name | Sort::Hidden),
             Inside::List | Inside::Parentheses | Inside::Label => false,
         };
-        let is_label = self.source.ends_label(self.place.saturating_add(1));
-        self.begins_let() || (is_label && may_be)
+        self.begins_let() || (may_be && self.is_label())
     }
 
     /// The token that has the name which a declaration gives that begins with the token: behind a `let`, and else itself.
@@ -176,9 +175,8 @@ impl<'s, 'a> Near<'s, 'a> {
     /// does that is no label and not predeclared.
     pub fn is_reference(self) -> bool {
         let here = self.here();
-        let is_declared = self.source.ends_label(self.place.saturating_add(1));
         match here.sort {
-            Sort::Definition | Sort::Hidden => !is_declared,
+            Sort::Definition | Sort::Hidden => !self.is_label(),
             Sort::Name => {
                 let negations = usize::from(is_mark(self.before(1), "!"));
                 let word = self.before(negations.saturating_add(1)).text;
@@ -186,7 +184,7 @@ impl<'s, 'a> Near<'s, 'a> {
                 let is_of_clause = ["if", "let"].contains(&word)
                     || ["if", "let"].contains(&here.text);
                 self.source.profile == Profile::Wide
-                    && !is_declared
+                    && !self.is_label()
                     && !is_of_clause
                     && !PREDECLARED.contains(&here.text)
             }
@@ -230,6 +228,12 @@ impl<'s, 'a> Near<'s, 'a> {
         is_embedded.then_some(declaration)
     }
 
+    /// The label of the same text as the token, in the innermost struct around it that has one.
+    pub fn label_around(self) -> Option<Near<'s, 'a>> {
+        let mut around = successors(self.bracket(), |inner| inner.bracket()).take(MOST_AROUND);
+        around.find_map(|bracket| bracket.held()?.label(self.here().text))
+    }
+
     /// The token that opens the struct with the declaration that the token is in.
     pub fn struct_around(self) -> Option<Near<'s, 'a>> {
         self.source.declaration_at(self.place).first()?.bracket()
@@ -242,9 +246,10 @@ impl<'s, 'a> Near<'s, 'a> {
             return false;
         };
         opening.and_then(|opening| opening.embedding()).is_some()
-            || (0..=held.count(Comma))
-                .filter_map(|place| held.part(Comma, place)?.first())
-                .any(|first| first.begins_embedding())
+            || (0..=held.count(Comma)).any(|place| {
+                let first = held.first_of(Comma, place);
+                first.is_some_and(|first| first.begins_embedding())
+            })
     }
 
     /// What is between commas around the token: a declaration, or an element of a list.
@@ -312,6 +317,24 @@ impl<'s, 'a> Part<'s, 'a> {
         Some(self.between(from, to))
     }
 
+    /// The first token of its part at a place, where separators are between the parts.
+    pub fn first_of(self, separator: Separator, place: usize) -> Option<Near<'s, 'a>> {
+        self.part(separator, place)?.first()
+    }
+
+    /// The label of its first declaration whose label is this text: one token, which the colon or its mark follows.
+    pub fn label(self, text: &str) -> Option<Near<'s, 'a>> {
+        for place in 0..=self.count(Comma) {
+            let first = self.first_of(Comma, place);
+            let is_one = |first: &Near<'_, '_>| first.here().text == text
+                && follows_label(first.behind(1));
+            if first.as_ref().is_some_and(is_one) {
+                return first;
+            }
+        }
+        None
+    }
+
     /// Its part that the token at a place is directly in, where separators are between the parts.
     pub fn part_around(self, separator: Separator, place: usize) -> Part<'s, 'a> {
         let before = self.source.last_separator(separator, place);
@@ -338,13 +361,22 @@ impl<'s, 'a> Part<'s, 'a> {
 
     /// It without the parentheses around, and without a word before them: they say nothing.
     pub fn without(self, word: &str) -> Part<'s, 'a> {
-        let inner = successors(Some(self), |left| {
-            let is_called = left.first()?.here().text == word;
-            let from = left.from.saturating_add(usize::from(is_called));
-            // The end of a line may have inserted a comma before the parenthesis that closes.
-            left.between(from, left.to).inside("(")?.part(Comma, 0)
-        });
-        inner.take(self.to).last().unwrap_or(self)
+        let mut left = self;
+        for _ in 0..self.to {
+            let Some(inside) = left.inside_parentheses(word) else {
+                break;
+            };
+            left = inside;
+        }
+        left
+    }
+
+    /// What the parentheses around it have inside, also where a word is before them.
+    fn inside_parentheses(self, word: &str) -> Option<Part<'s, 'a>> {
+        let is_called = self.first()?.here().text == word;
+        let from = self.from.saturating_add(usize::from(is_called));
+        // The end of a line may have inserted a comma before the parenthesis that closes.
+        self.between(from, self.to).inside("(")?.part(Comma, 0)
     }
 
     /// Whether nothing in it is a struct literal or a reference, so that it stays beside what is put together.
@@ -390,10 +422,16 @@ impl<'s, 'a> Part<'s, 'a> {
     /// Its operand of `&` at a place, where those that aren't plain are one operand, which stands where the first of them does.
     pub fn standing_operand(self, place: usize) -> Option<Part<'s, 'a>> {
         let mut is_met = false;
-        (0..self.operands(Amp))
-            .filter_map(|at| self.operand(Amp, at))
-            .filter(|operand| operand.is_plain() || !mem::replace(&mut is_met, true))
-            .nth(place)
+        let mut standing = 0usize;
+        for at in 0..self.operands(Amp) {
+            let operand = self.operand(Amp, at)?;
+            let stands = operand.is_plain() || !mem::replace(&mut is_met, true);
+            if stands && standing == place {
+                return Some(operand);
+            }
+            standing = standing.saturating_add(usize::from(stands));
+        }
+        None
     }
 
     /// What is declared by this declaration: what is behind its first colon, or behind the `=` of a `let`.
@@ -416,59 +454,5 @@ impl<'s, 'a> Part<'s, 'a> {
     /// Where it begins, without parentheses and `close`.
     pub fn offset(self) -> Option<usize> {
         Some(self.without("close").first()?.here().start)
-    }
-}
-
-/// The definitions that sources declare. A declaration goes by the name that it begins with.
-#[derive(Drop)]
-pub struct Declared<'s, 'a> {
-    pub sources: &'s [Source<'a>],
-    /// The first declaration of each definition, in their order.
-    pub firsts: Vec<Near<'s, 'a>>,
-    /// All declarations by their names, and those of one name in their order.
-    by_name: Vec<Near<'s, 'a>>,
-}
-
-/// The definitions that sources declare, outside of all brackets. Only memory can run out.
-pub fn declared_in<'s, 'a>(alloc: Global, sources: &'s [Source<'a>]) -> Made<Declared<'s, 'a>> {
-    let mut by_name = Vec::new(alloc);
-    for source in sources {
-        let tokens = (0..source.tokens.len()).map(|place| Near { source, place });
-        let names = tokens.filter(|token| token.here().sort == Sort::Definition);
-        let labels = names.filter(|name| is_mark(name.behind(1), ":"));
-        for label in labels.filter(|label| source.around(label.place) == 0) {
-            by_name.push(label)?;
-        }
-    }
-    by_name.sort_by_key(|declaration| declaration.here().text)?;
-    let mut firsts = Vec::from_slice(alloc, &by_name)?;
-    firsts.dedup_by(|declaration, first| declaration.here().text == first.here().text);
-    firsts.sort_by_key(|declaration| (declaration.source.file, declaration.place))?;
-    Ok(Declared {
-        sources,
-        firsts,
-        by_name,
-    })
-}
-
-impl<'s, 'a> Declared<'s, 'a> {
-    /// What it has grown by.
-    pub fn alloc(&self) -> Global {
-        *self.firsts.allocator()
-    }
-
-    /// The declarations of a name with its `#`, in their order.
-    pub fn named(&self, name: &str) -> &[Near<'s, 'a>] {
-        let all = self.by_name.as_slice();
-        let before = all.partition_point(|declaration| declaration.here().text < name);
-        let (_, behind) = all.split_at(before);
-        let times = behind.partition_point(|declaration| declaration.here().text <= name);
-        let (named, _) = behind.split_at(times);
-        named
-    }
-
-    /// The first declaration of a name with its `#`.
-    pub fn of(&self, name: &str) -> Option<Near<'s, 'a>> {
-        self.named(name).first().copied()
     }
 }
