@@ -2,9 +2,7 @@
 use crate::forms::{Form, Found};
 use crate::syntax::form_of_selected;
 use cs_grammar::{Profile, Sort};
-use cs_sources::Separator::Comma;
-use cs_sources::{MOST_AROUND, Near, Part, follows_label};
-use std::iter::successors;
+use cs_sources::{Near, Part};
 
 /// The form at a name that names a field, where it may not: in a condition, or where `.` selects it, the field may be absent.
 pub fn form_of_field<'s, 'a>(near: Near<'s, 'a>) -> Found<'s, 'a> {
@@ -26,12 +24,7 @@ pub fn form_of_field<'s, 'a>(near: Near<'s, 'a>) -> Found<'s, 'a> {
 
 /// Whether a struct around a name has a label without quotes that is the name.
 fn names_field(near: Near<'_, '_>) -> bool {
-    let mut around = successors(near.bracket(), |inner| inner.bracket()).take(MOST_AROUND);
-    around.any(|bracket| {
-        bracket
-            .held()
-            .is_some_and(|held| declares(held, near.here().text))
-    })
+    near.here().sort == Sort::Name && near.label_around().is_some()
 }
 
 /// The form at a token in the conditions of an `if` in the wide profile, which is out of place there, or left out as another form; none elsewhere.
@@ -47,11 +40,10 @@ pub(crate) fn form_in_condition<'s, 'a>(near: Near<'s, 'a>, other: Form) -> Opti
 
 /// Why a condition can't ask about the field of a name.
 fn form_of_asked(near: Near<'_, '_>) -> Form {
-    let (name, bracket) = (near.here().text, near.bracket());
-    let own = bracket.and_then(|bracket| bracket.held());
+    let name = near.here().text;
+    let own = near.bracket().and_then(|bracket| bracket.held());
     let body = near.part().under_conditions();
-    let is_declared = own.is_some_and(|own| declares(own, name));
-    if !is_declared {
+    if own.and_then(|own| own.label(name)).is_none() {
         Form::UndeclaredField
     } else if body.is_some_and(|body| declares_inside(body, name)) {
         Form::DeclaredAgain
@@ -60,28 +52,13 @@ fn form_of_asked(near: Near<'_, '_>) -> Form {
     }
 }
 
-/// Whether a struct has a label without quotes that is a name.
-fn declares(held: Part<'_, '_>, name: &str) -> bool {
-    let declarations = (0..=held.count(Comma)).filter_map(|place| held.part(Comma, place));
-    let mut firsts = declarations.filter_map(|declaration| declaration.first());
-    firsts.any(|first| is_label(first, name))
-}
-
-/// Whether a token is a name as a label.
-fn is_label(token: Near<'_, '_>, name: &str) -> bool {
-    let here = token.here();
-    here.sort == Sort::Name && here.text == name && follows_label(token.behind(1))
-}
-
 /// Whether a declaration of a field of that name, with its label in quotes or not, begins in a part, at any depth.
 fn declares_inside(body: Part<'_, '_>, name: &str) -> bool {
     let Part { source, from, to } = body;
-    let mut tokens = (from..to).map(|place| Near { source, place });
-    tokens.any(|token| {
+    (from..to).any(|place| {
+        let token = Near { source, place };
         let here = token.here();
         let is_name = matches!(here.sort, Sort::Name | Sort::Text);
-        is_name
-            && here.text.trim_matches('"') == name
-            && source.ends_label(token.place.saturating_add(1))
+        is_name && here.text.trim_matches('"') == name && token.is_label()
     })
 }

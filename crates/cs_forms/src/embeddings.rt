@@ -35,22 +35,35 @@ pub fn form_left_out_in<'s, 'a>(
     if let Some(selected) = form_of_selected(near) {
         return Ok(selected);
     }
-    let form = match (near.source.profile, found.form) {
-        (Profile::Wide, Form::If) => Form::IfOutside,
-        (Profile::Wide, Form::Let) => Form::LetOutside,
-        (Profile::Wide, Form::HiddenName) if near.before(1).text == "let" => Form::LetOutside,
-        // Elsewhere it is a name that a struct or a file declares.
-        (Profile::Wide, Form::HiddenName) => Form::Misplaced,
-        (Profile::Wide, _) if near.here().sort == Sort::Definition => Form::ExcludedDefault,
-        (Profile::Wide, Form::DefaultMark) => form_of_default(near),
-        (Profile::Wide | Profile::Default, _) => return Ok(found),
-    };
-    let is_body = near.begins_declaration() && near.inside() == Inside::File;
-    match form {
-        Form::ExcludedDefault if is_body => Ok(Found::at(near, Form::DefaultInside)),
-        Form::ExcludedDefault => Ok(Found::at(near, form).showing(label_at(declared, near)?)),
-        form => Ok(Found::at(near, form)),
+    if near.source.profile == Profile::Default {
+        return Ok(found);
     }
+    let form = match found.form {
+        Form::If => Form::IfOutside,
+        Form::Let => Form::LetOutside,
+        Form::HiddenName if near.before(1).text == "let" => Form::LetOutside,
+        // Elsewhere it is a name that a struct or a file declares.
+        Form::HiddenName => Form::Misplaced,
+        _ if near.here().sort == Sort::Definition => return excluded_default(near, declared),
+        Form::DefaultMark => form_of_default(near),
+        _ => return Ok(found),
+    };
+    if matches!(form, Form::ExcludedDefault) {
+        return excluded_default(near, declared);
+    }
+    Ok(Found::at(near, form))
+}
+
+/// The form of a default, or of a reference to a definition with one, that another declaration could exclude.
+fn excluded_default<'s, 'a>(
+    near: Near<'s, 'a>,
+    declared: &Declared<'_, 'a>,
+) -> Made<Found<'s, 'a>> {
+    if near.begins_declaration() && near.inside() == Inside::File {
+        return Ok(Found::at(near, Form::DefaultInside));
+    }
+    let label = label_at(declared, near)?;
+    Ok(Found::at(near, Form::ExcludedDefault).showing(label))
 }
 
 /// The label of the field whose value a token is in, in parentheses or in none. Where the token embeds something, that of two declarations.
@@ -72,10 +85,10 @@ fn form_of_default(mark: Near<'_, '_>) -> Form {
     };
     let operand = value.part_around(Bar, mark.place);
     let is_operand = mark.place == operand.from && value.count(Bar) > 0;
-    let has_mark_before = (0..=value.count(Bar))
-        .filter_map(|place| value.part(Bar, place)?.first())
-        .take_while(|first| first.place < mark.place)
-        .any(|first| first.here().text == "*");
+    let has_mark_before = (0..=value.count(Bar)).any(|place| {
+        let first = value.first_of(Bar, place);
+        first.is_some_and(|first| first.place < mark.place && first.here().text == "*")
+    });
     let mut marked = mark.place.saturating_add(1)..operand.to;
     if !is_operand || !is_whole(mark, value) {
         Form::MisplacedDefault
@@ -102,12 +115,14 @@ fn value_of<'s, 'a>(near: Near<'s, 'a>) -> Option<Part<'s, 'a>> {
 
 /// Whether a value, which a token is in, has nothing around it but parentheses.
 fn is_whole(near: Near<'_, '_>, value: Part<'_, '_>) -> bool {
-    let around = successors(Some(near), |inner| {
-        let is_held = inner.inside() == Inside::Parentheses;
-        is_held.then_some(inner.bracket()?)
-    });
-    let outermost = around.take(MOST_AROUND).last();
-    let whole = outermost.and_then(|token| value_of(token));
+    let mut outermost = near;
+    for _ in 1..MOST_AROUND {
+        match outermost.bracket() {
+            Some(bracket) if outermost.inside() == Inside::Parentheses => outermost = bracket,
+            Some(_) | None => break,
+        }
+    }
+    let whole = value_of(outermost);
     whole.is_some_and(|whole| whole.without("").from == value.from)
 }
 
@@ -243,10 +258,13 @@ fn fields_beside<'a>(declared: &Declared<'_, 'a>, near: Near<'_, 'a>) -> Made<Ve
 /// What the literal holds that has the declaration which a token is in, whether by itself or by embedding literals that have it; or else the
 /// operands of `&` that the literal is joined with.
 fn literal_around<'s, 'a>(near: Near<'s, 'a>) -> Option<Part<'s, 'a>> {
-    let around = successors(near.struct_around(), |inner| {
-        inner.embedding().and(inner.struct_around())
-    });
-    let opening = around.take(MOST_AROUND).last()?;
+    let mut opening = near.struct_around()?;
+    for _ in 1..MOST_AROUND {
+        let Some(around) = opening.embedding().and(opening.struct_around()) else {
+            break;
+        };
+        opening = around;
+    }
     let source = near.source;
     let place = source.held_in_declaration(opening.place);
     Near { source, place }.conjunction().or(opening.held())
@@ -343,15 +361,21 @@ impl<'s, 'a> Embedded<'s, 'a> {
             coming: Vec::new(alloc),
         };
         found.put_each(part, None, Comma)?;
+        found.pass_all()?;
+        Ok(found)
+    }
+
+    /// Passes what is still to come.
+    fn pass_all(&mut self) -> Made<()> {
         for _ in 0..MOST_PASSED {
-            let Some((next, by)) = found.coming.pop() else {
+            let Some((next, by)) = self.coming.pop() else {
                 break;
             };
-            if !found.pass(next, by)? {
-                found.other = found.other.or(Some(next));
+            if !self.pass(next, by)? {
+                self.other = self.other.or(Some(next));
             }
         }
-        Ok(found)
+        Ok(())
     }
 
     /// What is between separators comes next.
@@ -392,9 +416,11 @@ impl<'s, 'a> Embedded<'s, 'a> {
             return Ok(true);
         }
         let Part { source, from, to } = field;
-        let tokens = (from..to).map(|place| Near { source, place });
-        for token in tokens.filter(|token| token.begins_embedding()) {
-            self.coming.push((token.part(), by))?;
+        for place in from..to {
+            let token = Near { source, place };
+            if token.begins_embedding() {
+                self.coming.push((token.part(), by))?;
+            }
         }
         Ok(true)
     }

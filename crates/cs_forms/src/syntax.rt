@@ -4,12 +4,31 @@ use crate::conditions::form_in_condition;
 use crate::forms::{Form, Found, said_of_shown};
 use cs_grammar::{Profile, Sort, Token};
 use cs_sources::Separator::Comma;
-use cs_sources::{Declared, Inside, Near, begins_value, ends_value, follows_label, separates};
+use cs_sources::{
+    Declared, Inside, Near, Source, begins_value, ends_value, follows_label, separates,
+};
 
 /// The packages that come with CUE.
 const PACKAGES: [&str; 18] = [
     "base64", "bool", "csv", "hex", "json", "list", "math", "bits", "net", "path", "regexp",
     "strconv", "strings", "struct", "template", "time", "uuid", "yaml",
+];
+
+/// The forms of clauses by the words that begin them.
+const CLAUSES: [(&str, Form); 3] = [("let", Form::Let), ("for", Form::For), ("if", Form::If)];
+
+/// What the default profile leaves out by its token alone: the form of that, and of that in the brackets of a label.
+const LEFT_OUT: [(&str, Form, Form); 10] = [
+    ("import", Form::Import, Form::Import),
+    ("let", Form::Let, Form::Let),
+    ("for", Form::For, Form::For),
+    ("if", Form::If, Form::If),
+    ("=", Form::Alias, Form::AliasLabel),
+    ("=~", Form::RegularExpression, Form::Pattern),
+    ("!~", Form::RegularExpression, Form::Pattern),
+    ("==", Form::Comparison, Form::Comparison),
+    ("&&", Form::Comparison, Form::Comparison),
+    ("||", Form::Comparison, Form::Comparison),
 ];
 
 /// The form at an offset of a source where no token of its profile begins; another one stands there in its place.
@@ -115,24 +134,27 @@ pub fn form_unknown<'s, 'a>(near: Near<'s, 'a>, declared: &Declared<'_, 'a>) -> 
 /// Whether a definition, a struct or a file declares a name.
 fn is_declared(name: &str, declared: &Declared<'_, '_>) -> bool {
     declared.of(name).is_some()
-        || declared.sources.iter().any(|source| {
-            let mut tokens = (0..source.tokens.len()).map(|place| Near { source, place });
-            tokens.any(|token| {
-                token.declares_name() && token.name_declared().here().text == name
-            })
-        })
+        || declared
+            .sources
+            .iter()
+            .any(|source| declares_name(source, name))
+}
+
+/// Whether a struct or a file of a source declares a name.
+fn declares_name(source: &Source<'_>, name: &str) -> bool {
+    (0..source.tokens.len()).any(|place| {
+        let token = Near { source, place };
+        token.declares_name() && token.name_declared().here().text == name
+    })
 }
 
 /// The form of a `let` at fault: another declaration of its struct or its file may have its name.
 fn form_of_let<'s, 'a>(near: Near<'s, 'a>) -> Found<'s, 'a> {
     let name = near.name_declared().here().text;
     let held = near.source.held(near.source.around(near.place));
-    let firsts = (0..=held.count(Comma)).filter_map(|place| held.part(Comma, place)?.first());
-    let mut others = firsts.filter(|first| first.place != near.place);
-    let is_twice = others.any(|first| {
-        let declared = first.name_declared();
-        let is_one = first.begins_let() || follows_label(declared.behind(1));
-        is_one && declared.here().text == name
+    let is_twice = (0..=held.count(Comma)).any(|place| {
+        let first = held.first_of(Comma, place);
+        first.is_some_and(|first| first.place != near.place && begins_with_name(first, name))
     });
     let form = if is_twice {
         Form::BoundTwice
@@ -140,6 +162,13 @@ fn form_of_let<'s, 'a>(near: Near<'s, 'a>) -> Found<'s, 'a> {
         Form::UnusedLet
     };
     Found::between(form, near, near.place.saturating_add(2)).showing(name)
+}
+
+/// Whether the declaration that begins with a token declares a name.
+fn begins_with_name(first: Near<'_, '_>, name: &str) -> bool {
+    let declared = first.name_declared();
+    let is_one = first.begins_let() || follows_label(declared.behind(1));
+    is_one && declared.here().text == name
 }
 
 /// The form at a name with a selector behind it; none at another token.
@@ -155,31 +184,25 @@ pub(crate) fn form_of_selected<'s, 'a>(near: Near<'s, 'a>) -> Option<Found<'s, '
 /// The form at a token that the default profile leaves out, wherever it stands.
 pub(crate) fn form_left_out<'s, 'a>(near: Near<'s, 'a>) -> Found<'s, 'a> {
     let here = near.here();
-    let is_in_label = near.inside() == Inside::Label;
-    let form = match here.text {
-        _ if here.sort == Sort::Hidden => Form::HiddenName,
-        "import" => Form::Import,
-        word if here.sort == Sort::Name => form_of_clause(word).unwrap_or(Form::Misplaced),
-        "." => return form_of_dot(near),
-        "*" if !ends_value(near.before(1)) => Form::DefaultMark,
-        "=" if is_in_label => Form::AliasLabel,
-        "=" => Form::Alias,
-        "=~" | "!~" if is_in_label => Form::Pattern,
-        "=~" | "!~" => Form::RegularExpression,
-        "==" | "&&" | "||" => Form::Comparison,
-        _ => Form::Arithmetic,
+    if here.text == "." {
+        return form_of_dot(near);
+    }
+    let listed = LEFT_OUT.iter().find(|(text, _, _)| *text == here.text);
+    let form = match listed {
+        Some((_, _, in_label)) if near.inside() == Inside::Label => *in_label,
+        Some((_, form, _)) => *form,
+        None if here.sort == Sort::Hidden => Form::HiddenName,
+        None if here.sort == Sort::Name => Form::Misplaced,
+        None if here.text == "*" && !ends_value(near.before(1)) => Form::DefaultMark,
+        None => Form::Arithmetic,
     };
     Found::at(near, form)
 }
 
 /// The form of a clause that a word begins.
 fn form_of_clause(word: &str) -> Option<Form> {
-    match word {
-        "let" => Some(Form::Let),
-        "for" => Some(Form::For),
-        "if" => Some(Form::If),
-        _ => None,
-    }
+    let clause = CLAUSES.iter().find(|(begun, _)| *begun == word)?;
+    Some(clause.1)
 }
 
 fn form_of_dot<'s, 'a>(near: Near<'s, 'a>) -> Found<'s, 'a> {
