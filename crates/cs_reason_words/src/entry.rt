@@ -1,10 +1,11 @@
-// Reasons in words: what is wrong with a value, where that is, and what of it is told once.
+// Reasons in words: what is wrong with a value, where that is, what of it is told once, and in which order.
 use crate::since::Since;
-use crate::walk::{Branch, Way};
+use crate::walk::{Branch, Way, Words, above};
 use crate::wording::{Kinds, MOST_WANTED, put_between, put_more};
 use cs_flat::{Flat, Item};
-use cs_place::{Position, Step, put_quoted};
-use cs_text::{Made, Written, few_edits, put_all};
+use cs_place::{Named, Place, Position, Positions, Step, ValuePath, places, put_quoted};
+use cs_reasons::{Reasons, Telling};
+use cs_text::{Made, Written, few_edits};
 use std::alloc::Global;
 use std::collections::BTreeSet;
 
@@ -89,14 +90,15 @@ impl<'t> Finding<'t> {
 
     /// That a key of a map isn't allowed, with that of the declared ones that may have been meant.
     pub fn extra(alloc: Global, map: Item<'_>, key: &str, names: &[&str]) -> Made<Finding<'t>> {
-        let meant = meant(alloc, map, key, names)?;
-        let untold = match meant {
-            Some(name) => Some(missing_text(alloc, name)?),
-            None => None,
-        };
-        let mut finding = Finding::here("extra", extra_text(alloc, meant)?);
+        let text = String::from_str(alloc, "this key is not allowed")?;
+        let mut finding = Finding::here("extra", text);
         finding.key = true;
-        finding.untold = untold;
+        if let Some(name) = meant(alloc, map, key, names)? {
+            finding.text.push_str(", did you mean ")?;
+            put_quoted(&mut finding.text, name)?;
+            finding.text.push('?')?;
+            finding.untold = Some(missing_text(alloc, name)?);
+        }
         Ok(finding)
     }
 
@@ -131,21 +133,24 @@ impl<'t> Finding<'t> {
     {
         let mut text = String::new(alloc);
         kinds.put_found(&mut text, value)?;
-        let are_values = put_alternatives(&mut text, alternatives, put_want)?;
+        let mut told = BTreeSet::new(alloc);
+        let mut are_values = true;
+        for wants in alternatives {
+            let mut words = String::new(alloc);
+            are_values &= put_wants(&mut words, wants, &put_want)?;
+            if told.len() < MOST_WANTED && !told.contains(words.as_str()) {
+                text.push_str(if told.is_empty() { ", want " } else { " | " })?;
+                text.push_str(words.as_str())?;
+            }
+            let _ = told.insert(words)?;
+        }
+        if told.is_empty() {
+            text.push_str(", which no alternative allows")?;
+        }
+        put_more(&mut text, told.len())?;
         let reason = if are_values { "value" } else { "alternatives" };
         Ok(Finding::here(reason, text))
     }
-}
-
-/// What is told of a key that isn't allowed, with the declared one that may have been meant.
-fn extra_text(alloc: Global, meant: Option<&str>) -> Made<String> {
-    let mut text = String::from_str(alloc, "this key is not allowed")?;
-    if let Some(name) = meant {
-        text.push_str(", did you mean ")?;
-        put_quoted(&mut text, name)?;
-        text.push('?')?;
-    }
-    Ok(text)
 }
 
 /// What is told of a key that is missing.
@@ -154,39 +159,6 @@ fn missing_text(alloc: Global, key: &str) -> Made<String> {
     put_quoted(&mut text, key)?;
     text.push_str(" is missing")?;
     Ok(text)
-}
-
-/// Puts what the first alternatives want, each once, and answers whether all of them are values.
-fn put_alternatives<W, P: Fn(&mut String, &W) -> Made<bool>>(
-    text: &mut String,
-    alternatives: &[Vec<W>],
-    put_want: P,
-) -> Made<bool>
-    requires { P.IsAlwaysCallable put_want }
-{
-    let alloc = *text.allocator();
-    let mut told = BTreeSet::new(alloc);
-    let mut are_values = true;
-    for wants in alternatives {
-        let mut words = String::new(alloc);
-        are_values &= put_wants(&mut words, wants, &put_want)?;
-        put_new(text, &mut told, words)?;
-    }
-    if told.is_empty() {
-        text.push_str(", which no alternative allows")?;
-    }
-    put_more(text, told.len())?;
-    Ok(are_values)
-}
-
-/// Puts what an alternative wants, unless it was told or enough was.
-fn put_new(text: &mut String, told: &mut BTreeSet<String>, words: String) -> Written {
-    if told.len() < MOST_WANTED && !told.contains(words.as_str()) {
-        let mark = if told.is_empty() { ", want " } else { " | " };
-        put_all(text, &[mark, words.as_str()])?;
-    }
-    told.insert(words)?;
-    Ok(())
 }
 
 /// Puts what one alternative wants, and answers whether that is a value.
@@ -272,16 +244,16 @@ pub struct Entry<'t> {
 }
 
 /// What is said of a value by an alternative. Sets of it are sorted, since who writes a document could choose pointers of one hash.
-pub(crate) type Said<'e> = (&'e str, Option<Branch>, &'e str);
+type Said<'e> = (&'e str, Option<Branch>, &'e str);
 
 impl<'t> Entry<'t> {
     /// Its place among others: by that of the value, then by that of the rule, and then by that of the embedding; first where there is none.
-    pub(crate) fn order(&self) -> (usize, Option<SourcePlace<'t>>, Option<SourcePlace<'t>>) {
+    fn order(&self) -> (usize, Option<SourcePlace<'t>>, Option<SourcePlace<'t>>) {
         (self.offset, self.finding.source, self.finding.embedded)
     }
 
     /// Whether it is told as another one is: several alternatives may have one declaration, which an embedding brought into each.
-    pub(crate) fn repeats(&self, other: &Entry<'_>) -> bool {
+    fn repeats(&self, other: &Entry<'_>) -> bool {
         let (way, others) = (&self.way, &other.way);
         self.finding.source.is_some()
             && self.order() == other.order()
@@ -300,16 +272,128 @@ impl<'t> Entry<'t> {
     }
 
     /// What it says: of which kind the value isn't, or all its words.
-    pub(crate) fn said(&self) -> Said<'_> {
+    fn said(&self) -> Said<'_> {
         let (kind, text) = (self.finding.kind, self.finding.text.as_str());
         let words = if kind.is_empty() { text } else { kind };
         (self.way.pointer.as_str(), self.way.branch, words)
     }
 
     /// What isn't said of the map that its key is in.
-    pub(crate) fn untold(&self) -> Option<Said<'_>> {
+    fn untold(&self) -> Option<Said<'_>> {
         let words = self.finding.untold.as_ref()?;
         let (map, _key) = self.way.pointer.as_str().rsplit_once('/')?;
         Some((map, self.way.branch, words.as_str()))
+    }
+}
+
+/// The line and the column of an offset in a document, whose first line has a number.
+pub fn position_in(document: Named<'_>, positions: &mut Positions<'_>, offset: usize) -> Position {
+    let Position { line, column } = positions.at(offset);
+    let line = line.saturating_add(document.line).saturating_sub(1);
+    Position { line, column }
+}
+
+/// Which entries say what none before them says, and no misspelt key tells.
+fn are_new(alloc: Global, entries: &[Entry<'_>]) -> Made<Vec<bool>> {
+    let mut told = BTreeSet::new(alloc);
+    for entry in entries {
+        if let Some(untold) = entry.untold() {
+            told.insert(untold)?;
+        }
+    }
+    let mut are_new = Vec::with_capacity(alloc, entries.len())?;
+    for entry in entries {
+        are_new.push(told.insert(entry.said())?)?;
+    }
+    Ok(are_new)
+}
+
+/// The offset of a value, or of its key where that is meant; that of the document's begin if it wasn't found.
+fn offset_in(places: &[Option<Place>], value: usize, key: bool) -> usize {
+    let place = places.get(value).copied().flatten();
+    place.map_or(0, |place| place.key.filter(|_| key).unwrap_or(place.value))
+}
+
+/// What is told of a document.
+#[derive(Drop)]
+pub struct Told<'t> {
+    /// The first entries, in the order of the document.
+    pub entries: Vec<Entry<'t>>,
+    /// How many more there are.
+    pub more: usize,
+    /// The values that are looked for. Each goes by its place among the places that are found, of which the document's is the first.
+    paths: Vec<ValuePath<'t>>,
+    /// The value of each link.
+    of_link: Vec<usize>,
+    /// The places of the values, once they were looked for.
+    places: Vec<Option<Place>>,
+}
+
+impl<'t> Told<'t> {
+    /// Nothing yet, with the values of links. A link comes before the one that leads to it, and those of one value are side by side, so from
+    /// the end on each value comes once.
+    pub(crate) fn new<W: Words<'t>>(
+        alloc: Global,
+        words: &W,
+        reasons: &Reasons<W::Cause>,
+    ) -> Made<Told<'t>> {
+        let mut told = Told {
+            entries: Vec::new(alloc),
+            more: reasons.count,
+            paths: Vec::new(alloc),
+            of_link: vec![in alloc; 0; reasons.links.len()]?,
+            places: Vec::new(alloc),
+        };
+        let mut last = None;
+        for (place, link) in reasons.links.iter().enumerate().rev() {
+            let value = match (last, &link.up, above(&reasons.links, link)) {
+                (Some((item, value)), _, _) if item == link.item => value,
+                (_, Some(up), Some(from)) => {
+                    told.put(up.link, words.step_of(from.item, &up.cause))?
+                }
+                _ => 0,
+            };
+            if let Some(slot) = told.of_link.get_mut(place) {
+                *slot = value;
+            }
+            last = Some((link.item, value));
+        }
+        Ok(told)
+    }
+
+    /// Looks for the value of a link, or for what is a step from there.
+    pub(crate) fn put(&mut self, link: usize, step: Option<Step<'t>>) -> Made<usize> {
+        let around = self.of_link.get(link).copied().unwrap_or(0);
+        let Some(step) = step else { return Ok(around) };
+        let parent = around.checked_sub(1);
+        self.paths.push(ValuePath { parent, step })?;
+        Ok(self.paths.len())
+    }
+
+    /// The offset of the value of a link.
+    pub fn offset_of(&self, link: usize) -> usize {
+        let value = self.of_link.get(link).copied().unwrap_or(0);
+        offset_in(&self.places, value, false)
+    }
+
+    /// Leaves the first entries, in the order of the document, where they are given in the order in which their reasons were found. What
+    /// several say of one value by one alternative is told once, by the first of them; and that a key is missing isn't told where another
+    /// one is told to be its misspelling. A line that several alternatives have alike is told once.
+    pub(crate) fn keep_new(&mut self, alloc: Global, telling: Telling, text: &[u8]) -> Written {
+        self.places = places(alloc, text, &self.paths)?;
+        let mut are_new = are_new(alloc, &self.entries)?.into_iter();
+        self.entries.retain(|_| are_new.next() == Some(true));
+        for entry in self.entries.iter_mut() {
+            entry.offset = offset_in(&self.places, entry.value, entry.finding.key);
+            if !telling.all {
+                entry.way.depth = 0;
+            }
+        }
+        self.entries.sort_by_key(|entry| entry.order())?;
+        self.entries.dedup_by(|entry, before| entry.repeats(before));
+        let cut = self.entries.len().saturating_sub(telling.most);
+        self.more = self.more.saturating_add(cut);
+        self.entries.truncate(telling.most);
+        Ok(())
     }
 }

@@ -3,11 +3,10 @@ ghost use Rattle.std.specs.Prelude.{◌≡◌, ◌++◌, true, false, IfOk, OnOk
 ghost use Rattle.cs_format.specs.Formats.{asks_standard};
 ghost use Rattle.cs_reason_words.specs.Valid.{flag_text, valid_text, invalid_object, report_text, HasLines, EndsInLine};
 
-use crate::entry::{Entry, SourcePlace};
-use crate::told::Told;
+use crate::entry::{Entry, Told};
 use crate::wording::put_between;
 use cs_format::Form;
-use cs_place::{Named, Position, put_place, put_quoted, put_shown};
+use cs_place::{Named, put_place, put_quoted, put_shown};
 use cs_text::{Made, Written, put_all, put_count, put_number, put_string};
 use std::alloc::Global;
 
@@ -66,84 +65,43 @@ pub fn report_verdict(
     }
 }
 
-/// Puts members with numbers behind others.
-fn put_counts(text: &mut String, members: &[(&str, usize)]) -> Written {
-    for (key, value) in members {
-        put_count(text, key, *value)?;
-    }
-    Ok(())
-}
-
-/// Puts members with texts behind others.
-fn put_strings(text: &mut String, members: &[(&str, &str)]) -> Written {
-    for (key, value) in members {
-        put_string(text, key, value)?;
-    }
-    Ok(())
-}
-
 /// Puts the object of an entry.
 fn put_object(text: &mut String, entry: &Entry<'_>) -> Written {
-    let Position { line, column } = entry.position;
+    let finding = &entry.finding;
+    let way = &entry.way;
     text.push_str("{\"valid\":false")?;
-    put_string(text, "instanceLocation", entry.way.pointer.as_str())?;
-    put_counts(text, &[("line", line), ("column", column)])?;
-    put_what(text, entry)?;
-    if let Some(since) = &entry.finding.since {
-        since.put_member(text, entry.way.pointer.as_str())?;
-    }
-    put_where(text, entry)?;
-    text.push('}')
-}
-
-/// Puts the members that say what is wrong, by which rule, and in which alternative.
-fn put_what(text: &mut String, entry: &Entry<'_>) -> Written {
-    let (finding, path) = (&entry.finding, entry.way.path.as_str());
-    let (reason, error) = (finding.reason, finding.text.as_str());
-    put_strings(text, &[("reason", reason), ("error", error)])?;
-    let definition = finding.definition;
-    if definition.is_empty() {
-        put_string(text, "schemaPath", path)?;
+    put_string(text, "instanceLocation", way.pointer.as_str())?;
+    put_count(text, "line", entry.position.line)?;
+    put_count(text, "column", entry.position.column)?;
+    put_string(text, "reason", finding.reason)?;
+    put_string(text, "error", finding.text.as_str())?;
+    if finding.definition.is_empty() {
+        put_string(text, "schemaPath", way.path.as_str())?;
     } else {
-        let path = path.strip_prefix(definition).unwrap_or(path);
-        let path = path.strip_prefix('.').unwrap_or(path);
-        put_strings(text, &[("definition", definition), ("path", path)])?;
+        put_string(text, "definition", finding.definition)?;
+        let path = way.path.as_str();
+        let path = path.strip_prefix(finding.definition).unwrap_or(path);
+        put_string(text, "path", path.strip_prefix('.').unwrap_or(path))?;
     }
-    if entry.way.alternative.is_empty() {
-        return Ok(());
+    if !way.alternative.is_empty() {
+        put_string(text, "alternative", way.alternative.as_str())?;
     }
-    put_string(text, "alternative", entry.way.alternative.as_str())
-}
-
-/// Puts the members that say where the rule is, and where it is embedded.
-fn put_where(text: &mut String, entry: &Entry<'_>) -> Written {
-    if let Some(
-        SourcePlace {
-            file,
-            line,
-            column,
-            ..
-        },
-    ) = entry.finding.source
-    {
-        put_string(text, "file", file)?;
-        put_counts(text, &[("sourceLine", line), ("sourceColumn", column)])?;
+    if let Some(since) = &finding.since {
+        since.put_member(text, way.pointer.as_str())?;
     }
-    if let Some(
-        SourcePlace {
-            file,
-            line,
-            column,
-            ..
-        },
-    ) = entry.finding.embedded
-    {
+    if let Some(place) = finding.source {
+        put_string(text, "file", place.file)?;
+        put_count(text, "sourceLine", place.line)?;
+        put_count(text, "sourceColumn", place.column)?;
+    }
+    if let Some(place) = finding.embedded {
         text.push_str(",\"embedded\":{\"file\":")?;
-        put_quoted(text, file)?;
-        put_counts(text, &[("line", line), ("column", column)])?;
+        put_quoted(text, place.file)?;
+        put_count(text, "line", place.line)?;
+        put_count(text, "column", place.column)?;
         text.push('}')?;
     }
-    Ok(())
+    text.push('}')
 }
 
 /// Puts the members with the reasons, and with how many are left out, behind that of the verdict.

@@ -32,7 +32,15 @@ impl<'t> Since<'t> {
             return Ok(None);
         }
         let mut words = String::from_str(alloc, ", since ")?;
-        put_fields(&mut words, kinds, &fields)?;
+        for (place, (label, value)) in fields.iter().enumerate() {
+            put_between(&mut words, place, " and ")?;
+            put_shown(&mut words, label)?;
+            words.push_str(" is ")?;
+            match value {
+                None => words.push_str("absent")?,
+                Some(item) => kinds.put(&mut words, *item)?,
+            }
+        }
         Ok(Some(Since { map, fields, words }))
     }
 
@@ -53,31 +61,12 @@ impl<'t> Since<'t> {
     }
 }
 
-/// Puts fields of a map with their values, for people.
-fn put_fields(text: &mut String, kinds: Kinds, fields: &[(&str, Option<Item<'_>>)]) -> Written {
-    for (place, (label, value)) in fields.iter().enumerate() {
-        put_between(text, place, " and ")?;
-        put_shown(text, label)?;
-        text.push_str(" is ")?;
-        match value {
-            None => text.push_str("absent")?,
-            Some(item) => kinds.put(text, *item)?,
-        }
-    }
-    Ok(())
-}
-
 /// Puts the object of a field of a map.
 fn put_field(text: &mut String, map: &str, label: &str, value: Option<Item<'_>>) -> Written {
     let mut pointer = String::from_str(*text.allocator(), map)?;
     put_steps(&mut pointer, &[Step::Key(label)])?;
-    put_object(text, pointer.as_str(), value)
-}
-
-/// Puts the object of what is at a place of the document, or would be.
-fn put_object(text: &mut String, pointer: &str, value: Option<Item<'_>>) -> Written {
     text.push_str("{\"instanceLocation\":")?;
-    put_quoted(text, pointer)?;
+    put_quoted(text, pointer.as_str())?;
     match value {
         None => text.push_str(",\"absent\":true")?,
         Some(item) => put_value(text, item)?,

@@ -3,9 +3,8 @@ ghost use Rattle.std.specs.Prelude.{◌≡◌, ◌++◌, OnOk, string_bytes, enc
 ghost use Rattle.cs_profile.specs.Places.{escaped, at_key, at_index};
 ghost use Rattle.cs_reason_words.specs.Pointer.{at_step, at_steps};
 
-use crate::entry::Found;
-use crate::told::{Told, position_in};
-use cs_place::{Named, Positions, Step};
+use crate::entry::{Entry, Found, Told, position_in};
+use cs_place::{Named, Position, Positions, Step};
 use cs_reasons::{Cause, Link, Reason, Reasons, Telling};
 use cs_text::{Made, Written};
 use itoa::Buffer;
@@ -77,7 +76,6 @@ pub fn walk_to<'t, W: Words<'t>>(
     links: &[Link<W::Cause>],
     place: usize,
 ) -> Made<(W::Node, Way)> {
-    let chain = chain_to(alloc, links, place)?;
     let mut way = Way {
         item: 0,
         rule: 0,
@@ -89,26 +87,20 @@ pub fn walk_to<'t, W: Words<'t>>(
         depth: 0,
         steps: 0,
     };
-    let node = walk(words, &chain, &mut way)?;
-    Ok((node, way))
-}
-
-/// Goes along a chain, from the root on, and answers the rule that it leads to.
-fn walk<'t, W: Words<'t>>(words: &W, chain: &[&Link<W::Cause>], way: &mut Way) -> Made<W::Node> {
     let mut node = words.root(&mut way.path)?;
-    for link in chain {
+    for link in chain_to(alloc, links, place)? {
         if let Some(up) = &link.up {
             way.steps = way.steps.saturating_add(1);
             if let Some(step) = words.step_of(way.item, &up.cause) {
                 put_steps(&mut way.pointer, &[step])?;
             }
-            node = words.inside(node, &up.cause, way)?;
+            node = words.inside(node, &up.cause, &mut way)?;
         }
         way.item = link.item;
         way.rule = link.rule;
         way.as_close = link.as_close;
     }
-    Ok(node)
+    Ok((node, way))
 }
 
 /// How one side tells its reasons, by definitions or by schemas: where causes lead, and what is wrong where one leads nowhere. Only memory
@@ -178,10 +170,22 @@ fn tell<'t, W: Words<'t>>(
     let (node, mut way) = walk_to(alloc, &*words, links, reason.link)?;
     let steps = way.steps.saturating_mul(STEP);
     let found = words.finding(node, &reason.cause, &mut way)?;
-    let bytes = match found {
-        Some(finding) => told.add(reason.link, number, finding, way)?,
-        None => 0,
+    let Some(finding) = found else {
+        return Ok(steps)
     };
+    if let Some(step) = finding.step {
+        put_steps(&mut way.pointer, &[step])?;
+    }
+    let entry = Entry {
+        value: told.put(reason.link, finding.step)?,
+        finding,
+        way,
+        offset: 0,
+        position: Position { line: 1, column: 1 },
+        number,
+    };
+    let bytes = entry.bytes();
+    told.entries.push(entry)?;
     Ok(steps.saturating_add(bytes))
 }
 
