@@ -1,5 +1,5 @@
 // The words of definitions, and reports in them: where causes lead, what is wrong by one that leads nowhere, and what expressions ask.
-ghost use Rattle.std.specs.Prelude.{◌≡◌, ◌++◌, true, false, OnOk, OnErr, is_none, string_bytes};
+ghost use Rattle.std.specs.Prelude.{◌≡◌, ◌++◌, true, OnOk, OnErr, is_none, string_bytes};
 ghost use Rattle.cs_format.specs.Formats.{asks_standard};
 ghost use Rattle.cs_reason_words.specs.Valid.{flag_text, HasLines, Reports};
 
@@ -475,22 +475,8 @@ pub fn report_instance<'t>(
             comparisons: MOST_COMPARISONS,
             trials: MOST_COMPARISONS,
         };
-        put_reasons(&mut text, form, telling, document, &mut words, reasons)?;
+        let told = told_by(alloc, &mut words, telling, document, reasons)?;
+        put_told(&mut text, form, document, &told)?;
     }
     report_verdict(alloc, form, reasons.is_none(), text.as_str(), output)
-}
-
-/// Puts what is told of reasons.
-fn put_reasons<'t>(
-    text: &mut String,
-    form: Form,
-    telling: Telling,
-    document: Named<'_>,
-    words: &mut Definitions<'t>,
-    reasons: &Reasons<InstanceCause>,
-) -> Made<()>
-    ensures { OnOk result (HasLines false form (string_bytes text.new)) }
-{
-    let told = told_by(words.alloc, words, telling, document, reasons)?;
-    put_told(text, form, document, &told)
 }

@@ -13,48 +13,23 @@ pub struct Written<'a> {
     /// The lines and columns of the tokens of each source.
     positions: Vec<Vec<Position>>,
     placed: Option<Placed>,
-    /// The names of definitions, in their order.
-    by_name: Names,
+    /// The names of definitions, each with its file and its place there, in their order.
+    by_name: Vec<(String, usize, usize)>,
 }
 
-/// Names of definitions, each with its file and its place there.
-type Names = Vec<(String, usize, usize)>;
-
-/// The names of the definitions of files, in their order.
-fn names_of(alloc: Global, placed: Option<&Placed>) -> Made<Names> {
+/// The names of the definitions of files, each with its file and its place there, in their order.
+fn names_of(alloc: Global, placed: Option<&Placed>) -> Made<Vec<(String, usize, usize)>> {
     let mut names = Vec::new(alloc);
     let Some(placed) = placed else {
         return Ok(names)
     };
     for (file, parsed) in placed.files.iter().enumerate() {
         for (place, definition) in parsed.definitions.iter().enumerate() {
-            let name = definition.name.clone()?;
-            names.push((name, file, place))?;
+            names.push((definition.name.clone()?, file, place))?;
         }
     }
     names.sort()?;
     Ok(names)
-}
-
-/// The files that sources stand for, with the names of their definitions.
-fn placed_of(alloc: Global, cut: &[Source<'_>]) -> Made<(Option<Placed>, Names)> {
-    let mut texts = Vec::with_capacity(alloc, cut.len())?;
-    for source in cut {
-        texts.push(source.named.text)?;
-    }
-    let placed = placed_files(alloc, &texts)?;
-    let names = names_of(alloc, placed.as_ref())?;
-    Ok((placed, names))
-}
-
-/// The lines and columns of the tokens of each source.
-fn all_positions(alloc: Global, cut: &[Source<'_>]) -> Made<Vec<Vec<Position>>> {
-    let mut positions = Vec::with_capacity(alloc, cut.len())?;
-    for source in cut {
-        let found = positions_of(alloc, source)?;
-        positions.push(found)?;
-    }
-    Ok(positions)
 }
 
 /// The lines and columns of the tokens of a source, by one walk over its text.
@@ -72,8 +47,14 @@ impl<'a> Written<'a> {
     pub fn of(alloc: Global, form: Form, sources: &'a [Named<'a>]) -> Made<Written<'a>> {
         let named: &'a [Named<'a>] = if form.is_standard() { &[] } else { sources };
         let cut = sources_of(alloc, Profile::Wide, named)?;
-        let positions = all_positions(alloc, &cut)?;
-        let (placed, by_name) = placed_of(alloc, &cut)?;
+        let mut texts = Vec::with_capacity(alloc, cut.len())?;
+        let mut positions = Vec::with_capacity(alloc, cut.len())?;
+        for source in &cut {
+            texts.push(source.named.text)?;
+            positions.push(positions_of(alloc, source)?)?;
+        }
+        let placed = placed_files(alloc, &texts)?;
+        let by_name = names_of(alloc, placed.as_ref())?;
         Ok(Written {
             cut,
             positions,
