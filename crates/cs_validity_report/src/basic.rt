@@ -104,26 +104,19 @@ struct Unit {
 
 /// The places of the links on the chains to the reasons of entries.
 fn on_chains(reasons: &Reasons<ValidCause<'_>>, told: &Told<'_>) -> Made<BTreeSet<usize>> {
-    let mut on = BTreeSet::new(*told.entries.allocator());
+    let alloc = *told.entries.allocator();
+    let mut on = BTreeSet::new(alloc);
     for entry in &told.entries {
         if let Some(reason) = reasons.told.get(entry.number) {
-            add_chain(&mut on, &reasons.links, reason.link)?;
+            on.insert(reason.link)?;
+            for link in chain_to(alloc, &reasons.links, reason.link)? {
+                if let Some(up) = &link.up {
+                    on.insert(up.link)?;
+                }
+            }
         }
     }
     Ok(on)
-}
-
-/// Adds the places of the links on the chain to that at a place.
-fn add_chain(on: &mut BTreeSet<usize>, links: &[Link<ValidCause<'_>>], place: usize) -> Written {
-    let mut next = place;
-    for _ in 0..=links.len() {
-        on.insert(next)?;
-        match links.get(next).and_then(|link| link.up.as_ref()) {
-            Some(up) => next = up.link,
-            None => break,
-        }
-    }
-    Ok(())
 }
 
 /// The units of the root and of the schemas on the chains to the reasons that are told: a schema comes before those inside it. One that is
@@ -134,63 +127,32 @@ fn schema_units<'t>(
     reasons: &Reasons<ValidCause<'t>>,
     told: &Told<'t>,
 ) -> Made<Vec<Unit>> {
-    let on = on_chains(reasons, told)?;
-    let mut units = Vec::new(words.alloc);
-    add_units(&mut units, words, &reasons.links, told, &on)?;
-    units.sort()?;
-    Ok(units)
-}
-
-/// Adds the units of the links at these places.
-fn add_units<'t>(
-    units: &mut Vec<Unit>,
-    words: &Schemas<'t>,
-    links: &[Link<ValidCause<'t>>],
-    told: &Told<'t>,
-    on: &BTreeSet<usize>,
-) -> Written {
+    let links = &reasons.links;
     let for_reasons = MOST_FOR_REASON.saturating_mul(told.entries.len());
     let mut room = for_reasons.saturating_add(MOST_BYTES);
     let mut with_units = BTreeSet::new(words.alloc);
-    for place in on.iter().rev() {
+    let mut units = Vec::new(words.alloc);
+    for place in on_chains(reasons, told)?.iter().rev() {
         let up = links.get(*place).and_then(|link| link.up.as_ref());
         if room == 0 || up.is_some_and(|up| !with_units.contains(&up.link)) {
             continue;
         }
-        let bytes = add_unit(units, words, links, told, *place)?;
-        if bytes > 0 {
-            with_units.insert(*place)?;
-            room = room.saturating_sub(bytes);
+        let location = Location::of(words.alloc, links, *place)?;
+        let (node, way) = walk_to(words.alloc, words, links, *place)?;
+        if location.is_cut() || matches!(node.schema, Some(Schema::Always(false))) {
+            continue;
         }
+        with_units.insert(*place)?;
+        let places = location.path.len().saturating_add(way.pointer.len());
+        room = room.saturating_sub(places.saturating_add(UNIT_BYTES));
+        units.push(Unit {
+            offset: told.offset_of(*place),
+            location,
+            pointer: way.pointer,
+        })?;
     }
-    Ok(())
-}
-
-/// Adds the unit of the link at a place, if it has one. Answers how many bytes that takes.
-fn add_unit<'t>(
-    units: &mut Vec<Unit>,
-    words: &Schemas<'t>,
-    links: &[Link<ValidCause<'t>>],
-    told: &Told<'t>,
-    place: usize,
-) -> Made<usize> {
-    let (node, way) = walk_to(words.alloc, words, links, place)?;
-    if matches!(node.schema, Some(Schema::Always(false))) {
-        return Ok(0);
-    }
-    let pointer = way.pointer;
-    let location = Location::of(words.alloc, links, place)?;
-    if location.is_cut() {
-        return Ok(0);
-    }
-    let places = location.path.len().saturating_add(pointer.len());
-    let offset = told.offset_of(place);
-    units.push(Unit {
-        offset,
-        location,
-        pointer,
-    })?;
-    Ok(places.saturating_add(UNIT_BYTES))
+    units.sort()?;
+    Ok(units)
 }
 
 /// Puts the unit of the reason of an entry.
@@ -214,18 +176,8 @@ pub(crate) fn put_basic<'t>(
     told: &Told<'t>,
 ) -> Written {
     let units = schema_units(words, reasons, told)?;
-    text.push_str(",\"errors\":[")?;
-    put_units(text, document, &units)?;
-    for (place, entry) in told.entries.iter().enumerate() {
-        put_between(text, units.len().saturating_add(place), ",")?;
-        put_reason(text, reasons, entry)?;
-    }
-    text.push(']')
-}
-
-/// Puts the units of schemas.
-fn put_units(text: &mut String, document: Named<'_>, units: &[Unit]) -> Written {
     let mut positions = Positions::new(document.text);
+    text.push_str(",\"errors\":[")?;
     for (place, unit) in units.iter().enumerate() {
         let error = match unit.location.path.is_empty() {
             true => "the document is not valid",
@@ -236,5 +188,9 @@ fn put_units(text: &mut String, document: Named<'_>, units: &[Unit]) -> Written 
         let position = position_in(document, &mut positions, unit.offset);
         put_value(text, unit.pointer.as_str(), error, position)?;
     }
-    Ok(())
+    for (place, entry) in told.entries.iter().enumerate() {
+        put_between(text, units.len().saturating_add(place), ",")?;
+        put_reason(text, reasons, entry)?;
+    }
+    text.push(']')
 }

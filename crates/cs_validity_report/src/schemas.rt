@@ -12,7 +12,7 @@ use cs_reason_words::{
     Finding, Form, Found, Kinds, MOST_COMPARISONS, MOST_WANTED, Made, Way, Words, Written, item_at,
     put_between, put_integer, put_more, put_steps, put_told, report_verdict, told_apart, told_by,
 };
-use cs_reasons::{Reasons, Telling};
+use cs_reasons::Telling;
 use cs_validate::SchemaRules;
 use cs_validity_reasons::{Explanation, ValidCause, Want, wanted_by};
 use std::alloc::Global;
@@ -361,31 +361,17 @@ pub fn report_validity<'t>(
                 flat,
                 comparisons: MOST_COMPARISONS,
             };
-            put_reasons(&mut text, form, telling, document, &mut words, reasons)?;
+            let told = told_by(alloc, &mut words, telling, document, reasons)?;
+            match form {
+                Form::Object(format) if format.has_units() => {
+                    put_basic(&mut text, &words, document, reasons, &told)?;
+                }
+                Form::Lines | Form::Object(_) => put_told(&mut text, form, document, &told)?,
+            }
         }
         Explanation::Invalid(_) => {}
     }
     report_verdict(alloc, form, explanation.is_valid(), text.as_str(), output)
-}
-
-/// Puts what is told of reasons.
-fn put_reasons<'t>(
-    text: &mut String,
-    form: Form,
-    telling: Telling,
-    document: Named<'_>,
-    words: &mut Schemas<'t>,
-    reasons: &Reasons<ValidCause<'t>>,
-) -> Written
-    ensures { OnOk result (HasLines false form (string_bytes text.new)) }
-{
-    let told = told_by(words.alloc, words, telling, document, reasons)?;
-    match form {
-        Form::Object(format) if format.has_units() => {
-            put_basic(text, words, document, reasons, &told)
-        }
-        Form::Lines | Form::Object(_) => put_told(text, form, document, &told),
-    }
 }
 
 /// That the reasons of a document aren't told, for people.
