@@ -39,6 +39,7 @@ OF_FILES = [
     ["tools/places.py"],
     ["tools/promises.py"],
     ["tools/widened.py"],
+    ["tools/lengths.py"],
 ]
 # What is asked of a program, the longest first.
 OF_PROGRAMS = [

@@ -3,8 +3,8 @@ there gives each form. It shares nothing with the program, so that `questions.py
 takes, and takes more: what is refused is asked of the program.
 
 An expression is a tuple that begins with its form: `top`, `bottom`, `kind NAME`, `value V`, `not V`, `bound OP N`, `and [..]`, `or [..]`,
-`ref NAME`, `struct [(label, mark, value)] opened`, where the mark `[string]` has no label, and `list [..] END`, where END is nothing, or
-what further elements are.
+`ref NAME`, `struct [(label, mark, value)] opened`, where the mark `[string]` has no label, `list [..] END`, where END is nothing, or
+what further elements are, and of the wide profile `length FORM N` (see tools/lengths.py).
 """
 from __future__ import annotations
 
@@ -21,6 +21,15 @@ RANGES = {
     "int64": (-(2**63), 2**63 - 1),
     **{f"int{bits}": (-(2 ** (bits - 1)), 2 ** (bits - 1) - 1) for bits in (8, 16, 32)},
     **{f"uint{bits}": (0, 2**bits - 1) for bits in (8, 16, 32)},
+}
+# The forms of lengths: what they are about, and how its length stands to the number.
+LENGTHS = {
+    "strings.MinRunes": (str, ">="),
+    "strings.MaxRunes": (str, "<="),
+    "list.MinItems": (list, ">="),
+    "list.MaxItems": (list, "<="),
+    "struct.MinFields": (dict, ">="),
+    "struct.MaxFields": (dict, "<="),
 }
 TOKEN = re.compile(r'\s+|//[^\n]*|("(?:[^"\\]|\\.)*"|_\|_|#?[A-Za-z_][A-Za-z_0-9]*\b|-?\d+|\.\.\.|<=|>=|!=|[_<>&|{}\[\]():,?!;])')
 
@@ -188,6 +197,8 @@ def text(it: tuple, labelled: Callable[[str], str] = json.dumps) -> str:
         return f"{it[1]}{it[2]}"
     if form == "close":
         return f"close({text(it[1], labelled)})"
+    if form == "length":
+        return f"{it[1]}({it[2]})"
     return {"top": "_", "bottom": "_|_"}.get(form) or it[1]
 
 
@@ -269,6 +280,9 @@ def admits(package: Package, it: tuple, doc) -> bool:
         return is_value(it[1], doc)
     if form == "not":
         return excludes(it[1], doc)
+    if form == "length":
+        kind, mark = LENGTHS[it[1]]
+        return isinstance(doc, kind) and is_within(len(doc), mark, it[2])
     return form == "top"
 
 
