@@ -7,7 +7,6 @@ use cs_sources::{Near, Part, Separator, Source, sources_of};
 use std::alloc::Global;
 
 /// Sources with their tokens and the files that they stand for. It is made once, whatever is told by it.
-#[derive(Drop)]
 pub struct Written<'a> {
     cut: Vec<Source<'a>>,
     /// The lines and columns of the tokens of each source.
@@ -15,6 +14,18 @@ pub struct Written<'a> {
     placed: Option<Placed>,
     /// The names of definitions, each with its file and its place there, in their order.
     by_name: Vec<(String, usize, usize)>,
+}
+
+// A crate that lets one go calls this. By a derive it would prove anew how all the trees are let go.
+impl Drop for Written<'_> {
+    fn drop(self) {
+        let Written {
+            cut: _,
+            positions: _,
+            placed: _,
+            by_name: _,
+        } = self;
+    }
 }
 
 /// The names of the definitions of files, each with its file and its place there, in their order.

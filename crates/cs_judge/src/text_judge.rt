@@ -38,10 +38,16 @@ enum ReadRules<'a> {
 }
 
 /// Rules that were read, for any number of documents.
-#[derive(Drop)]
 pub struct Prepared<'a> {
     rules: &'a Rules,
     read: ReadRules<'a>,
+}
+
+// What lets rules or a judge go calls these. By a derive each such place would prove anew how all that they own is let go.
+impl Drop for Prepared<'_> {
+    fn drop(self) {
+        let Prepared { rules: _, read: _ } = self;
+    }
 }
 
 impl<'a> Model for Prepared<'a> {
@@ -56,13 +62,24 @@ impl<'a> Model for Prepared<'a> {
 }
 
 /// Judges texts one after another by the same rules. Its buffers and its table are used again.
-#[derive(Drop)]
 pub struct TextJudge<'a> {
     alloc: Global,
     rules: &'a Rules,
     numbered: NumberedRules<'a>,
     scratch: Scratch,
     table: Verdicts,
+}
+
+impl Drop for TextJudge<'_> {
+    fn drop(self) {
+        let TextJudge {
+            alloc: _,
+            rules: _,
+            numbered: _,
+            scratch: _,
+            table: _,
+        } = self;
+    }
 }
 
 impl<'a> Model for TextJudge<'a> {

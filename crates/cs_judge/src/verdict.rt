@@ -58,10 +58,19 @@ enum Side<'a> {
 }
 
 /// Why a side refuses a document, if it does.
-#[derive(Drop)]
 enum Told<'a> {
     Root(&'a RootRules<'a>, Option<Reasons<InstanceCause>>),
     Schema(&'a SchemaRules<'a>, Explanation<'a>),
+}
+
+// By hand, so that each `?` beside one calls this.
+impl Drop for Told<'_> {
+    fn drop(self) {
+        match self {
+            Told::Root(_, _) => {}
+            Told::Schema(_, _) => {}
+        }
+    }
 }
 
 /// The verdict by the rules, as the call that judges by them answers. The reasons that are asked for are added to the report.
