@@ -133,16 +133,14 @@ pub fn last_verdict(table: &Verdicts, rule: usize) -> bool {
     }
 }
 
-/// A judge's verdict of its last item by a rule, where a table says no for every pair, in a word.
-pub fn by_refusals<J: Judge>(alloc: Global, judge: &J, rule: usize) -> Result<Vec<u8>, Fault> {
+/// A judge's verdict of its last item by a rule, where a table says no for every pair.
+pub fn by_refusals<J: Judge>(alloc: Global, judge: &J, rule: usize) -> Result<bool, Fault> {
     let never = Thirds {
         affirms: false,
         ..by_thirds(judge.items(), judge.rules())
     };
     let done = fill(alloc, &never)?;
-    let verdict = verdict_by(judge, rule, &done);
-    drop(done);
-    Ok(format!(in alloc; "{verdict}")?.into_bytes())
+    Ok(verdict_by(judge, rule, &done))
 }
 
 /// A judge's verdict of its last item by a rule, where a table gives the others.

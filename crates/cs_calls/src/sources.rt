@@ -103,7 +103,11 @@ fn of_syntax(fault: SyntaxFault) -> Fault {
 
 /// The package of one source.
 fn package_of(alloc: Global, source: &str) -> Result<Package, Fault> {
-    let file = parsed(alloc, source)?;
-    let files = vec![in alloc; file]?;
+    let mut files = Vec::new(alloc);
+    let file = match parse_file(alloc, source) {
+        Ok(file) => file,
+        Err(fault) => return Err(of_syntax(fault)),
+    };
+    files.push(file)?;
     Ok(resolve(alloc, files)?)
 }

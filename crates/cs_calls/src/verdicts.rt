@@ -41,7 +41,8 @@ fn instance_by_refusals(
     flat: &Flat<'_>,
 ) -> Result<Vec<u8>, Fault> {
     let (judge, rule) = instance_judge(alloc, package, root, flat)?;
-    by_refusals(alloc, &judge, rule)
+    let verdict = by_refusals(alloc, &judge, rule)?;
+    Ok(format!(in alloc; "{verdict}")?.into_bytes())
 }
 
 fn instance_by_table(
@@ -52,7 +53,6 @@ fn instance_by_table(
 ) -> Result<Vec<u8>, Fault> {
     let (table, rule) = instance_table(alloc, package, root, flat)?;
     let (judged, verdict) = (table.judged(), last_verdict(&table, rule));
-    drop(table);
     Ok(format!(in alloc; "{judged} {verdict}")?.into_bytes())
 }
 
@@ -78,7 +78,8 @@ fn validity_by_refusals(
     flat: &Flat<'_>,
 ) -> Result<Vec<u8>, Fault> {
     let (judge, rule) = valid_judge(alloc, schema, flat)?;
-    by_refusals(alloc, &judge, rule)
+    let verdict = by_refusals(alloc, &judge, rule)?;
+    Ok(format!(in alloc; "{verdict}")?.into_bytes())
 }
 
 /// By the table, by the judge, which is asked for each judgement of it, and by the call that gives the verdict alone.
@@ -91,7 +92,6 @@ fn validity_by_all(
     let asked = times_asked(alloc, schema, flat)?;
     let (table, rule) = valid_table(alloc, schema, flat)?;
     let (judged, last) = (table.judged(), last_verdict(&table, rule));
-    drop(table);
     let verdict = is_valid(alloc, schema, doc)?;
     Ok(format!(in alloc; "{judged} {asked} {last} {verdict}")?.into_bytes())
 }
@@ -110,7 +110,7 @@ pub fn filling(alloc: Global, cells: &str) -> Result<Vec<u8>, Fault> {
         counts: true,
         ..by_thirds(number_of(items), number_of(rules))
     };
-    let judged = fill(alloc, &judge)?.judged();
-    let asked = judge.asked.get();
+    let table = fill(alloc, &judge)?;
+    let (judged, asked) = (table.judged(), judge.asked.get());
     Ok(format!(in alloc; "{judged} {asked}")?.into_bytes())
 }
