@@ -88,7 +88,9 @@ fn package_findings(alloc: Global, sources: &[&[u8]], root: Option<&str>, about:
     ensures { root.entry ≡ None → IfOk result (λ f. ¬ (f.checked ≡ Checked.Faulty)) }
 {
     let package = accepted_package(alloc, sources)?;
-    if root.is_some_and(|name| package.package().find(name).is_none()) {
+    if let Some(name) = root
+        && package.package().find(name).is_none()
+    {
         let profile = Profile::Default;
         return faulty(alloc, &[Fault::UnknownRoot], About { profile, ..about });
     }
@@ -145,7 +147,10 @@ fn faulty(alloc: Global, faults: &[Fault], about: About<'_>) -> Found
     let sources = sources_of(alloc, about.profile, about.sources)?;
     let wide = wide_faults(alloc, about, faults)?;
     for fault in faults {
-        let is_joined = wide.as_ref().is_some_and(|wide| !are_at(wide, fault));
+        let is_joined = match &wide {
+            Some(wide) => !are_at(wide, fault),
+            None => false,
+        };
         put_finding(&mut lines, fault, About { is_joined, ..about }, &sources)?;
     }
     let checked = Checked::Faulty;
@@ -159,8 +164,7 @@ fn wide_faults(
     about: About<'_>,
     faults: &[Fault],
 ) -> Result<Option<Vec<Fault>>, Fault> {
-    let must_open = |fault: &Fault| matches!(fault, Fault::NotOpened { .. });
-    if about.profile == Profile::Wide || !faults.iter().any(must_open) {
+    if about.profile == Profile::Wide || !must_open(faults) {
         return Ok(None);
     }
     let mut texts = Vec::with_capacity(alloc, about.sources.len())?;
@@ -168,18 +172,41 @@ fn wide_faults(
         texts.push(source.text)?;
     }
     let wide = check_wide(alloc, &texts)?;
-    // One that is none of what is put together: not one of its names, and not that it is too large or too high.
-    let is_apart = |fault: &Fault| match fault {
-        Fault::FieldReference { .. } => are_at(faults, fault),
-        Fault::TooLarge { .. } | Fault::TooHigh { .. } => false,
-        _ => true,
-    };
-    let are_known = wide.len() < MOST_FAULTS && wide.iter().all(is_apart);
-    Ok(are_known.then_some(wide))
+    let are_known = wide.len() < MOST_FAULTS && are_apart(&wide, faults);
+    Ok(if are_known { Some(wide) } else { None })
+}
+
+/// Whether one of these faults is a struct that has to be opened.
+fn must_open(faults: &[Fault]) -> bool {
+    for fault in faults {
+        if matches!(fault, Fault::NotOpened { .. }) {
+            return true;
+        }
+    }
+    false
+}
+
+/// Whether none of the faults in the wide profile is of what is put together: not one of its names, and not that it is too large or too high.
+fn are_apart(wide: &[Fault], faults: &[Fault]) -> bool {
+    for fault in wide {
+        let is_apart = match fault {
+            Fault::FieldReference { .. } => are_at(faults, fault),
+            Fault::TooLarge { .. } | Fault::TooHigh { .. } => false,
+            _ => true,
+        };
+        if !is_apart {
+            return false;
+        }
+    }
+    true
 }
 
 /// Whether one of these faults is at the place of the sources that another one is at.
 fn are_at(faults: &[Fault], fault: &Fault) -> bool {
-    let is_there = |other: &Fault| other.file() == fault.file() && other.offset() == fault.offset();
-    faults.iter().any(is_there)
+    for other in faults {
+        if other.file() == fault.file() && other.offset() == fault.offset() {
+            return true;
+        }
+    }
+    false
 }

@@ -234,6 +234,16 @@ impl<'a> Operand<'a> {
     }
 }
 
+/// Whether one of the declarations of a struct is of every key.
+fn have_every(parts: &[Part]) -> bool {
+    for part in parts {
+        if matches!(part.mark, FieldMark::Every { .. }) {
+            return true;
+        }
+    }
+    false
+}
+
 /// What is asked of the value under a key.
 #[derive(Drop)]
 struct Field<'a> {
@@ -262,8 +272,7 @@ impl<'a> Fields<'a> {
         };
         for operand in operands {
             if let Shape::Struct { parts, opened } = operand.shape {
-                let is_every = |part: &Part| matches!(part.mark, FieldMark::Every { .. });
-                let is_closed = !opened && !parts.iter().any(is_every);
+                let is_closed = !opened && !have_every(parts);
                 for part in parts {
                     fields.add(part, *operand, is_closed)?;
                 }
@@ -341,36 +350,54 @@ fn ends_of(shape: &Shape) -> (i64, i64) {
         Shape::Bound { relation, limit } => match relation {
             Relation::AtLeast => (*limit, greatest),
             Relation::AtMost => (least, *limit),
-            Relation::More => limit.checked_add(1).map_or(none, |next| (next, greatest)),
-            Relation::Less => limit.checked_sub(1).map_or(none, |last| (least, last)),
+            Relation::More => match limit.checked_add(1) {
+                Some(next) => (next, greatest),
+                None => none,
+            },
+            Relation::Less => match limit.checked_sub(1) {
+                Some(last) => (least, last),
+                None => none,
+            },
         },
         _ => (least, greatest),
     }
 }
 
+/// Whether one of the operands is another literal than a value, or leaves that out.
+fn leave_out(operands: &[Operand<'_>], value: Literal<'_>) -> bool {
+    for operand in operands {
+        let literal = operand.shape.literal().unwrap_or(value);
+        if literal != value || operand.shape.excluded() == Some(value) {
+            return true;
+        }
+    }
+    false
+}
+
 /// Why no document meets all of the operands, as far as it is seen without looking at its parts.
 fn clash<'a>(operands: &[Operand<'a>]) -> Option<Reason<'a>> {
-    let mut kinds = operands.iter().filter_map(|operand| kind_of(operand.shape));
-    let kind = kinds.next()?;
-    if kinds.any(|other| other != kind) {
-        return Some(Reason::Kinds);
-    }
+    let mut kind = None;
+    let mut named = None;
     // The integers that all operands admit, by their ends.
-    let ends = operands.iter().map(|operand| ends_of(operand.shape));
-    let both = |all: (i64, i64), other: (i64, i64)| (all.0.max(other.0), all.1.min(other.1));
-    let (least, greatest) = ends.fold((i64::MIN, i64::MAX), both);
+    let (mut least, mut greatest) = (i64::MIN, i64::MAX);
+    for operand in operands {
+        let own = kind_of(operand.shape);
+        if own.is_some() && kind.is_some() && own != kind {
+            return Some(Reason::Kinds);
+        }
+        kind = kind.or(own);
+        named = named.or(operand.shape.literal());
+        let (first, last) = ends_of(operand.shape);
+        (least, greatest) = (first.max(least), last.min(greatest));
+    }
+    kind?;
     let last = (least == greatest).then_some(Literal::Int(least));
-    let named = operands.iter().find_map(|operand| operand.shape.literal());
     if let Some(value) = named.or(last) {
-        let is_left_out = |operand: &Operand<'_>| {
-            operand.shape.literal().unwrap_or(value) != value
-                || operand.shape.excluded() == Some(value)
-        };
         let reason = match value {
             Literal::Null => Reason::Kinds,
             Literal::Bool(_) | Literal::Int(_) | Literal::Text(_) => Reason::Literals,
         };
-        return (least > greatest || operands.iter().any(is_left_out)).then_some(reason);
+        return (least > greatest || leave_out(operands, value)).then_some(reason);
     }
     if least > greatest {
         return Some(Reason::Interval);
@@ -485,15 +512,22 @@ impl<'a, 'e> Search<'a, 'e> {
             }
         }
         let fields = Fields::of(self.alloc, operands)?;
-        if let Some(reason) = fields.missing_key() {
-            return Ok(Some(reason));
+        self.why_field(&fields, depth)
+    }
+
+    /// Why nothing may stand under a required key, by what is asked of the values under keys.
+    #[cycle(why)]
+    fn why_field(&mut self, fields: &Fields<'a>, depth: usize) -> Found<'a> {
+        let missing = fields.missing_key();
+        if missing.is_some() {
+            return Ok(missing);
         }
-        for (key, field) in fields.labelled {
+        for (key, field) in &fields.labelled {
             if field.is_required {
-                let mut asked = field.operands;
+                let mut asked = field.operands.clone()?;
                 asked.extend_from_slice(&fields.every)?;
                 if let Some(reason) = self.why(asked, depth)? {
-                    return Ok(Some(reason.around(Reason::Field { key })));
+                    return Ok(Some(reason.around(Reason::Field { key: *key })));
                 }
             }
         }

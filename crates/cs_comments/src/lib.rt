@@ -6,7 +6,9 @@ mod texts;
 use crate::texts::{FieldTexts, Texts, add_lines, texts_of};
 use cs_describe::Notes;
 use cs_document::Doc;
-use cs_grammar::{Declaration, Expr, Field, FieldMark, ListEnd, Profile, Wide, atom, bound};
+use cs_grammar::{
+    Declaration, Definition, Expr, Field, FieldMark, ListEnd, Profile, Wide, atom, bound,
+};
 use cs_placed::{Placed, placed_files, spelled_files};
 use cs_sources::Made;
 use std::alloc::Global;
@@ -26,6 +28,13 @@ type ByName = BTreeMap<String, Notes>;
 fn under<'n>(alloc: Global, notes: &'n mut ByName, name: &str) -> Made<&'n mut Notes> {
     let name = String::from_str(alloc, name)?;
     Ok(notes.entry(name)?.or_insert(Notes::new(alloc)))
+}
+
+/// The notes of one more value, behind others: there are none yet.
+fn one_more(alloc: Global, notes: &mut Vec<Notes>) -> Made<&mut Notes> {
+    let place = notes.len();
+    notes.push(Notes::new(alloc))?;
+    Ok(&mut notes[place])
 }
 
 /// Ends the declarations under each name: the notes of one value alone are its own.
@@ -75,36 +84,35 @@ impl<'a> Comments<'a> {
         }
     }
 
-    /// The notes of a value, as its translation to a schema has places for them.
+    /// Adds the notes of a value to those of it, of which there are none yet, as its translation to a schema has places for them.
     #[cycle(values)]
-    fn notes_of(&mut self, value: &Expr) -> Made<Notes> {
-        let mut notes = Notes::new(self.alloc);
+    fn add_notes(&mut self, value: &Expr, to: &mut Notes) -> Made<()> {
         match value {
-            Expr::And(operands) => notes.all_of = self.notes_of_each(operands)?,
+            Expr::And(operands) => self.add_each(operands, &mut to.all_of)?,
             Expr::Or(operands) => {
-                notes.any_of = self.notes_of_each(operands)?;
-                notes.default = self.default_among(operands)?;
+                self.add_each(operands, &mut to.any_of)?;
+                to.default = self.default_among(operands)?;
             }
             // Nothing but its parentheses is left of `close` where it is widened, and nothing of a mark of a default; the value of that is a note
             // of the disjunction.
             Expr::Paren(value)
             | Expr::Wide(Wide::Shut { value, .. })
-            | Expr::Wide(Wide::Marked { value, .. }) => return self.notes_of(value),
-            Expr::Struct { fields, .. } => self.add_fields(fields, &mut notes)?,
+            | Expr::Wide(Wide::Marked { value, .. }) => return self.add_notes(value, to),
+            Expr::Struct { fields, .. } => self.add_fields(fields, to)?,
             // It is met only where nothing is put together: its own fields.
             Expr::Wide(Wide::Merged { declarations, .. }) => {
                 for declaration in declarations {
                     match declaration {
-                        Declaration::Field(field) => self.add_field(field, &mut notes)?,
+                        Declaration::Field(field) => self.add_field(field, to)?,
                         Declaration::Embedded { .. } | Declaration::Conditional { .. } => {}
                     }
                 }
             }
             Expr::List { front, end } => {
-                notes.prefix = self.notes_of_each(front)?;
+                self.add_each(front, &mut to.prefix)?;
                 if let ListEnd::Each(value) = end {
-                    let each = self.notes_of(value)?;
-                    notes.rest = Some(Box::new(self.alloc, each)?);
+                    let none = Box::new(self.alloc, Notes::new(self.alloc))?;
+                    self.add_notes(value, to.rest.get_or_insert(none))?;
                 }
             }
             atom!()
@@ -112,19 +120,19 @@ impl<'a> Comments<'a> {
             | Expr::Reference { .. }
             | Expr::Wide(Wide::Selected { .. }) => {}
         }
-        settle(&mut notes.properties);
+        settle(&mut to.properties);
         self.nodes = self.nodes.saturating_add(1);
-        Ok(notes)
+        Ok(())
     }
 
-    /// The notes of some values, in order.
+    /// Adds the notes of each of some values, in order.
     #[cycle(values)]
-    fn notes_of_each(&mut self, values: &[Expr]) -> Made<Vec<Notes>> {
-        let mut each = Vec::with_capacity(self.alloc, values.len())?;
+    fn add_each(&mut self, values: &[Expr], to: &mut Vec<Notes>) -> Made<()> {
         for value in values {
-            each.push(self.notes_of(value)?)?;
+            let notes = one_more(self.alloc, to)?;
+            self.add_notes(value, notes)?;
         }
-        Ok(each)
+        Ok(())
     }
 
     /// Adds the fields of a struct to its notes.
@@ -147,40 +155,61 @@ impl<'a> Comments<'a> {
         let label = field.label.as_str();
         let all = field.site.all.split_first();
         let (first, others) = all.unwrap_or((&field.site.at, &[]));
-        let text = self.read(*first, label)?;
         if matches!(field.mark, FieldMark::Every { .. }) {
-            let value = self.notes_of(&field.value)?;
-            let mut every = Notes::new(self.alloc);
-            every.additional = Some(Box::new(self.alloc, Notes { text, ..value })?);
-            return Ok(to.all_of.push(every)?);
+            let every = one_more(self.alloc, &mut to.all_of)?;
+            let none = Box::new(self.alloc, Notes::new(self.alloc))?;
+            let additional = every.additional.get_or_insert(none);
+            additional.text = self.read(*first, label)?;
+            return self.add_notes(&field.value, additional);
         }
-        self.add_text(label, text, to)?;
+        self.add_text(*first, label, to)?;
         let room = self.room;
         if self.has_room(label.len()) {
-            let value = self.notes_of(&field.value)?;
             let declared = under(self.alloc, &mut to.properties, label)?;
-            declared.all_of.push(value)?;
+            let notes = one_more(self.alloc, &mut declared.all_of)?;
+            self.add_notes(&field.value, notes)?;
         } else {
             // What is in it is met all the same.
             self.room = 0;
-            drop(self.notes_of(&field.value)?);
+            self.add_notes(&field.value, &mut Notes::new(self.alloc))?;
             self.room = room;
         }
         for at in others {
-            let text = self.read(*at, label)?;
-            self.add_text(label, text, to)?;
+            self.add_text(*at, label, to)?;
         }
         Ok(())
     }
 
-    /// Adds the comment on a declaration of a label, if there is one.
-    fn add_text(&self, label: &str, text: Option<String>, to: &mut Notes) -> Made<()> {
-        let Some(text) = text else {
+    /// Adds the comment on the declaration whose label is at an offset, if there is one.
+    fn add_text(&mut self, at: usize, label: &str, to: &mut Notes) -> Made<()> {
+        let Some(text) = self.read(at, label)? else {
             return Ok(());
         };
         let declared = under(self.alloc, &mut to.properties, label)?;
         let before = declared.text.get_or_insert(String::new(self.alloc));
         add_lines(before, &text)
+    }
+
+    /// Adds the notes of a definition, and the comment on it.
+    fn add_definition(
+        &mut self,
+        definition: &Definition,
+        texts: &Texts,
+        to: &mut ByName,
+    ) -> Made<()> {
+        let name = definition.name.as_str();
+        let declared = under(self.alloc, to, name)?;
+        let notes = one_more(self.alloc, &mut declared.all_of)?;
+        self.add_notes(&definition.body, notes)?;
+        // One that stands for a name of a scope has the comment on the declaration of that.
+        let text = match texts.definitions.get(name) {
+            Some(text) => Some(text),
+            None => texts.fields.get(&self.placed.place(definition.at)),
+        };
+        if let Some(text) = text {
+            declared.text = Some(text.clone()?);
+        }
+        Ok(())
     }
 
     /// The value of the mark among the operands of a disjunction, if one of them has one and notes have room for it.
@@ -239,18 +268,9 @@ fn notes_in(alloc: Global, placed: &Placed, texts: &Texts) -> Made<(ByName, usiz
         nodes: 0,
     };
     let mut notes = BTreeMap::new(alloc);
-    for definition in placed.files.iter().flat_map(|file| file.definitions.iter()) {
-        let name = definition.name.as_str();
-        let value = comments.notes_of(&definition.body)?;
-        let declared = under(alloc, &mut notes, name)?;
-        declared.all_of.push(value)?;
-        // One that stands for a name of a scope has the comment on the declaration of that.
-        let text = match texts.definitions.get(name) {
-            Some(text) => Some(text),
-            None => texts.fields.get(&placed.place(definition.at)),
-        };
-        if let Some(text) = text {
-            declared.text = Some(text.clone()?);
+    for file in &placed.files {
+        for definition in &file.definitions {
+            comments.add_definition(definition, texts, &mut notes)?;
         }
     }
     settle(&mut notes);

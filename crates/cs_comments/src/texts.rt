@@ -42,8 +42,8 @@ pub fn lines_of<'a>(alloc: Global, source: &'a str, tokens: &[Token<'_>]) -> Mad
 
 /// A line by its text, where it starts, and the tokens on it. No token has a newline in it, so what is behind the last one is blanks or a comment.
 fn line_of<'a>(text: &'a str, start: usize, tokens: &[Token<'_>]) -> Line<'a> {
-    let last = tokens.iter().rev().find(|token| !token.text.is_empty());
-    let end = last.map_or(start, |token| end_of(*token));
+    let last = last_of(tokens);
+    let end = last.unwrap_or(start);
     match text.get(end.saturating_sub(start)..).and_then(comment_of) {
         Some(comment) if last.is_none() => Line::Alone(comment),
         Some(comment) => Line::Behind(comment),
@@ -51,13 +51,23 @@ fn line_of<'a>(text: &'a str, start: usize, tokens: &[Token<'_>]) -> Line<'a> {
     }
 }
 
+/// Where the last of some tokens ends, but for those that stand for the end of a line.
+fn last_of(tokens: &[Token<'_>]) -> Option<usize> {
+    for token in tokens.iter().rev() {
+        if !token.text.is_empty() {
+            return Some(end_of(*token));
+        }
+    }
+    None
+}
+
 /// The text of the comment in what a line has behind its tokens, without the one blank at its front.
 fn comment_of(rest: &str) -> Option<&str> {
     let comment = rest
-        .trim_start_matches(|c| matches!(c, ' ' | '\t' | '\r'))
+        .trim_start_matches([' ', '\t', '\r'])
         .strip_prefix("//")?;
     let comment = comment.strip_suffix('\r').unwrap_or(comment);
-    let behind_blank = comment.strip_prefix(|c| matches!(c, ' ' | '\t'));
+    let behind_blank = comment.strip_prefix([' ', '\t']);
     Some(behind_blank.unwrap_or(comment))
 }
 
@@ -175,19 +185,28 @@ impl Texts {
             if before.replace(line) == Some(line) {
                 continue;
             }
-            let Some(text) = text_at(alloc, &lines, line)? else {
-                continue;
-            };
-            match label.text.strip_prefix('#') {
-                Some(name) if source.around(first) == 0 => {
-                    let name = String::from_str(alloc, name)?;
-                    let all = self.definitions.entry(name)?;
-                    add_lines(all.or_insert(String::new(alloc)), &text)?;
-                }
-                _ => drop(self.fields.insert((source.file, label.start), text)?),
+            if let Some(text) = text_at(alloc, &lines, line)? {
+                self.add_text(source, first, text)?;
             }
         }
         Ok(())
+    }
+
+    /// Adds the text of a declaration whose label is the token at a place.
+    fn add_text(&mut self, source: &Source<'_>, place: usize, text: String) -> Made<()> {
+        let label = source.token(place);
+        match label.text.strip_prefix('#') {
+            Some(name) if source.around(place) == 0 => {
+                let alloc = *text.allocator();
+                let name = String::from_str(alloc, name)?;
+                let all = self.definitions.entry(name)?;
+                add_lines(all.or_insert(String::new(alloc)), &text)
+            }
+            _ => {
+                self.fields.insert((source.file, label.start), text)?;
+                Ok(())
+            }
+        }
     }
 }
 

@@ -4,11 +4,12 @@ use cs_forms::{Form, Found, kind_meant, said_of_form, said_of_shown};
 use cs_grammar::{Sort, Token};
 use cs_place::position_of;
 use cs_sources::Separator::{Amp, Comma};
-use cs_sources::{Declared, MOST_AROUND, Made, Near, end_of, ends_value, follows_label, separates};
+use cs_sources::{
+    Declared, MOST_AROUND, Made, Near, Part, end_of, ends_value, follows_label, separates,
+};
 use cs_text::{Written, few_edits, put_all};
 use itoa::Buffer;
 use std::alloc::Global;
-use std::iter::successors;
 
 /// How many bytes of the other fields are shown, and of a value.
 const MOST_SHOWN: usize = 60;
@@ -124,15 +125,14 @@ fn put_embedded(text: &mut String, said: &str, found: Found<'_, '_>) -> Written 
     if matches!(found.form, Form::EmbeddedDefinition) {
         return put_around(text, remedy, shown, other_fields(near).unwrap_or(".."));
     }
-    let alloc = *text.allocator();
-    let labels = labels_inside(alloc, near.bracket())?;
-    let mut named = String::new(alloc);
+    let labels = labels_inside(*text.allocator(), near.bracket(), None)?;
     if labels.is_empty() || labels.len() > MOST_NAMED {
-        named.push_str("the fields around it")?;
-    } else {
-        put_tokens(&mut named, &labels, " and ")?;
+        return put_filled(text, remedy, &["the fields around it"]);
     }
-    put_filled(text, remedy, &[named.as_str()])
+    let (front, end) = remedy.split_once("{}").unwrap_or((remedy, ""));
+    text.push_str(front)?;
+    put_tokens(text, &labels, " and ")?;
+    text.push_str(end)
 }
 
 /// Whether the wide profile takes what a struct embeds from a token on, by its form: structs as alternatives, each of one definition at most.
@@ -141,14 +141,21 @@ fn is_taken(near: Near<'_, '_>) -> bool {
         return false;
     };
     let mut has_definition = false;
-    let tokens = successors(Some(near), |token| token.next()).take(embedded.to);
-    for token in tokens.take_while(|token| token.place < embedded.to) {
+    let mut token = near;
+    for _ in 0..embedded.to {
+        if token.place >= embedded.to {
+            break;
+        }
         let here = token.here();
         match here.text.as_bytes() {
             [b'{' | b'(' | b'&'] => {}
             [b'|'] => has_definition = false,
             _ if here.sort == Sort::Definition && !has_definition => has_definition = true,
             _ => return false,
+        }
+        match token.next() {
+            Some(next) => token = next,
+            None => break,
         }
     }
     true
@@ -169,20 +176,31 @@ fn other_fields<'a>(near: Near<'_, 'a>) -> Option<&'a str> {
     is_shown.then_some(fields)
 }
 
-/// The labels of the struct that a bracket opens, in their order; one that it has twice is there twice. None without a bracket.
-fn labels_inside<'s, 'a>(alloc: Global, bracket: Option<Near<'s, 'a>>) -> Made<Vec<Near<'s, 'a>>> {
-    let Some(held) = bracket.and_then(|bracket| bracket.held()) else {
-        return Ok(Vec::new(alloc));
-    };
+/// The labels of the struct that a bracket opens, or those of this text, in their order; one that it has twice is there twice. None without a bracket.
+fn labels_inside<'s, 'a>(
+    alloc: Global,
+    bracket: Option<Near<'s, 'a>>,
+    text: Option<&str>,
+) -> Made<Vec<Near<'s, 'a>>> {
     let mut labels = Vec::new(alloc);
+    let Some(held) = held_by(bracket) else {
+        return Ok(labels);
+    };
     for place in 0..=held.count(Comma) {
-        let first = held.part(Comma, place).and_then(|part| part.first());
         // A label is one token here.
-        if let Some(label) = first.filter(|label| follows_label(label.behind(1))) {
+        if let Some(label) = held.first_of(Comma, place)
+            && follows_label(label.behind(1))
+            && text.unwrap_or(label.here().text) == label.here().text
+        {
             labels.push(label)?;
         }
     }
     Ok(labels)
+}
+
+/// What is in a bracket, if there is one.
+fn held_by<'s, 'a>(bracket: Option<Near<'s, 'a>>) -> Option<Part<'s, 'a>> {
+    bracket?.held()
 }
 
 /// Puts that a name names a field, which is said first, and where that is.
@@ -193,7 +211,7 @@ fn put_field_reference(text: &mut String, said: &str, near: Near<'_, '_>) -> Wri
         return put_filled(text, "a name in `{}` is a field there", &[name]);
     }
     put_filled(text, said, &[name])?;
-    if let Some(label) = field_named(*text.allocator(), near)? {
+    if let Some(label) = near.label_around() {
         let source = near.source;
         let line = position_of(source.named.text, label.here().start).line;
         put_filled(text, " (line {})", &[Buffer::new().format(line)])?;
@@ -203,19 +221,6 @@ fn put_field_reference(text: &mut String, said: &str, near: Near<'_, '_>) -> Wri
     } else {
         ": give its value a definition and name it in both"
     })
-}
-
-/// The label of the same text as a name that it names, in a struct around it.
-fn field_named<'s, 'a>(alloc: Global, near: Near<'s, 'a>) -> Made<Option<Near<'s, 'a>>> {
-    let name = near.here().text;
-    let around = successors(near.bracket(), |inner| inner.bracket()).take(MOST_AROUND);
-    for bracket in around.filter(|bracket| bracket.here().text == "{") {
-        let labels = labels_inside(alloc, Some(bracket))?;
-        if let Some(label) = labels.iter().find(|label| label.here().text == name) {
-            return Ok(Some(*label));
-        }
-    }
-    Ok(None)
 }
 
 /// Puts that a name isn't declared, and what may have been meant by it; what is said of it where nothing is near.
@@ -241,8 +246,9 @@ pub fn nearest<'a>(declared: &Declared<'_, 'a>, name: &str) -> Made<Option<&'a s
     for declaration in &declared.firsts {
         let other = declaration.here().text;
         let edits = few_edits(declared.alloc(), bare, other.trim_start_matches('#'))?;
-        if let Some(edits) = edits.filter(|edits| *edits < fewest) {
-            (fewest, best) = (edits, Some(other));
+        match edits {
+            Some(edits) if edits < fewest => (fewest, best) = (edits, Some(other)),
+            Some(_) | None => {}
         }
     }
     Ok(best)
@@ -254,69 +260,97 @@ fn put_not_opened(text: &mut String, declared: &Declared<'_, '_>, found: Found<'
         return Ok(());
     }
     let bases = bases_of(declared.alloc(), found.near)?;
-    let (Form::NotOpened, [base, others @ ..]) = (found.form, bases.as_slice()) else {
+    if bases.is_empty() || !matches!(found.form, Form::NotOpened) {
         return text.push_str(said_of_form(found.form));
-    };
+    }
+    put_beside(text, are_opened(declared, &bases), &bases)
+}
+
+/// Puts what to do with a struct beside definitions, where these are opened, or have to be opened too.
+fn put_beside(text: &mut String, are_opened: bool, bases: &[Near<'_, '_>]) -> Written {
     text.push_str("this struct adds keys: end it")?;
-    if bases.iter().all(|base| is_opened(declared, *base)) {
+    if are_opened {
         text.push_str(" with `...` too, or write ")?;
     } else {
-        text.push_str(if others.is_empty() { " and " } else { ", " })?;
-        put_tokens(text, &bases, " and ")?;
+        text.push_str(if bases.len() == 1 { " and " } else { ", " })?;
+        put_tokens(text, bases, " and ")?;
         text.push_str(" with `...`; or write ")?;
     }
-    if others.is_empty() {
-        put_filled(text, "`{}`'s fields here", &[base.here().text])
-    } else {
-        text.push_str("their fields here")
+    match bases {
+        [base] => put_filled(text, "`{}`'s fields here", &[base.here().text]),
+        _ => text.push_str("their fields here"),
     }
 }
 
-/// Whether a definition is one struct literal that ends with `...`, where it is declared first.
-fn is_opened(declared: &Declared<'_, '_>, base: Near<'_, '_>) -> bool {
-    let first = declared.of(base.here().text);
-    let literal = first.and_then(|label| literal_of(label));
-    let closing = literal.and_then(|opening| opening.closing());
-    // A comma may be behind the `...`.
-    closing.is_some_and(|closing| [closing.before(1).text, closing.before(2).text].contains(&"..."))
+/// Whether each of some definitions is one struct literal that ends with `...`, where it is declared first.
+fn are_opened(declared: &Declared<'_, '_>, bases: &[Near<'_, '_>]) -> bool {
+    for base in bases {
+        let Some(closing) = literal_end(declared, *base) else {
+            return false;
+        };
+        // A comma may be behind the `...`.
+        if closing.before(1).text != "..." && closing.before(2).text != "..." {
+            return false;
+        }
+    }
+    true
+}
+
+/// The token that closes the struct literal at the front of a definition, where it is declared first.
+fn literal_end<'s, 'a>(declared: &Declared<'s, 'a>, base: Near<'_, '_>) -> Option<Near<'s, 'a>> {
+    literal_of(declared.of(base.here().text)?)?.closing()
 }
 
 /// The definitions that the struct at a token is joined with, in the innermost conjunction that has any, the nearest one before it first.
 fn bases_of<'s, 'a>(alloc: Global, near: Near<'s, 'a>) -> Made<Vec<Near<'s, 'a>>> {
     let mut bases: Vec<Near<'s, 'a>> = Vec::new(alloc);
-    for inner in successors(Some(near), |inner| inner.bracket()).take(MOST_AROUND) {
-        let Some(operands) = inner.conjunction() else {
-            continue;
-        };
-        let own = operands.between(operands.from, inner.place).count(Amp);
-        let before = (0..own).rev().take(MOST_OPERANDS);
-        let behind = (own..=operands.count(Amp)).skip(1).take(MOST_OPERANDS);
-        for place in before.chain(behind) {
-            let operand = operands.part(Amp, place);
-            let Some(base) = operand.and_then(|operand| operand.first()) else {
-                continue;
-            };
-            let token = base.here();
-            let is_old = bases.iter().any(|old| old.here().text == token.text);
-            if token.sort == Sort::Definition && !is_old && bases.len() < MOST_NAMED {
-                bases.push(base)?;
-            }
+    let mut inner = near;
+    for _ in 0..MOST_AROUND {
+        if let Some(operands) = inner.conjunction() {
+            put_bases(&mut bases, operands, inner.place)?;
         }
-        if !bases.is_empty() {
-            break;
+        match inner.bracket() {
+            Some(outer) if bases.is_empty() => inner = outer,
+            Some(_) | None => break,
         }
     }
     Ok(bases)
 }
 
+/// Adds the definitions among operands beside the one with the token at a place, the nearest one before it first.
+fn put_bases<'s, 'a>(bases: &mut Vec<Near<'s, 'a>>, operands: Part<'s, 'a>, at: usize) -> Written {
+    let own = operands.between(operands.from, at).count(Amp);
+    for place in (own.saturating_sub(MOST_OPERANDS)..own).rev() {
+        put_base(bases, operands.first_of(Amp, place))?;
+    }
+    let last = own.saturating_add(MOST_OPERANDS);
+    for place in own.saturating_add(1)..=last.min(operands.count(Amp)) {
+        put_base(bases, operands.first_of(Amp, place))?;
+    }
+    Ok(())
+}
+
+/// Adds the definition that an operand begins with, unless it is one of these already, or they are enough.
+fn put_base<'s, 'a>(bases: &mut Vec<Near<'s, 'a>>, operand: Option<Near<'s, 'a>>) -> Written {
+    let Some(base) = operand else { return Ok(()) };
+    let Token { sort, text, .. } = base.here();
+    if sort != Sort::Definition || bases.len() >= MOST_NAMED {
+        return Ok(());
+    }
+    for old in bases.as_slice() {
+        if old.here().text == text {
+            return Ok(());
+        }
+    }
+    bases.push(base)?;
+    Ok(())
+}
+
 /// Puts that what a token is the value of is declared several times, or that the wide profile puts that together; whether it is.
 fn put_twice(text: &mut String, declared: &Declared<'_, '_>, found: Found<'_, '_>) -> Made<bool> {
     let (near, is_joined) = (found.near, matches!(found.form, Form::Joined));
-    let label = near.source.label_before(near.place.saturating_sub(1));
-    let label = label.filter(|_| near.before(1).text == ":");
-    let name = label.map_or("", |label| near.source.token(label).text);
-    let mut labels = labels_inside(declared.alloc(), near.bracket())?;
-    labels.retain(|label| label.here().text == name);
+    let name = name_before(near);
+    let labels = labels_inside(declared.alloc(), near.bracket(), Some(name))?;
     // Outside of all brackets it is a definition.
     let is_definition = labels.is_empty();
     let times = labels.len().max(declared.named(name).len());
@@ -342,15 +376,22 @@ fn put_twice(text: &mut String, declared: &Declared<'_, '_>, found: Found<'_, '_
     Ok(true)
 }
 
+/// The label of what begins at a token; nothing where that isn't behind a colon.
+fn name_before<'a>(near: Near<'_, 'a>) -> &'a str {
+    match near.source.label_before(near.place.saturating_sub(1)) {
+        Some(label) if near.before(1).text == ":" => near.source.token(label).text,
+        Some(_) | None => "",
+    }
+}
+
 /// Puts what to write in place of labels of one name: the struct of the keys behind them, where each has one and they are few.
 fn put_one<'a>(text: &mut String, name: &'a str, labels: &[Near<'_, 'a>]) -> Written {
-    // `?` where all have it, or else the mark of the first one which has another or none.
-    let mut marks = labels.iter().map(|label| label.behind(1).text);
-    let mark = marks.find(|mark| *mark != "?").unwrap_or("?");
-    put_filled(text, "join to `{}{}: {", &[name, mark.trim_matches(':')])?;
-    let is_short = |label: &Near<'_, '_>| label.behind(1).text == ":"
-        && follows_label(label.behind(3));
-    if labels.len() > MOST_NAMED || !labels.iter().all(is_short) {
+    put_filled(
+        text,
+        "join to `{}{}: {",
+        &[name, mark_of(labels).trim_matches(':')],
+    )?;
+    if labels.len() > MOST_NAMED || !are_short(labels) {
         return text.push_str("..}`");
     }
     let mut front = "";
@@ -362,21 +403,51 @@ fn put_one<'a>(text: &mut String, name: &'a str, labels: &[Near<'_, 'a>]) -> Wri
     text.push_str("}`")
 }
 
+/// What is behind labels of one name: `?` where all have it, or else the mark of the first one which has another or none.
+fn mark_of<'a>(labels: &[Near<'_, 'a>]) -> &'a str {
+    for label in labels {
+        let mark = label.behind(1).text;
+        if mark != "?" {
+            return mark;
+        }
+    }
+    "?"
+}
+
+/// Whether each of some labels has a key behind it, and no mark.
+fn are_short(labels: &[Near<'_, '_>]) -> bool {
+    for label in labels {
+        if label.behind(1).text != ":" || !follows_label(label.behind(3)) {
+            return false;
+        }
+    }
+    true
+}
+
 /// The label of a field that has to be there, and whose value is a reference, in the definition at a token, if that is one struct literal.
-pub fn field_with<'a>(alloc: Global, near: Near<'_, 'a>, name: &str) -> Made<Option<&'a str>> {
-    let literal = literal_of(near).filter(|opening| {
-        let closing = opening.closing();
-        closing.is_some_and(|closing| separates(closing.behind(1)))
-    });
-    let labels = labels_inside(alloc, literal)?;
-    let label = labels.iter().find(|label| {
-        let (sort, next) = (label.here().sort, label.behind(3));
-        matches!(sort, Sort::Name | Sort::Text)
-            && label.behind(1).text == ":"
-            && label.behind(2).text == name
-            && (separates(next) || next.text == "}")
-    });
-    Ok(label.map(|label| label.here().text))
+pub fn field_with<'a>(near: Near<'_, 'a>, name: &str) -> Option<&'a str> {
+    let literal = literal_of(near)?;
+    if !separates(literal.closing()?.behind(1)) {
+        return None;
+    }
+    let held = literal.held()?;
+    for place in 0..=held.count(Comma) {
+        if let Some(label) = held.first_of(Comma, place)
+            && is_field_with(label, name)
+        {
+            return Some(label.here().text);
+        }
+    }
+    None
+}
+
+/// Whether a token is the label of a field that has to be there, and whose value is this name alone.
+fn is_field_with(label: Near<'_, '_>, name: &str) -> bool {
+    let next = label.behind(3);
+    matches!(label.here().sort, Sort::Name | Sort::Text)
+        && label.behind(1).text == ":"
+        && label.behind(2).text == name
+        && (separates(next) || next.text == "}")
 }
 
 /// The token that opens the struct literal at the front of a definition.

@@ -18,10 +18,11 @@ const MOST_BESIDE: usize = 70;
 /// Puts words as they are shown, with these parts in place of each `{}` in them, in their order.
 pub fn put_filled(text: &mut String, words: &str, parts: &[&str]) -> Written {
     for (at, piece) in words.split("{}").enumerate() {
-        if let Some(part) = at.checked_sub(1).and_then(|before| parts.get(before)) {
-            put_line(text, &[*part])?;
-        }
-        put_line(text, &[piece])?;
+        let part = match at.checked_sub(1) {
+            Some(before) => *parts.get(before).unwrap_or(&""),
+            None => "",
+        };
+        put_line(text, &[part, piece])?;
     }
     Ok(())
 }
@@ -75,7 +76,10 @@ pub fn put_quoted(text: &mut String, words: &str, inside: &str) -> Written {
 /// What of a text is on the line of an offset: before it and behind it; nothing where that isn't UTF-8.
 fn sides(text: &[u8], offset: usize) -> (&str, &str) {
     let (before, behind) = text.split_at(offset.min(text.len()));
-    let start = memrchr(b'\n', before).map_or(0, |newline| newline.saturating_add(1));
+    let start = match memrchr(b'\n', before) {
+        Some(newline) => newline.saturating_add(1),
+        None => 0,
+    };
     let len = memchr(b'\n', behind).unwrap_or(behind.len());
     let line = text.get(start..before.len().saturating_add(len));
     let line = str::from_utf8(line.unwrap_or(b"")).unwrap_or("");
@@ -89,38 +93,59 @@ fn put_excerpt(text: &mut String, source: &[u8], start: usize, end: usize) -> Wr
     if before.is_empty() && behind.is_empty() {
         return Ok(());
     }
-    let column = before.chars().count();
-    let left = column.saturating_sub(MOST_BESIDE);
-    let most = column.saturating_add(MOST_BESIDE);
-    let alloc = *text.allocator();
-    let mut marks = String::new(alloc);
-    if left > 0 {
-        text.push_str("..")?;
-        marks.push_str("  ")?;
-    }
-    let line = before.chars().chain(behind.chars()).enumerate();
-    for (place, character) in line.skip(left).take(most.saturating_sub(left)) {
-        // What isn't shown as it is is a blank, so that the mark stays below what it marks. A tab stays.
-        let is_left = character == '\t' || !is_hidden(character);
-        text.push(if is_left { character } else { ' ' })?;
-        if place < column {
-            marks.push(if character == '\t' { '\t' } else { ' ' })?;
-        }
-    }
-    let is_cut = behind.chars().count() > MOST_BESIDE;
-    text.push_str(if is_cut { "..\n" } else { "\n" })?;
+    let left_out = before.chars().count().saturating_sub(MOST_BESIDE);
+    let (_, shown) = split_at_character(before, left_out);
+    let (beside, right) = split_at_character(behind, MOST_BESIDE);
+    let blanks = if left_out > 0 { "  " } else { "" };
+    let newline = if right.is_empty() { "\n" } else { "..\n" };
+    text.push_str(if left_out > 0 { ".." } else { "" })?;
+    put_seen(text, shown)?;
+    put_seen(text, beside)?;
+    put_all(text, &[newline, blanks])?;
+    put_blanks(text, shown)?;
     let marked = behind.get(..end.saturating_sub(start)).unwrap_or(behind);
     let count = marked.chars().count().min(MOST_BESIDE).max(1);
-    let mark = "^".repeat(alloc, count)?;
-    put_all(text, &[marks.as_str(), mark.as_str(), "\n"])
+    let mark = "^".repeat(*text.allocator(), count)?;
+    put_all(text, &[mark.as_str(), "\n"])
+}
+
+/// So many characters of a text, or all, and what is behind them.
+fn split_at_character(text: &str, count: usize) -> (&str, &str) {
+    let at = match text.char_indices().nth(count) {
+        Some((at, _)) => at,
+        None => text.len(),
+    };
+    (text.get(..at).unwrap_or(text), text.get(at..).unwrap_or(""))
+}
+
+/// Puts a part of a line. What isn't shown as it is is a blank, so that the mark stays below what it marks. A tab stays.
+fn put_seen(text: &mut String, line: &str) -> Written {
+    for character in line.chars() {
+        let is_left = character == '\t' || !is_hidden(character);
+        text.push(if is_left { character } else { ' ' })?;
+    }
+    Ok(())
+}
+
+/// Puts a blank for each character of a part of a line, and a tab for a tab.
+fn put_blanks(text: &mut String, line: &str) -> Written {
+    for character in line.chars() {
+        text.push(if character == '\t' { '\t' } else { ' ' })?;
+    }
+    Ok(())
 }
 
 /// What docs/REFUSALS.md says of a number: for each of its rows a line with the number and the meaning, and one with what to
 /// do. `None` for a number that no refusal has. Only memory can run out.
 pub fn explained(alloc: Global, number: u32) -> Made<Option<String>> {
     let mut text = String::new(alloc);
-    for row in EXPLANATIONS.iter().filter(|row| row.number == number) {
-        write!(text, "{number}: {}\n{}\n", row.meaning, row.remedy)?;
+    for row in EXPLANATIONS {
+        if row.number == number {
+            let mut buffer = Buffer::new();
+            let front = [buffer.format(number), ": ", row.meaning];
+            put_all(&mut text, &front)?;
+            put_all(&mut text, &["\n", row.remedy, "\n"])?;
+        }
     }
     Ok(if text.is_empty() { None } else { Some(text) })
 }
@@ -128,18 +153,24 @@ pub fn explained(alloc: Global, number: u32) -> Made<Option<String>> {
 /// Why a call was refused: a line with the place, as `FILE:LINE:COLUMN: `, and what to do; where a source, a schema or a document
 /// has the place, its line and a mark below. The last lines are for files with their bytes. What isn't known is left out. Only memory can run out.
 pub fn why_refused(alloc: Global, fault: &Fault, about: About<'_>) -> Made<String> {
-    let sources = sources_of(alloc, about.profile, about.sources)?;
-    let told = Told::of(alloc, fault, about, &sources)?;
     let mut text = String::new(alloc);
-    put_told(&mut text, &told, told.start, &[])?;
-    if let (Some(named), Some(start)) = (told.named, told.start) {
-        put_excerpt(&mut text, named.text, start, told.end)?;
-    }
+    put_why(&mut text, fault, about)?;
     for (path, size) in about.sizes {
         put_line(&mut text, &[*path])?;
-        write!(text, ": {size} bytes\n")?;
+        put_all(&mut text, &[": ", Buffer::new().format(*size), " bytes\n"])?;
     }
     Ok(text)
+}
+
+/// Puts why a call was refused: a line, and where it has a place in a text, the line of that and a mark below.
+fn put_why(text: &mut String, fault: &Fault, about: About<'_>) -> Written {
+    let sources = sources_of(*text.allocator(), about.profile, about.sources)?;
+    let told = Told::of(*text.allocator(), fault, about, &sources)?;
+    put_told(text, &told, told.start, &[])?;
+    match (told.named, told.start) {
+        (Some(named), Some(start)) => put_excerpt(text, named.text, start, told.end),
+        _ => Ok(()),
+    }
 }
 
 /// Puts a line for a fault of what was given: its place, as `FILE:LINE:COLUMN: `, its number, and what to do. `sources` are those of the call, cut
@@ -203,11 +234,8 @@ pub fn write_refusal_json<W: Write>(
 
 /// The object of a fault with all that is known, and a newline.
 fn refusal_object(alloc: Global, fault: &Fault, names: &[&str], about: About<'_>) -> Made<Vec<u8>> {
-    let sources = sources_of(alloc, about.profile, about.sources)?;
-    let told = Told::of(alloc, fault, about, &sources)?;
     let mut members = String::new(alloc);
-    put_members(&mut members, fault, &told)?;
-    put_sizes(&mut members, about.sizes)?;
+    put_known(&mut members, fault, about)?;
     let mut object = Vec::new(alloc);
     let written = write_fault_json(alloc, fault, names, &mut object);
     written.or(Err(AllocError))?;
@@ -216,6 +244,14 @@ fn refusal_object(alloc: Global, fault: &Fault, names: &[&str], about: About<'_>
     object.truncate(end);
     object.extend_from_slice(members.as_bytes())?;
     Ok(object)
+}
+
+/// Puts all members that are known beside the fault itself, and the end of the object.
+fn put_known(text: &mut String, fault: &Fault, about: About<'_>) -> Written {
+    let sources = sources_of(*text.allocator(), about.profile, about.sources)?;
+    let told = Told::of(*text.allocator(), fault, about, &sources)?;
+    put_members(text, fault, &told)?;
+    put_sizes(text, about.sizes)
 }
 
 /// Puts the file of a fault that doesn't name it itself, and the line and the column of its place; the form, the pointer and what to do.

@@ -12,7 +12,6 @@ use cs_sources::{
 };
 use cs_text::{Written, put_all, put_grouped, put_line};
 use itoa::Buffer;
-use std::iter::successors;
 
 /// How many definitions a package may have, and how many of them are listed.
 const MOST_DEFINITIONS: usize = 1_000;
@@ -30,20 +29,16 @@ impl<'a> Told<'a> {
     pub fn tell_too_high(&mut self, source: Option<&Source<'a>>) -> Written {
         let Some(source) = source else { return Ok(()) };
         self.named = Some(source.named);
-        let mut brackets = source.brackets.iter();
-        let deep = brackets.position(|bracket| bracket.depth > MOST_LEVELS);
-        if let Some(bracket) = deep.and_then(|number| source.opening(number)) {
+        if let Some(bracket) = first_too_deep(source) {
             self.place_at(bracket);
             let said =
                 "this is the 29th bracket that is open; 28 may be: give an inner part a definition";
             return self.hint.push_str(said);
         }
         let Some(near) = self.first_too_high(source)? else {
-            let mut tokens = (0..source.tokens.len()).map(|place| Near { source, place });
-            let embeds = tokens.any(|token| token.begins_embedding());
             let said =
                 "with what is embedded brackets, short fields, `&`, `|` and the value inside make more than 28 levels: give an inner part a definition";
-            return self.hint.push_str(if embeds { said } else { "" });
+            return self.hint.push_str(if embeds(source) { said } else { "" });
         };
         self.place_at(near);
         let is_bracket = near.held().is_some();
@@ -57,42 +52,40 @@ impl<'a> Told<'a> {
     fn first_too_high<'s>(&self, source: &'s Source<'a>) -> Made<Option<Near<'s, 'a>>> {
         // Of what is around each bracket.
         let mut heights: Vec<usize> = Vec::new(self.alloc());
-        let mut found: Option<(usize, Near<'s, 'a>)> = None;
+        let mut first = usize::MAX;
+        let mut found = None;
         for (number, bracket) in source.brackets.iter().enumerate() {
             let opening = source.opening(number);
             let around = heights.get(bracket.around).copied().unwrap_or(0);
-            let own = opening.map_or(0, |near| own_height(near.part(), near.inside()));
+            let own = match opening {
+                Some(near) => own_height(near.part(), near.inside()),
+                None => 0,
+            };
             let outer = around.saturating_add(own);
             heights.push(outer)?;
             let held = source.held(number);
-            let part = (0..=held.count(Comma))
-                .filter_map(|place| held.part(Comma, place))
-                .find(|part| {
-                    let leaf = usize::from(has_leaf(*part));
-                    let height = own_height(*part, bracket.inside).saturating_add(leaf);
-                    outer.saturating_add(height) > MOST_LEVELS
-                });
-            if let Some(part) = part
-                && found.is_none_or(|(first, _)| part.from < first)
+            if let Some(part) = part_too_high(held, bracket.inside, outer)
+                && part.from < first
                 && let Some(near) = opening.or(part.first())
             {
-                found = Some((part.from, near));
+                (first, found) = (part.from, Some(near));
             }
         }
-        Ok(found.map(|(_, near)| near))
+        Ok(found)
     }
 
     /// Tells the package clause of a source and the first one of all sources, where they name different packages (8), at the name in this one.
     pub fn tell_clause(&mut self, source: Option<&Source<'a>>, all: &[Source<'a>]) -> Written {
-        self.named = source.map(|source| source.named);
-        let Some(name) = source.and_then(|source| clause_of(source)) else {
-            return Ok(());
+        let Some(source) = source else { return Ok(()) };
+        self.named = Some(source.named);
+        let Some(name) = clause_of(source) else {
+            return Ok(())
         };
         self.place_at(name);
         let text = &mut self.hint;
         let said = "this file is of the package `{}`";
         put_filled(text, said, &[name.here().text])?;
-        if let Some(first) = all.iter().find_map(|other| clause_of(other)) {
+        if let Some(first) = first_clause(all) {
             text.push_str(", and ")?;
             put_offset(text, first.source.named, first.here().start)?;
             put_filled(text, "`{}`", &[first.here().text])?;
@@ -131,39 +124,51 @@ impl<'a> Told<'a> {
         }
         let mut nodes = 0usize;
         for source in sources {
-            let tokens = (0..source.tokens.len()).map(|place| Near { source, place });
-            nodes = nodes.saturating_add(tokens.filter(|token| is_node(*token)).count());
+            for place in 0..source.tokens.len() {
+                let is_node = is_node(Near { source, place });
+                nodes = nodes.saturating_add(usize::from(is_node));
+            }
         }
         let said = [" nodes of expressions, and 50,000", remedy];
         put_grouped(&mut self.hint, nodes, &said)
     }
 
-    /// Tells a chain of definitions by their names, each of which refers to the next (16), at the first one, if the sources declare that.
-    pub fn tell_chain(&mut self, declared: &Declared<'_, 'a>, chain: &[String]) -> Written {
+    /// Tells a way of definitions by their names, each of which refers to the next, at the first one, if the sources declare that: a cycle of them
+    /// (12), or a chain (16).
+    pub fn tell_way(
+        &mut self,
+        declared: &Declared<'_, 'a>,
+        way: &[String],
+        is_cycle: bool,
+    ) -> Written {
         let names = Names::of(self.alloc(), declared)?;
-        let (Some(first), [front @ .., last]) = (first_of(&names, chain), chain) else {
+        let [name, ..] = way else { return Ok(()) };
+        let (Some(first), [front @ .., last]) = (names.first(name.as_str()), way) else {
             return Ok(());
         };
         self.place_at(first);
+        if is_cycle {
+            self.put_way(&names, way, MOST_IN_CYCLE)?;
+            let last = names.first(last.as_str());
+            return self.put_end(first.name_declared().here().text, last);
+        }
+        self.put_chain(&names, front, last.as_str())
+    }
+
+    /// Puts the names of a chain of definitions, the last one of which comes behind those at its front.
+    fn put_chain(&mut self, names: &Names<'_, '_>, front: &[String], last: &str) -> Written {
         let said = "{} references in a chain, and 64 may be: ";
         put_filled(&mut self.hint, said, &[Buffer::new().format(front.len())])?;
-        self.put_way(&names, front, MOST_IN_CHAIN)?;
-        self.put_named(&names, last.as_str())?;
+        self.put_way(names, front, MOST_IN_CHAIN)?;
+        self.put_named(names, last)?;
         let said = ": nest less deeply, or write one of the references as an alternative to `_|_`";
         self.hint.push_str(said)
     }
 
-    /// Tells a cycle of definitions by their names, each with its place (12), at the first one, and what ends it: a field of the last one, if any.
-    pub fn tell_cycle(&mut self, declared: &Declared<'_, 'a>, cycle: &[String]) -> Written {
-        let names = Names::of(self.alloc(), declared)?;
-        let (Some(first), [.., last]) = (first_of(&names, cycle), cycle) else {
-            return Ok(());
-        };
-        self.place_at(first);
-        self.put_way(&names, cycle, MOST_IN_CYCLE)?;
-        let first = first.name_declared().here().text;
-        let field = match names.first(last.as_str()) {
-            Some(last) => field_with(self.alloc(), last.name_declared(), first)?,
+    /// Puts the first name of a cycle of definitions, and what ends it: a field of the last one, if any.
+    fn put_end(&mut self, first: &str, last: Option<Near<'_, '_>>) -> Written {
+        let field = match last {
+            Some(last) => field_with(last.name_declared(), first),
             None => None,
         };
         let said = match field {
@@ -180,7 +185,10 @@ impl<'a> Told<'a> {
         // A schema's definitions have no places in sources.
         let declared = declared_in(self.alloc(), &[])?;
         self.put_loop(&declared, names)?;
-        let first = names.first().map_or("", |first| first.as_str());
+        let first = match names {
+            [first, ..] => first.as_str(),
+            [] => "",
+        };
         let said =
             "`{}`: put a reference under `properties`, `additionalProperties`, `prefixItems` or `items`, or take it out";
         put_filled(&mut self.hint, said, &[first])?;
@@ -206,11 +214,8 @@ impl<'a> Told<'a> {
         let Some(declaration) = names.first(name) else {
             return put_filled(&mut self.hint, "`{}`", &[name]);
         };
-        put_filled(
-            &mut self.hint,
-            "`{}`",
-            &[declaration.name_declared().here().text],
-        )?;
+        let written = declaration.name_declared().here().text;
+        put_filled(&mut self.hint, "`{}`", &[written])?;
         let named = declaration.source.named;
         let is_one = names.is_of_one_source();
         let (file, colon) = if is_one { ("", "") } else { (named.name, ":") };
@@ -220,9 +225,35 @@ impl<'a> Told<'a> {
     }
 }
 
-/// Where the first of some definitions is declared.
-fn first_of<'s, 'a>(names: &Names<'s, 'a>, way: &[String]) -> Option<Near<'s, 'a>> {
-    names.first(way.first()?.as_str())
+/// The first bracket of a source that is too deep.
+fn first_too_deep<'s, 'a>(source: &'s Source<'a>) -> Option<Near<'s, 'a>> {
+    for (number, bracket) in source.brackets.iter().enumerate() {
+        if bracket.depth > MOST_LEVELS {
+            return source.opening(number);
+        }
+    }
+    None
+}
+
+/// Whether a struct of a source embeds something.
+fn embeds(source: &Source<'_>) -> bool {
+    for place in 0..source.tokens.len() {
+        if (Near { source, place }).begins_embedding() {
+            return true;
+        }
+    }
+    false
+}
+
+/// The name in the first package clause of sources.
+fn first_clause<'s, 'a>(sources: &'s [Source<'a>]) -> Option<Near<'s, 'a>> {
+    for source in sources {
+        let clause = clause_of(source);
+        if clause.is_some() {
+            return clause;
+        }
+    }
+    None
 }
 
 /// The name in the package clause of a source.
@@ -232,6 +263,19 @@ fn clause_of<'s, 'a>(source: &'s Source<'a>) -> Option<Near<'s, 'a>> {
         "package" => first.moved(1),
         _ => None,
     }
+}
+
+/// The first part between commas that is too high, of what a bracket holds that has so many levels around it.
+fn part_too_high<'s, 'a>(held: Part<'s, 'a>, inside: Inside, outer: usize) -> Option<Part<'s, 'a>> {
+    for place in 0..=held.count(Comma) {
+        let part = held.part(Comma, place)?;
+        let leaf = usize::from(has_leaf(part));
+        let height = own_height(part, inside).saturating_add(leaf);
+        if outer.saturating_add(height) > MOST_LEVELS {
+            return Some(part);
+        }
+    }
+    None
 }
 
 /// How many levels are on the way through a part to a value directly in it, from its bracket on.
@@ -246,10 +290,15 @@ fn own_height(part: Part<'_, '_>, inside: Inside) -> usize {
 
 /// Whether a token directly in a part is an expression without parts, or the literal of a limit.
 fn has_leaf(part: Part<'_, '_>) -> bool {
-    successors(part.first(), |near| near.next())
-        .take(part.to)
-        .take_while(|near| near.place < part.to)
-        .any(|near| is_leaf(near))
+    let mut next = part.first();
+    for _ in 0..part.to {
+        match next {
+            Some(near) if near.place < part.to && is_leaf(near) => return true,
+            Some(near) if near.place < part.to => next = near.next(),
+            Some(_) | None => return false,
+        }
+    }
+    false
 }
 
 /// Whether a token is an expression without parts, or the literal of a limit: in a struct or a file behind a colon.

@@ -81,18 +81,28 @@ impl<'a> Told<'a> {
             pointer: None,
             hint: String::new(alloc),
         };
-        told.tell(fault, about, &declared_in(alloc, cut)?)?;
-        if told.hint.is_empty() && told.named.is_none() {
-            let (text, line): (&[u8], usize) = (b"", 1);
-            told.named = about.path.map(|name| Named { name, text, line });
-            put_line(&mut told.hint, &[about.cause])?;
-        }
-        if let Some(row) = explanation(fault.number())
-            && told.hint.is_empty()
-        {
-            put_all(&mut told.hint, &[row.meaning, " ", row.remedy])?;
-        }
+        told.tell_all(fault, about, cut)?;
         Ok(told)
+    }
+
+    /// Tells what is known of a fault, or else of a file, or what its number means.
+    fn tell_all(&mut self, fault: &Fault, about: About<'a>, cut: &[Source<'a>]) -> Written {
+        let declared = declared_in(self.alloc(), cut)?;
+        self.tell(fault, about, &declared)?;
+        if self.hint.is_empty() && self.named.is_none() {
+            let (text, line): (&[u8], usize) = (b"", 1);
+            if let Some(name) = about.path {
+                self.named = Some(Named { name, text, line });
+            }
+            put_line(&mut self.hint, &[about.cause])?;
+        }
+        match explanation(fault.number()) {
+            Some(row) if self.hint.is_empty() => put_all(
+                &mut self.hint,
+                &[row.meaning, " ", row.remedy],
+            ),
+            Some(_) | None => Ok(()),
+        }
     }
 
     /// What its words grow by.
@@ -115,7 +125,7 @@ impl<'a> Told<'a> {
 
     /// Tells what is known of a fault.
     fn tell(&mut self, fault: &Fault, about: About<'a>, declared: &Declared<'_, 'a>) -> Written {
-        let source = fault.file().and_then(|file| declared.sources.get(file));
+        let source = source_of(fault, declared.sources);
         let (schema, document) = (about.schema, about.document);
         match fault {
             Fault::NotUtf8 { .. } => self.tell_not_utf8(source),
@@ -128,8 +138,8 @@ impl<'a> Told<'a> {
             | Fault::NotOpened { .. } => self.put_form(fault, about.is_joined, declared),
             Fault::TooHigh { .. } => self.tell_too_high(source),
             Fault::PackageName { .. } => self.tell_clause(source, declared.sources),
-            Fault::Cycle { names } => self.tell_cycle(declared, names),
-            Fault::ChainTooLong { names } => self.tell_chain(declared, names),
+            Fault::Cycle { names } => self.tell_way(declared, names, true),
+            Fault::ChainTooLong { names } => self.tell_way(declared, names, false),
             Fault::UnknownRoot => self.tell_no_root(declared, about.root),
             Fault::TooLarge { definitions } => self.tell_too_large(*definitions, declared.sources),
             Fault::TooManyPairs { by_schema, .. } => self.tell_too_many_pairs(
@@ -156,7 +166,10 @@ impl<'a> Told<'a> {
     /// Tells where a source isn't UTF-8 (2).
     fn tell_not_utf8(&mut self, source: Option<&Source<'a>>) -> Written {
         let Some(source) = source else { return Ok(()) };
-        let place = from_utf8(source.named.text).map_or_else(|error| error.valid_up_to(), |_| 0);
+        let place = match from_utf8(source.named.text) {
+            Ok(_) => 0,
+            Err(error) => error.valid_up_to(),
+        };
         self.place(source.named, place, place);
         let said = "no UTF-8 from here: save the file as UTF-8, without a byte order mark";
         self.hint.push_str(said)
@@ -164,7 +177,7 @@ impl<'a> Told<'a> {
 
     /// Puts what is said of the form of CUE at the place of a fault; nothing where its source has no token there or behind.
     fn put_form(&mut self, fault: &Fault, is_joined: bool, declared: &Declared<'_, 'a>) -> Written {
-        let source = fault.file().and_then(|file| declared.sources.get(file));
+        let source = source_of(fault, declared.sources);
         let (Some(source), Some(offset)) = (source, fault.offset()) else {
             return Ok(());
         };
@@ -204,9 +217,8 @@ impl<'a> Told<'a> {
     fn tell_not_integer(&mut self, named: Option<Named<'a>>, offset: usize) -> Written {
         let Some(named) = named else { return Ok(()) };
         self.pointer = Some(pointer_at(self.alloc(), named.text, offset)?);
-        let is_of_number = |byte: &&u8| b"+-.0123456789Ee".contains(*byte);
         let rest = named.text.get(offset..).unwrap_or(&[]);
-        let len = rest.iter().take_while(is_of_number).count();
+        let len = number_len(rest);
         self.place(named, offset, offset.saturating_add(len));
         let said =
             "`{}` isn't an integer of 64 signed bits: write one without a fraction or an exponent";
@@ -271,6 +283,21 @@ impl<'a> Told<'a> {
     }
 }
 
+/// The source at fault, where it is one of these.
+fn source_of<'s, 'a>(fault: &Fault, sources: &'s [Source<'a>]) -> Option<&'s Source<'a>> {
+    sources.get(fault.file()?)
+}
+
+/// How many bytes at the front of a text may be a number's.
+fn number_len(text: &[u8]) -> usize {
+    for (len, byte) in text.iter().enumerate() {
+        if !b"+-.0123456789Ee".contains(byte) {
+            return len;
+        }
+    }
+    text.len()
+}
+
 /// What a step of a pointer into a schema leads to.
 #[derive(Clone, Copy)]
 enum Part {
@@ -316,8 +343,10 @@ fn offset_of(alloc: Global, text: &[u8], keys: &[String]) -> Made<Option<usize>>
         paths.push(ValuePath { parent, step })?;
         part = next;
     }
-    let found = places(alloc, text, &paths)?.last().copied().flatten();
-    Ok(found.map(|place| place.key.unwrap_or(place.value)))
+    match places(alloc, text, &paths)?.last() {
+        Some(Some(place)) => Ok(Some(place.key.unwrap_or(place.value))),
+        Some(None) | None => Ok(None),
+    }
 }
 
 /// The place behind the text of JSON that begins at an offset; the offset itself where none does.

@@ -48,22 +48,26 @@ pub fn separating(
     ensures declared { OnOk result (((n : List ℕ) × Names admitting.now admitting_root.now n) × ((m : List ℕ) × Names refusing.now refusing_root.now m)) }
     ensures refused { IfErr result (λ e. IsRefusal e admitting.now admitting_root.now ⊎ IsRefusal e refusing.now refusing_root.now) }
 {
-    let first = numbered_root(alloc, admitting, admitting_root)?;
-    let second = numbered_root(alloc, refusing, refusing_root)?;
-    let nodes = Nodes {
-        alloc,
-        admitting: side_of(alloc, &first.numbering.rules, &first.numbering.children)?,
-        refusing: side_of(alloc, &second.numbering.rules, &second.numbering.children)?,
-    };
-    let mut asked = met(alloc, first.number)?;
-    let unmet = Literal {
-        side: Side::Refusing,
-        rule: second.number,
-        holds: false,
-    };
-    add(&mut asked, unmet)?;
-    let Some(doc) = document_for(&nodes, &asked, budget)? else {
-        return Ok(None);
+    // What was asked is let go before the document is judged.
+    let doc = {
+        let first = numbered_root(alloc, admitting, admitting_root)?;
+        let second = numbered_root(alloc, refusing, refusing_root)?;
+        let nodes = Nodes {
+            alloc,
+            admitting: side_of(alloc, &first.numbering.rules, &first.numbering.children)?,
+            refusing: side_of(alloc, &second.numbering.rules, &second.numbering.children)?,
+        };
+        let mut asked = met(alloc, first.number)?;
+        let unmet = Literal {
+            side: Side::Refusing,
+            rule: second.number,
+            holds: false,
+        };
+        add(&mut asked, unmet)?;
+        let Some(doc) = document_for(&nodes, &asked, budget)? else {
+            return Ok(None);
+        };
+        doc
     };
     judged(alloc, admitting, admitting_root, &doc, true)?;
     judged(alloc, refusing, refusing_root, &doc, false)?;
@@ -76,11 +80,13 @@ fn document_for(nodes: &Nodes<'_>, asked: &[Literal], budget: &mut Budget) -> Se
     ensures read { IfOk result (λ o. IfSome o (λ d. IsReadAgain (doc_view d))) }
 {
     budget.spend(nodes.count());
-    let table = explored(nodes, asked, budget)?;
-    if table.is_shut_at(0, asked) {
-        return Ok(None);
-    }
-    let (doc, values) = witness_of(nodes.alloc, &table)?;
+    let (doc, values) = {
+        let table = explored(nodes, asked, budget)?;
+        if table.is_shut_at(0, asked) {
+            return Ok(None);
+        }
+        witness_of(nodes.alloc, &table)?
+    };
     budget.spend(nodes.count().saturating_mul(values) / PAIRS_OF_STEP);
     let text = write_doc(nodes.alloc, &doc)?;
     // That is so where it nests no deeper than documents are read.

@@ -34,17 +34,6 @@ pub(crate) enum Found<'a> {
     },
 }
 
-impl Found<'_> {
-    /// What is asked of each of its parts.
-    pub(crate) fn parts(&self) -> &[Vec<Literal>] {
-        match self {
-            Found::Scalar(_) => &[],
-            Found::List(parts) => parts,
-            Found::Map { chosen, .. } => &chosen.parts,
-        }
-    }
-}
-
 /// A question, with what was found to answer it.
 #[derive(Drop)]
 pub(crate) struct Entry<'a> {
@@ -65,8 +54,6 @@ pub(crate) struct Table<'a> {
     queue: VecDeque<usize>,
     /// Whether one for which a limit is met counts as one that has an answer, instead of ending the search.
     pub(crate) skips: bool,
-    /// The places of those that were answered, in that order.
-    pub(crate) answered: Vec<usize>,
     /// Whether only what is in the table counts as having no answer. Before that a question that isn't in it yet counts so too.
     pub(crate) is_final: bool,
 }
@@ -79,7 +66,6 @@ impl<'a> Table<'a> {
             places: BTreeMap::new(alloc),
             queue: VecDeque::new(alloc),
             skips,
-            answered: Vec::new(alloc),
             is_final: false,
         }
     }
@@ -89,15 +75,10 @@ impl<'a> Table<'a> {
         self.places.get(asked).copied()
     }
 
-    /// What was found to answer the question at a place.
-    pub(crate) fn found(&self, place: usize) -> Option<&Found<'a>> {
+    /// What was found to answer a question.
+    fn found(&self, asked: &Vec<Literal>) -> Option<&Found<'a>> {
+        let place = self.place(asked)?;
         self.entries.get(place)?.found.as_ref()
-    }
-
-    /// The same where its document is used: so many times for each question.
-    fn found_if_used(&self, place: usize, uses: &[usize]) -> Option<&Found<'a>> {
-        self.found(place)
-            .filter(|_| uses.get(place).is_some_and(|times| *times > 0))
     }
 
     /// Where a question is, which is added unless it is there, and looked at later. There may be no room for it.
@@ -153,7 +134,6 @@ impl<'a> Table<'a> {
         };
         entry.found = Some(found);
         let woken = std::mem::replace(&mut entry.waiting, Vec::new(self.alloc));
-        self.answered.push(place)?;
         for waiting in &woken {
             self.put(*waiting)?;
         }
@@ -318,111 +298,55 @@ const MOST_VALUES: usize = 100_000;
 
 const MOST_DEPTH: usize = 127;
 
-/// How many values a document has, and how deep it nests.
-#[derive(Clone, Copy)]
-struct Extent {
-    values: usize,
-    depth: usize,
-}
-
-/// The extent of the document that was found for the question at a place, around all of its parts; none where it is too large.
-fn extent_at(table: &Table<'_>, place: usize, extents: &[Option<Extent>]) -> Option<Extent> {
-    let found = table.found(place)?;
-    let mut values: usize = 1;
-    let mut depth = usize::from(!matches!(found, Found::Scalar(_)));
-    for part in found.parts() {
-        let part = (*extents.get(table.place(part)?)?)?;
-        values = values.saturating_add(part.values);
-        depth = depth.max(part.depth.saturating_add(1));
-    }
-    (values <= MOST_VALUES && depth <= MOST_DEPTH).then_some(Extent { values, depth })
-}
-
-/// The extent of the document that was found for each question.
-fn extents_of(alloc: Global, table: &Table<'_>) -> Made<Vec<Option<Extent>>> {
-    let mut extents = vec![in alloc; None; table.entries.len()]?;
-    for place in &table.answered {
-        let extent = extent_at(table, *place, &extents);
-        if let Some(known) = extents.get_mut(*place) {
-            *known = extent;
-        }
-    }
-    Ok(extents)
-}
-
-/// Counts a use of the document of each part.
-fn count_parts(table: &Table<'_>, uses: &mut Vec<usize>, found: &Found<'_>) {
-    for part in found.parts() {
-        if let Some(place) = table.place(part) {
-            if let Some(times) = uses.get_mut(place) {
-                *times = times.saturating_add(1);
-            }
-        }
-    }
-}
-
-/// How many times the document of each question is used for the first question's one, which is itself used once.
-fn uses_of(alloc: Global, table: &Table<'_>) -> Made<Vec<usize>> {
-    let mut uses = vec![in alloc; 0usize; table.entries.len()]?;
-    if let Some(times) = uses.first_mut() {
-        *times = 1;
-    }
-    for place in table.answered.iter().rev() {
-        if let Some(found) = table.found_if_used(*place, &uses) {
-            count_parts(table, &mut uses, found);
-        }
-    }
-    Ok(uses)
-}
-
-/// The documents that were made so far for the questions of a table, and how many times each is still used. One that isn't used any
-/// more is kept no longer, so that what is kept beside a document is no larger than its parts.
+/// The making of the document that was found for a question, by way of those for its parts.
 #[derive(Drop)]
 struct Making<'t, 'a> {
     alloc: Global,
     table: &'t Table<'a>,
-    docs: BTreeMap<usize, Doc>,
-    uses: Vec<usize>,
+    /// How many values were made.
+    values: usize,
 }
 
 impl Making<'_, '_> {
-    /// The document that was made for the question at a place, if it has one: itself at its last use, and before that a copy.
-    fn take(&mut self, place: Option<usize>) -> Searched<Doc> {
-        let place = place.ok_or(SearchFault::TooManyCases)?;
-        let Some(times) = self.uses.get_mut(place) else {
+    /// The document that was found for a question, which may nest so deep.
+    ///
+    /// # Errors
+    /// `TooManyCases` where it would nest deeper, or have more values than a limit.
+    #[cycle(make)]
+    fn doc_for(&mut self, asked: &Vec<Literal>, depth: usize) -> Searched<Doc> {
+        let table = self.table;
+        let Some(found) = table.found(asked) else {
             return Err(SearchFault::TooManyCases);
         };
-        *times = times.saturating_sub(1);
-        match self.docs.get(&place) {
-            Some(doc) if *times > 0 => Ok(doc.copy(self.alloc)?),
-            Some(_) | None => self.docs.remove(&place).ok_or(SearchFault::TooManyCases),
+        self.values = self.values.saturating_add(1);
+        match found {
+            _ if self.values > MOST_VALUES => Err(SearchFault::TooManyCases),
+            Found::Scalar(doc) => Ok(doc.copy(self.alloc)?),
+            _ if depth == 0 => Err(SearchFault::TooManyCases),
+            Found::List(parts) => self.list_of(parts, depth - 1),
+            Found::Map { chosen, labels } => self.map_of(chosen, labels, depth - 1),
         }
     }
 
-    fn list_of(&mut self, parts: &[Vec<Literal>]) -> Searched<Doc> {
+    #[cycle(make)]
+    fn list_of(&mut self, parts: &[Vec<Literal>], depth: usize) -> Searched<Doc> {
         let mut elements = Vec::with_capacity(self.alloc, parts.len())?;
         for part in parts {
-            elements.push(self.take(self.table.place(part))?)?;
+            let doc = self.doc_for(part, depth)?;
+            elements.push(doc)?;
         }
         Ok(Doc::List(elements))
     }
 
-    fn map_of(&mut self, chosen: &Chosen<'_>, labels: &[&str]) -> Searched<Doc> {
+    #[cycle(make)]
+    fn map_of(&mut self, chosen: &Chosen<'_>, labels: &[&str], depth: usize) -> Searched<Doc> {
         let mut map = BTreeMap::new(self.alloc);
         for (number, part) in chosen.parts.iter().enumerate() {
-            let doc = self.take(self.table.place(part))?;
-            let _ = map.insert(key_at(self.alloc, &chosen.keys, labels, number)?, doc)?;
+            let key = key_at(self.alloc, &chosen.keys, labels, number)?;
+            let doc = self.doc_for(part, depth)?;
+            let _ = map.insert(key, doc)?;
         }
         Ok(Doc::Object(map))
-    }
-
-    /// The document that was found to answer a question.
-    fn doc_of(&mut self, found: &Found<'_>) -> Searched<Doc> {
-        match found {
-            Found::Scalar(doc) => Ok(doc.copy(self.alloc)?),
-            Found::List(parts) => self.list_of(parts),
-            Found::Map { chosen, labels } => self.map_of(chosen, labels),
-        }
     }
 }
 
@@ -443,21 +367,14 @@ fn key_at(alloc: Global, keys: &[Key<'_>], labels: &[&str], number: usize) -> Ma
 /// # Errors
 /// `TooManyCases` where it would have more values than a limit, or nest deeper.
 pub(crate) fn witness_of(alloc: Global, table: &Table<'_>) -> Searched<(Doc, usize)> {
-    let extents = extents_of(alloc, table)?;
-    let Some(Some(extent)) = extents.first() else {
+    let Some(first) = table.entries.first() else {
         return Err(SearchFault::TooManyCases);
     };
     let mut making = Making {
         alloc,
         table,
-        docs: BTreeMap::new(alloc),
-        uses: uses_of(alloc, table)?,
+        values: 0,
     };
-    for place in &table.answered {
-        if let Some(found) = table.found_if_used(*place, &making.uses) {
-            let doc = making.doc_of(found)?;
-            let _ = making.docs.insert(*place, doc)?;
-        }
-    }
-    Ok((making.take(Some(0))?, extent.values))
+    let doc = making.doc_for(&first.asked, MOST_DEPTH)?;
+    Ok((doc, making.values))
 }

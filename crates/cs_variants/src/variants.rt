@@ -36,14 +36,7 @@ impl Walk<'_> {
     /// where the least is asked for: its questions lead to far fewer others. Only memory can run out.
     pub fn variant(&self, place: &Place<'_>, at: Where, is_least: bool) -> Made<Option<Guarded>> {
         let mut draft = Draft::new(self, is_least);
-        for definition in 0..self.package.count() {
-            draft.put_copy(definition, None)?;
-        }
-        let changed = match at {
-            Where::Once => draft.put_copy(place.definition, place.way(place.change))?,
-            Where::Everywhere => draft.put_changed(place)?,
-        };
-        draft.put_way(place.entry, changed)?;
+        draft.put_variant(place, at)?;
         draft.guarded()
     }
 
@@ -70,6 +63,18 @@ impl<'w, 'a> Draft<'w, 'a> {
             definitions: Vec::new(alloc),
             bodies: Vec::new(alloc),
         }
+    }
+
+    /// Puts copies of all definitions, and behind them those on the way to a place, where the change is made.
+    fn put_variant(&mut self, place: &Place<'_>, at: Where) -> Made<()> {
+        for definition in 0..self.walk.package.count() {
+            self.put_copy(definition, None)?;
+        }
+        let changed = match at {
+            Where::Once => self.put_copy(place.definition, place.way(place.change))?,
+            Where::Everywhere => self.put_changed(place)?,
+        };
+        self.put_way(place.entry, changed)
     }
 
     /// The package of these definitions, where it is guarded.

@@ -38,6 +38,7 @@ pub struct Walk<'a> {
 
 /// The places of what the root reaches. Only memory can run out.
 pub fn walk_of(alloc: Global, package: &Package, root: usize, which: Sampled) -> Made<Walk<'_>> {
+    let uses = vec![in alloc; 0; package.count()]?;
     let mut walk = Walk {
         alloc,
         package,
@@ -48,16 +49,12 @@ pub fn walk_of(alloc: Global, package: &Package, root: usize, which: Sampled) ->
         rules: 0,
         turn: 0,
         cost: package.count(),
-        uses: vec![in alloc; 0; package.count()]?,
+        uses,
         entry: 0,
         definition: root,
         steps: Vec::new(alloc),
     };
-    walk.reach(root)?;
-    walk.put_rule(Sampled::Valid, &[Change::Same])?;
-    for entry in 0..package.count() {
-        walk.visit_entry(entry)?;
-    }
+    walk.visit_all()?;
     Ok(walk)
 }
 
@@ -83,6 +80,16 @@ impl<'a> Walk<'a> {
     /// The place of the reference by which an entry was reached; the root has none.
     pub(crate) fn reference_to(&self, entry: usize) -> Option<&Place<'a>> {
         self.reached.get(entry)?.from.as_ref()
+    }
+
+    /// Visits what the root reaches, the root first.
+    fn visit_all(&mut self) -> Made<()> {
+        self.reach(self.root)?;
+        self.put_rule(Sampled::Valid, &[Change::Same])?;
+        for entry in 0..self.package.count() {
+            self.visit_entry(entry)?;
+        }
+        Ok(())
     }
 
     /// Visits the definition of an entry, if there is one.
