@@ -1,5 +1,5 @@
 -- What the tokens, expressions and files of the code stand for.
-use Rattle.std.specs.Prelude.{ℕ, Bool, List, [], ◌∷◌, map, string_bytes}
+use Rattle.std.specs.Prelude.{ℕ, Bool, List, [], ◌∷◌, map, Option, Some, None, string_bytes}
 use Rattle.std.specs.Option.{option_map}
 use Rattle.cs_grammar.specs.declared.ast.Expr.{Expr, fold-Expr}
 use Rattle.cs_grammar.specs.declared.ast.Declaration.TheOpen.{Expr-F, Field-F, ListEnd-F, Wide-F, Declaration-F}
@@ -80,6 +80,12 @@ pub data SeenDeclaration : Type 0 where
   field_seen : Seen → SeenDeclaration
   embedding_seen : ℕ → Tree → SeenDeclaration
   conditional_seen : ℕ → List Condition → Tree → SeenDeclaration
+
+-- the field that a declaration is
+abbrev pub declared_field : SeenDeclaration → Option Seen
+declared_field (field_seen f) = Some f
+declared_field (embedding_seen o e) = None
+declared_field (conditional_seen o cs e) = None
 
 abbrev pub declarations_of : List SeenDeclaration → Declarations
 declarations_of [] = T.no_declaration

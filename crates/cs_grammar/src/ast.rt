@@ -1,13 +1,13 @@
 // The tree that a file spells.
 ghost use Rattle.std.specs.Prelude.{◌≡◌, true, IfOk};
 ghost use Rattle.cs_grammar.specs.Atoms.{is_atom};
-ghost use Rattle.cs_grammar.specs.View.{expr_view};
+ghost use Rattle.std.specs.Option.{option_map};
+ghost use Rattle.cs_grammar.specs.View.{declaration_view, declared_field, expr_view, field_view};
 
 use std::alloc::AllocError;
 use std::fmt;
 
 /// A file: its package clause, if it has one, and its definitions and its other names, each in order.
-#[derive(Drop)]
 pub struct File {
     pub package: Option<String>,
     pub definitions: Vec<Definition>,
@@ -15,9 +15,18 @@ pub struct File {
     pub names: Vec<Name>,
 }
 
+impl Drop for File {
+    fn drop(self) {
+        let File {
+            package: _,
+            definitions: _,
+            names: _,
+        } = self;
+    }
+}
+
 /// A name that a file of the wide profile declares and that is no definition: a hidden definition `_#n`, a field `n` or `_n`, or `n` of `let n = e` (CUE,
 /// let clauses).
-#[derive(Drop)]
 pub struct Name {
     /// As it is written, with `_` or `_#`.
     pub label: String,
@@ -28,17 +37,37 @@ pub struct Name {
     pub value: Expr,
 }
 
+impl Drop for Name {
+    fn drop(self) {
+        let Name {
+            label: _,
+            is_bound: _,
+            at: _,
+            value: _,
+        } = self;
+    }
+}
+
 /// A definition: its name without `#`, the offset of the name, and its body.
-#[derive(Drop)]
 pub struct Definition {
     pub name: String,
     pub at: usize,
     pub body: Expr,
 }
 
+impl Drop for Definition {
+    fn drop(self) {
+        let Definition {
+            name: _,
+            at: _,
+            body: _,
+        } = self;
+    }
+}
+
 /// An expression (CUE, expressions). A parenthesis is kept.
 #[cycle(ast)]
-#[derive(Debug, Drop)]
+#[derive(Debug)]
 pub enum Expr {
     /// `_`, which admits every document.
     Top,
@@ -88,9 +117,41 @@ pub enum Expr {
     Wide(Wide),
 }
 
+impl Drop for Expr {
+    #[cycle(ast_drop)]
+    fn drop(self) {
+        match self {
+            Expr::Top
+            | Expr::Bottom
+            | Expr::Null
+            | Expr::Bool(_)
+            | Expr::Int(_)
+            | Expr::Text(_)
+            | Expr::Bound {
+                relation: _,
+                limit: _,
+            }
+            | Expr::NotInt(_)
+            | Expr::NotText(_)
+            | Expr::NotNull => {}
+            Expr::Name { text: _, at: _ } => {}
+            Expr::Reference { text: _, at: _ } => {}
+            Expr::And(_) => {}
+            Expr::Or(_) => {}
+            Expr::Paren(_) => {}
+            Expr::Struct {
+                at: _,
+                fields: _,
+                opened: _,
+            } => {}
+            Expr::List { front: _, end: _ } => {}
+            Expr::Wide(_) => {}
+        }
+    }
+}
+
 /// The forms of expressions that the wide profile takes beside those of the default one.
 #[cycle(ast)]
-#[derive(Drop)]
 pub enum Wide {
     /// `*e`: the operand of a disjunction that is meant where a field is missing, and the offset of its mark (CUE, default values).
     Marked {
@@ -118,6 +179,26 @@ pub enum Wide {
     },
 }
 
+impl Drop for Wide {
+    #[cycle(ast_drop)]
+    fn drop(self) {
+        match self {
+            Wide::Marked { at: _, value: _ } => {}
+            Wide::Merged {
+                at: _,
+                declarations: _,
+                opened: _,
+            } => {}
+            Wide::Shut { at: _, value: _ } => {}
+            Wide::Selected {
+                at: _,
+                name: _,
+                labels: _,
+            } => {}
+        }
+    }
+}
+
 impl fmt::Debug for Wide {
     /// Its parts aren't shown: where trees are shown, they are those of the default profile, which has none of these forms.
     fn fmt<W: fmt::Write>(&self, f: &mut fmt::Formatter<W>) -> fmt::Result {
@@ -126,7 +207,6 @@ impl fmt::Debug for Wide {
 }
 
 /// What a selector asks for.
-#[derive(Drop)]
 pub struct Selector {
     /// As it is written without quotes, of a definition with its `#`.
     pub label: String,
@@ -135,9 +215,18 @@ pub struct Selector {
     pub at: usize,
 }
 
+impl Drop for Selector {
+    fn drop(self) {
+        let Selector {
+            label: _,
+            quoted: _,
+            at: _,
+        } = self;
+    }
+}
+
 /// A declaration of a struct literal with embeddings or conditions.
 #[cycle(ast)]
-#[derive(Drop)]
 pub enum Declaration {
     Field(Field),
     /// An expression that is embedded, and the offset at which it begins.
@@ -154,8 +243,39 @@ pub enum Declaration {
     },
 }
 
+impl Drop for Declaration {
+    #[cycle(ast_drop)]
+    fn drop(self) {
+        match self {
+            Declaration::Field(_) => {}
+            Declaration::Embedded { at: _, value: _ } => {}
+            Declaration::Conditional {
+                at: _,
+                conditions: _,
+                value: _,
+            } => {}
+        }
+    }
+}
+
+impl Declaration {
+    /// The field that it is.
+    pub fn into_field(self) -> Option<Field>
+        ensures { option_map field_view result ≡ declared_field (declaration_view self) }
+    {
+        match self {
+            Declaration::Field(field) => Some(field),
+            Declaration::Embedded { at: _, value: _ } => None,
+            Declaration::Conditional {
+                at: _,
+                conditions: _,
+                value: _,
+            } => None,
+        }
+    }
+}
+
 /// What an `if` asks of a field of the literal that it stands in.
-#[derive(Drop)]
 pub struct Condition {
     /// The label of the field, a name.
     pub label: String,
@@ -166,8 +286,18 @@ pub struct Condition {
     pub is_met: bool,
 }
 
+impl Drop for Condition {
+    fn drop(self) {
+        let Condition {
+            label: _,
+            at: _,
+            test: _,
+            is_met: _,
+        } = self;
+    }
+}
+
 /// What is asked of the value of a field.
-#[derive(Drop)]
 pub enum Test {
     /// `f != _|_`: the field is there.
     Present,
@@ -179,8 +309,21 @@ pub enum Test {
     Compares { relation: Relation, limit: i64 },
 }
 
+impl Drop for Test {
+    fn drop(self) {
+        match self {
+            Test::Present => {}
+            Test::True => {}
+            Test::Equals(_) => {}
+            Test::Compares {
+                relation: _,
+                limit: _,
+            } => {}
+        }
+    }
+}
+
 /// A literal that a field is compared with.
-#[derive(Drop)]
 pub enum Scalar {
     Null,
     Bool(bool),
@@ -188,10 +331,21 @@ pub enum Scalar {
     Text(String),
 }
 
+impl Drop for Scalar {
+    fn drop(self) {
+        match self {
+            Scalar::Null => {}
+            Scalar::Bool(_) => {}
+            Scalar::Int(_) => {}
+            Scalar::Text(_) => {}
+        }
+    }
+}
+
 /// A field of a struct literal. Of `[string]: T` the label is empty and `quoted` is true, so no name can name it. In the wide profile a literal may declare
 /// names too, which are no fields of the data (CUE, definitions and hidden fields, let clauses).
 #[cycle(ast)]
-#[derive(Debug, Drop)]
+#[derive(Debug)]
 pub struct Field {
     pub label: String,
     pub quoted: bool,
@@ -205,8 +359,23 @@ pub struct Field {
     pub site: Site,
 }
 
+impl Drop for Field {
+    #[cycle(ast_drop)]
+    fn drop(self) {
+        let Field {
+            label: _,
+            quoted: _,
+            asked: _,
+            scoped: _,
+            mark: _,
+            value: _,
+            site: _,
+        } = self;
+    }
+}
+
 /// Where a field is declared. No rule goes by it: it is for those who tell people of the field.
-#[derive(Debug, Drop)]
+#[derive(Debug)]
 pub struct Site {
     /// The offset of its label. Where it was put together from several declarations, that of the first one that isn't optional, or of the first.
     pub at: usize,
@@ -214,6 +383,16 @@ pub struct Site {
     pub by: Option<usize>,
     /// The offsets of the labels of all declarations that it was put together from, in their order; none where it is one.
     pub all: Vec<usize>,
+}
+
+impl Drop for Site {
+    fn drop(self) {
+        let Site {
+            at: _,
+            by: _,
+            all: _,
+        } = self;
+    }
 }
 
 impl Site {
@@ -308,11 +487,22 @@ pub enum FieldMark {
 
 /// What follows the last fixed element of a list: nothing, `...`, or `...T`.
 #[cycle(ast)]
-#[derive(Debug, Drop)]
+#[derive(Debug)]
 pub enum ListEnd {
     Closed,
     Any,
     Each(Box<Expr>),
+}
+
+impl Drop for ListEnd {
+    #[cycle(ast_drop)]
+    fn drop(self) {
+        match self {
+            ListEnd::Closed => {}
+            ListEnd::Any => {}
+            ListEnd::Each(_) => {}
+        }
+    }
 }
 
 /// The relation of a bound: `<`, `<=`, `>`, `>=`.

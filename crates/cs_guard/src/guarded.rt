@@ -20,10 +20,18 @@ use std::alloc::{AllocError, Global};
 use std::marker::Model;
 
 /// A package without a cycle of strong references and without a chain of more than 64 of them.
-#[derive(Drop)]
 pub struct Guarded {
     package: Package,
     ranks: Vec<usize>,
+}
+
+impl Drop for Guarded {
+    fn drop(self) {
+        let Guarded {
+            package: _,
+            ranks: _,
+        } = self;
+    }
 }
 
 impl Model for Guarded {

@@ -16,10 +16,18 @@ pub type NameTable = IndexMap<String, String>;
 
 /// A package: definitions in order of first declaration, each with all its bodies, by file and then by text.
 /// A definition's number is its place in that order.
-#[derive(Drop)]
 pub struct Package {
     names: NameTable,
     bodies: Vec<Vec<Shape>>,
+}
+
+impl Drop for Package {
+    fn drop(self) {
+        let Package {
+            names: _,
+            bodies: _,
+        } = self;
+    }
 }
 
 impl Model for Package {

@@ -4,7 +4,6 @@ use cs_grammar::{FieldMark, Relation};
 /// A resolved expression: names are replaced by the kinds and ranges that they name, references by the
 /// numbers of definitions, and parentheses are taken away (CUE, expressions).
 #[cycle(shapes)]
-#[derive(Drop)]
 pub enum Shape {
     /// `_`.
     Top,
@@ -35,22 +34,76 @@ pub enum Shape {
     List { front: Vec<Shape>, end: ShapeEnd },
 }
 
+impl Drop for Shape {
+    #[cycle(shapes_drop)]
+    fn drop(self) {
+        match self {
+            Shape::Top
+            | Shape::Bottom
+            | Shape::Null
+            | Shape::Bool(_)
+            | Shape::Int(_)
+            | Shape::Text(_)
+            | Shape::Kind(_)
+            | Shape::Range {
+                least: _,
+                greatest: _,
+            }
+            | Shape::Definition(_)
+            | Shape::Bound {
+                relation: _,
+                limit: _,
+            }
+            | Shape::NotInt(_)
+            | Shape::NotText(_)
+            | Shape::NotNull
+            | Shape::And(_)
+            | Shape::Or(_)
+            | Shape::Struct {
+                parts: _,
+                opened: _,
+            }
+            | Shape::List { front: _, end: _ } => {}
+        }
+    }
+}
+
 /// A declaration of a struct literal.
 #[cycle(shapes)]
-#[derive(Drop)]
 pub struct Part {
     pub label: String,
     pub mark: FieldMark,
     pub value: Shape,
 }
 
+impl Drop for Part {
+    #[cycle(shapes_drop)]
+    fn drop(self) {
+        let Part {
+            label: _,
+            mark: _,
+            value: _,
+        } = self;
+    }
+}
+
 /// What follows the fixed elements of a list: nothing, `...`, or `...` and an expression.
 #[cycle(shapes)]
-#[derive(Drop)]
 pub enum ShapeEnd {
     Closed,
     Any,
     Each(Box<Shape>),
+}
+
+impl Drop for ShapeEnd {
+    #[cycle(shapes_drop)]
+    fn drop(self) {
+        match self {
+            ShapeEnd::Closed => {}
+            ShapeEnd::Any => {}
+            ShapeEnd::Each(_) => {}
+        }
+    }
 }
 
 /// The predeclared kinds: `int`, `number`, `string`, `bool`.

@@ -20,6 +20,7 @@ use crate::standing::Standing;
 use cs_grammar::{Definition, File, copied_names};
 use std::alloc::{AllocError, Global};
 use std::collections::BTreeSet;
+use std::mem;
 
 /// The same name of a package clause, if there is one.
 fn copied_clause(clause: &Option<String>) -> Result<Option<String>, AllocError>
@@ -214,20 +215,12 @@ fn kept_definitions(
 }
 
 /// A file without them.
-fn kept_file(alloc: Global, gone: &BTreeSet<&str>, file: File) -> Result<File, AllocError>
+fn kept_file(alloc: Global, gone: &BTreeSet<&str>, mut file: File) -> Result<File, AllocError>
     ensures { (ss : List (List ℕ)) → TellsTexts gone.now ss → IfOk result (λ f. file_view f ≡ without_gone ss (file_view file)) }
 {
-    let File {
-        package,
-        definitions,
-        names,
-    } = file;
-    let definitions = kept_definitions(alloc, gone, definitions)?;
-    Ok(File {
-        package,
-        definitions,
-        names,
-    })
+    let definitions = mem::replace(&mut file.definitions, Vec::new(alloc));
+    file.definitions = kept_definitions(alloc, gone, definitions)?;
+    Ok(file)
 }
 
 /// Files without them.

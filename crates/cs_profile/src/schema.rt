@@ -18,16 +18,24 @@ pub enum JsonKind {
 
 /// A schema: a truth value, or the conjunction of its keywords (JSON Schema Core 2020-12, section 4.3).
 #[cycle(schema)]
-#[derive(Drop)]
 pub enum Schema {
     Always(bool),
     Object(Box<Keywords>),
 }
 
+impl Drop for Schema {
+    #[cycle(schema_drop)]
+    fn drop(self) {
+        match self {
+            Schema::Always(_) => {}
+            Schema::Object(_) => {}
+        }
+    }
+}
+
 /// The keywords of a schema object that say something of validity. One that is left out is `None`, or an
 /// empty list or map; an empty `enum` is kept, so `one_of` is an `Option`.
 #[cycle(schema)]
-#[derive(Drop)]
 pub struct Keywords {
     /// `type`
     pub kind: Option<JsonKind>,
@@ -65,8 +73,32 @@ pub struct Keywords {
     pub reference: Option<String>,
 }
 
+impl Drop for Keywords {
+    #[cycle(schema_drop)]
+    fn drop(self) {
+        let Keywords {
+            kind: _,
+            equal: _,
+            one_of: _,
+            minimum: _,
+            maximum: _,
+            above: _,
+            below: _,
+            min_items: _,
+            required: _,
+            properties: _,
+            additional: _,
+            rest: _,
+            negated: _,
+            prefix: _,
+            all_of: _,
+            any_of: _,
+            reference: _,
+        } = self;
+    }
+}
+
 /// A keyword's value, by its form.
-#[derive(Drop)]
 pub enum KeywordValue {
     /// What says nothing of validity: a dialect, a text.
     Nothing,
@@ -81,6 +113,23 @@ pub enum KeywordValue {
     Schema(Schema),
     Schemas(Vec<Schema>),
     NamedSchemas(BTreeMap<String, Schema>),
+}
+
+impl Drop for KeywordValue {
+    fn drop(self) {
+        match self {
+            KeywordValue::Nothing
+            | KeywordValue::Reference(_)
+            | KeywordValue::Kind(_)
+            | KeywordValue::Anything(_)
+            | KeywordValue::Array(_)
+            | KeywordValue::Integer(_)
+            | KeywordValue::Texts(_)
+            | KeywordValue::Schema(_)
+            | KeywordValue::Schemas(_)
+            | KeywordValue::NamedSchemas(_) => {}
+        }
+    }
 }
 
 impl Keywords {

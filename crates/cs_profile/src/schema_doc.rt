@@ -16,13 +16,23 @@ use std::marker::Model;
 
 /// A schema document: a root schema with its definitions (JSON Schema Core 2020-12, sections 4.3.1 and 8.2.4).
 /// It has only keywords of the profile, each `$ref` names a definition, and no definition reaches itself directly.
-#[derive(Drop)]
 pub struct SchemaDoc {
     root: Schema,
     definitions: BTreeMap<String, Schema>,
     numbers: Numbers,
     /// The rank of each definition, by its number.
     ranks: Vec<usize>,
+}
+
+impl Drop for SchemaDoc {
+    fn drop(self) {
+        let SchemaDoc {
+            root: _,
+            definitions: _,
+            numbers: _,
+            ranks: _,
+        } = self;
+    }
 }
 
 impl Model for SchemaDoc {

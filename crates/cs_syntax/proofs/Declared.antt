@@ -8,9 +8,8 @@ use Rattle.std.specs.Prelude.{suc}
 use Rattle.cs_grammar.specs.declared.ast.Declaration.{Declaration}
 use Rattle.cs_grammar.specs.declared.ast.Field.{Field}
 use Rattle.cs_grammar.specs.Tree.{Fields, field}
-use Rattle.cs_grammar.specs.View.{Seen, SeenDeclaration, field_seen, embedding_seen, conditional_seen, fields_of, field_view, fields_view, declaration_view, declarations_view, declarations_of}
+use Rattle.cs_grammar.specs.View.{Seen, SeenDeclaration, field_seen, embedding_seen, conditional_seen, fields_of, field_view, fields_view, declaration_view, declarations_view, declarations_of, declared_field}
 use Rattle.cs_grammar.specs.Spells.{fields_alone}
-use Rattle.cs_syntax.specs.Left.{declared_field}
 
 -- ---- whether each declaration is a field
 

@@ -12,7 +12,7 @@ use Rattle.cs_syntax.specs.declared.parser.nesting.NestingState as rust
 use Rattle.cs_syntax.specs.Counting.{NestingState}
 use Rattle.cs_grammar.specs.Words.{Words}
 use Rattle.cs_grammar.specs.Tree.{Label, Test, DefinitionTree, NameTree}
-use Rattle.cs_grammar.specs.View.{lexemes_view, label_of, test_view, definition_view, name_view, Seen, SeenDeclaration, field_seen, embedding_seen, conditional_seen}
+use Rattle.cs_grammar.specs.View.{lexemes_view, label_of, test_view, definition_view, name_view}
 use Rattle.cs_grammar.specs.TokenWords.{words}
 use Rattle.cs_syntax.specs.Reading.{◌>>=◌, Fails}
 
@@ -79,14 +79,6 @@ viewed_before view (x ∷ xs) rest = view x ∷ viewed_before view xs rest
 -- what was read before, and what is still read
 abbrev pub with_front : {X A : Type 0} → (X → A) → List X → Result (List A × Words) SyntaxFault → Result (List A × Words) SyntaxFault
 with_front view xs read = read >>= λ y. Ok (viewed_before view xs y.0, y.1)
-
--- ---- declarations of a literal
-
--- the field that a declaration is
-abbrev pub declared_field : SeenDeclaration → Option Seen
-declared_field (field_seen f) = Some f
-declared_field (embedding_seen o e) = None
-declared_field (conditional_seen o cs e) = None
 
 -- ---- the nesting of tokens
 

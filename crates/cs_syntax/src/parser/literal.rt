@@ -4,8 +4,7 @@ ghost use Rattle.std.specs.Prelude.{◌≡◌, [], ◌∷◌, Some, IfOk};
 ghost use Rattle.cs_grammar.specs.View.{expr_view, field_view, fields_view, declaration_view, declarations_view, declarations_of};
 ghost use Rattle.cs_grammar.specs.Spells.{fields_alone, literal};
 ghost use Rattle.cs_grammar.specs.Tree.{Fields};
-ghost use Rattle.std.specs.Option.{is_some, option_map};
-ghost use Rattle.cs_syntax.specs.Left.{declared_field};
+ghost use Rattle.std.specs.Option.{is_some};
 
 use cs_grammar::{Declaration, Expr, Field, Wide};
 use std::alloc::{AllocError, Global};
@@ -33,16 +32,6 @@ fn are_fields(declarations: &[Declaration]) -> bool
     true
 }
 
-/// The field that a declaration is.
-fn declared_field(declaration: Declaration) -> Option<Field>
-    ensures { option_map field_view result ≡ declared_field (declaration_view declaration) }
-{
-    match declaration {
-        Declaration::Field(field) => Some(field),
-        Declaration::Embedded { .. } | Declaration::Conditional { .. } => None,
-    }
-}
-
 /// The fields among the declarations.
 fn fields_among(alloc: Global, declarations: Vec<Declaration>) -> Result<Vec<Field>, AllocError>
     ensures { IfOk result (λ v. (fs : Fields)
@@ -51,7 +40,7 @@ fn fields_among(alloc: Global, declarations: Vec<Declaration>) -> Result<Vec<Fie
 {
     let mut fields = Vec::new(alloc);
     for declaration in declarations {
-        if let Some(field) = declared_field(declaration) {
+        if let Some(field) = declaration.into_field() {
             fields.push(field)?;
         }
     }
