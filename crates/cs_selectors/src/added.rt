@@ -64,8 +64,8 @@ impl<'a> Referring<'_, '_, 'a> {
     {
         let (home, at) = given.home;
         if home == file {
-            let body = self.together(&given.values)?;
             let name = given.name.clone()?;
+            let body = self.together(&given.values)?;
             found.push(Definition { name, at, body })?;
         }
         Ok(())
@@ -91,8 +91,8 @@ impl<'a> Referring<'_, '_, 'a> {
         ensures { (by : List ℕ → List Tree.Selector → List ℕ) → TellsNames self.now.giving.now by
             → IfOk result (λ d. definition_view d ≡ referring_definition by (definition_view definition.now)) }
     {
-        let body = self.referring(&definition.body)?;
         let name = definition.name.clone()?;
+        let body = self.referring(&definition.body)?;
         Ok(Definition {
             name,
             at: definition.at,

@@ -1,10 +1,14 @@
 // What files stand for without selectors.
-ghost use Rattle.std.specs.Prelude.{◌≡◌, [], map, IfOk, IfErr, IsOkUnless};
+ghost use Rattle.std.specs.Prelude.{◌≡◌, List, [], map, IfOk, IfErr, IsOkUnless};
+ghost use Rattle.cs_grammar.specs.Tree.{DefinitionTree};
 ghost use Rattle.cs_grammar.specs.View.{file_view};
+ghost use Rattle.cs_plain.specs.Bodies.{Body};
+ghost use Rattle.cs_plain.specs.Placed as Placed;
 ghost use Rattle.cs_plain.specs.References.{TellsTexts};
-ghost use Rattle.cs_selectors.specs.Checks.{given_view};
+ghost use Rattle.cs_selectors.specs.Checks.{TellsGifts, given_view};
+ghost use Rattle.cs_selectors.specs.Given as Gifts;
 ghost use Rattle.cs_selectors.specs.Given.{given_names};
-ghost use Rattle.cs_selectors.specs.Selectors.{AreFew, AreUnselected, IsRefusal, selector_faults};
+ghost use Rattle.cs_selectors.specs.Selectors.{AreFew, AreUnselected, IsRefusal, selector_faults, unselected_from};
 
 use crate::SelectorFault;
 use crate::added::unselected_files;
@@ -29,6 +33,16 @@ fn given_names<'g>(alloc: Global, order: &'g [Given<'_>]) -> Result<BTreeSet<&'g
     Ok(names)
 }
 
+/// The files without selectors, with the definitions that these are given.
+fn given_files<'a>(giving: &Giving<'_, 'a>, files: &'a [File]) -> Result<Vec<File>, AllocError>
+    ensures { (all : List DefinitionTree) (bs : List Body) (gs : List Gifts.Given) → TellsGifts giving.now all bs gs
+        → IfOk result (λ v. map file_view v.items ≡ Placed.in_places (given_names gs) (unselected_from gs 0 (map file_view files.now))) }
+{
+    let names = given_names(giving.alloc, &giving.order)?;
+    let unselected = unselected_files(giving, files)?;
+    in_places(giving.alloc, &names, &unselected)
+}
+
 /// The files that files of the wide profile stand for, each at its place: each selector is the reference to a definition of its own, which has the values
 /// that the selector asks for, is where the first selector is that asks for them, and stands behind the definitions of that file (CUE, selectors). Where
 /// what it asks for is plain (no parts, a kind, or at most eight of these as operands of `&` or `|`), that is in the place of the selectors in the file of the
@@ -49,7 +63,5 @@ pub fn without_selectors(alloc: Global, files: &[File]) -> Result<Vec<File>, Sel
         return Err(SelectorFault::TooLarge);
     }
     let giving = Giving::of(alloc, files, &bodies, &selectors)?;
-    let names = given_names(alloc, &giving.order)?;
-    let unselected = unselected_files(&giving, files)?;
-    Ok(in_places(alloc, &names, &unselected)?)
+    Ok(given_files(&giving, files)?)
 }

@@ -134,8 +134,9 @@ impl<'a> Referring<'_, '_, 'a> {
         ensures { (by : List ℕ → List Tree.Selector → List ℕ) → TellsNames self.now.giving.now by
             → IfOk result (λ f. field_view f ≡ referring_field_seen by (field_view field.now)) }
     {
-        let value = self.referring(&field.value)?;
         let label = field.label.clone()?;
+        let site = field.site.copy()?;
+        let value = self.referring(&field.value)?;
         Ok(Field {
             label,
             quoted: field.quoted,
@@ -143,7 +144,7 @@ impl<'a> Referring<'_, '_, 'a> {
             scoped: field.scoped,
             mark: field.mark,
             value,
-            site: field.site.copy()?,
+            site,
         })
     }
 

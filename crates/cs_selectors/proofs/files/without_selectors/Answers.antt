@@ -6,10 +6,8 @@ use Rattle.cs_grammar.specs.Tree.{FileTree}
 use Rattle.cs_grammar.specs.View.{file_view}
 use Rattle.cs_names.specs.Lifted.{all_definitions}
 use Rattle.cs_plain.specs.Bodies.{bodies_in}
-use Rattle.cs_plain.specs.Placed.{in_places}
-use Rattle.cs_plain.specs.References.{TellsTexts}
-use Rattle.cs_selectors.specs.Checks.{FailsAny, TellsGifts, given_view, use_view}
-use Rattle.cs_selectors.specs.Given.{given_names, gifts, with_all}
+use Rattle.cs_selectors.specs.Checks.{FailsAny, TellsGifts, use_view}
+use Rattle.cs_selectors.specs.Given.{gifts, with_all}
 use Rattle.cs_selectors.specs.Selectors.{AreFew, fault_of}
 use Rattle.cs_selectors.specs.Uses.{uses_from}
 use Rattle.cs_selectors.specs.declared.uses.Use.{Use}
@@ -37,11 +35,9 @@ returns-clause-found c =
     let all = all_definitions fs in
     let bs = bodies_in fs in
     let is : map use_view c.deref.result.now ≡ uses_from 0 fs = ap (map use_view) c.deref.ensures.value ∙ c.in_ok-selectors.ensures in
-    let tells = subst (λ us. TellsGifts c.in_ok-giving.giving all bs (with_all all bs [] us)) is (c.in_ok-giving.ensures.given bs c.in_ok-bodies.ensures) in
-    let ns = given_names (gifts fs) in
-    let told = subst (λ gs. TellsTexts c.in_ok-names.names (given_names gs)) (ap (map given_view) c.deref-2.ensures.value ∙ tells.order) c.in_ok-names.ensures in record {
+    let tells = subst (λ us. TellsGifts c.in_ok-giving.giving all bs (with_all all bs [] us)) is (c.in_ok-giving.ensures.given bs c.in_ok-bodies.ensures) in record {
       few = few_selectors c.in_ok-selectors.selectors.items fs c.in_ok-selectors.ensures (omega (arith, c.len.ensures, c.if-len-gt-MOST_SELECTORS.false));
       faultless = ap (flat_map (fault_of bs)) (sym is) ∙ c.in_ok-giving.ensures.found bs c.in_ok-bodies.ensures;
       apart = tells.apart;
-      unselected = c.in_ok-in_places.ensures ns told ∙ ap (λ gs. in_places ns (map file_view gs)) c.deref-3.ensures.value ∙ ap (in_places ns) (c.in_ok-unselected.ensures all bs (gifts fs) tells);
+      unselected = c.in_ok-given_files.ensures all bs (gifts fs) tells;
     }

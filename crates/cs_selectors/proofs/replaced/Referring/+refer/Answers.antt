@@ -1,8 +1,8 @@
 use Rattle.std.proofs.Common.{◌≡◌, map, sym, ap, ap₂, subst, ◌∙◌, IfOk}
 use Rattle.std.proofs.lemmas.List.{take_all}
-use Rattle.cs_grammar.specs.Tree.{list, wide, merged}
-use Rattle.cs_grammar.specs.View.{expr_view, exprs_view, trees_of, fields_of, declarations_of, wide_view, field_view, declaration_view, declarations_view, condition_view, field_seen, embedding_seen, conditional_seen}
-use Rattle.cs_grammar.proofs.Views.{view-List, view-Wide, view-Merged, view-declared-field, view-embedded, view-conditional}
+use Rattle.cs_grammar.specs.Tree.{conjunction, paren, struct, list, wide, marked, merged, shut}
+use Rattle.cs_grammar.specs.View.{expr_view, exprs_view, trees_of, fields_of, fields_view, declarations_of, wide_view, field_view, declaration_view, declarations_view, condition_view, field_seen, embedding_seen, conditional_seen}
+use Rattle.cs_grammar.proofs.Views.{view-And, view-Paren, view-Struct, view-List, view-Wide, view-Marked, view-Merged, view-Shut, view-declared-field, view-embedded, view-conditional}
 use Rattle.cs_plain.specs.Selecting as Spec
 use Rattle.cs_plain.proofs.Walks.{map_pushed}
 use Rattle.cs_selectors.specs.Checks.{referring_field_seen, referring_seen, referring_wide}
@@ -65,3 +65,53 @@ referring_form-returns-in_ok-declarations-in-Merged t c by tells =
     let made = c.in_ok-declarations-in-Merged.ensures by tells ∙ ap (λ ds. Spec.referring_declarations by (declarations_view ds)) c.deref-in-Merged.ensures.value in
     let is = ap (referring_wide by) (ap wide_view c.in-Merged.is ∙ view-Merged o c.in-Merged.declarations opened) in
     view-Wide _ ∙ ap wide (view-Merged o c.in_ok-declarations-in-Merged.declarations opened) ∙ ap (λ ds. wide (merged o ds opened)) made ∙ sym is
+
+-- ---- lists
+
+pub referring_each-loop-expr-preserved : goal.referring_each-loop-expr-preserved
+referring_each-loop-expr-preserved t c by tells =
+    map_pushed (λ e. Spec.referring by (expr_view e)) expr_view c.args.exprs.now c.loop-expr.expr-index c.expr-item.result
+    c.loop-expr-test.true c.expr-item.is _ _ _ c.in_ok-push.ensures.items (c.loop-expr.invariant by tells) (c.in_ok-referring-2.ensures by tells)
+
+pub referring_fields-loop-field-preserved : goal.referring_fields-loop-field-preserved
+referring_fields-loop-field-preserved t c by tells =
+    map_pushed (λ f. referring_field_seen by (field_view f)) field_view c.args.fields.now c.loop-field.field-index c.field-item.result
+    c.loop-field-test.true c.field-item.is _ _ _ c.in_ok-push.ensures.items (c.loop-field.invariant by tells) (c.in_ok-referring_field.ensures by tells)
+
+-- ---- other forms
+
+pub referring-returns-in_ok-referring_each-in-And : goal.referring-returns-in_ok-referring_each-in-And
+referring-returns-in_ok-referring_each-in-And t c by tells =
+    let is = ap (Spec.referring by) (ap expr_view c.in-And.is ∙ view-And c.in-And.operands) in
+    let made = c.in_ok-referring_each-in-And.ensures by tells ∙ ap (λ es. Spec.referring_each by (exprs_view es)) c.deref.ensures.value in
+    view-And c.in_ok-referring_each-in-And.field-0 ∙ ap conjunction made ∙ sym is
+
+pub referring-returns-in_ok-new-in-Paren : goal.referring-returns-in_ok-new-in-Paren
+referring-returns-in_ok-new-in-Paren t c by tells =
+    let is = ap (Spec.referring by) (ap expr_view c.in-Paren.is ∙ view-Paren c.in-Paren.inside) in
+    let made = c.in_ok-inside-in-Paren.ensures by tells ∙ ap (λ e. Spec.referring by (expr_view e)) c.deref-in-Paren.ensures in
+    view-Paren c.in_ok-new-in-Paren.field-0 ∙ ap (λ e. paren (expr_view e)) c.in_ok-new-in-Paren.ensures.ok ∙ ap paren made ∙ sym is
+
+pub referring-returns-in_ok-fields-in-Struct : goal.referring-returns-in_ok-fields-in-Struct
+referring-returns-in_ok-fields-in-Struct t c by tells =
+    let o = c.in-Struct.at in
+    let opened = c.in-Struct.opened in
+    let is = ap (Spec.referring by) (ap expr_view c.in-Struct.is ∙ view-Struct o c.in-Struct.fields opened) in
+    let made = c.in_ok-fields-in-Struct.ensures by tells ∙ ap (λ fs. Spec.referring_fields by (fields_view fs)) c.deref-in-Struct.ensures.value in
+    view-Struct o c.in_ok-fields-in-Struct.fields opened ∙ ap (λ fs. struct o fs opened) made ∙ sym is
+
+pub referring_form-returns-in_ok-value-in-Marked-2 : goal.referring_form-returns-in_ok-value-in-Marked-2
+referring_form-returns-in_ok-value-in-Marked-2 t c by tells =
+    let o = c.in-Marked.at in
+    let v = c.in_ok-value-in-Marked-2 in
+    let is = ap (referring_wide by) (ap wide_view c.in-Marked.is ∙ view-Marked o c.in-Marked.value) in
+    let made = c.in_ok-value-in-Marked.ensures by tells ∙ ap (λ e. Spec.referring by (expr_view e)) c.deref.ensures in
+    view-Wide _ ∙ ap wide (view-Marked o v.value ∙ ap (λ e. marked o (expr_view e)) v.ensures.ok ∙ ap (marked o) made) ∙ sym is
+
+pub referring_form-returns-in_ok-value-in-Shut-2 : goal.referring_form-returns-in_ok-value-in-Shut-2
+referring_form-returns-in_ok-value-in-Shut-2 t c by tells =
+    let o = c.in-Shut.at in
+    let v = c.in_ok-value-in-Shut-2 in
+    let is = ap (referring_wide by) (ap wide_view c.in-Shut.is ∙ view-Shut o c.in-Shut.value) in
+    let made = c.in_ok-value-in-Shut.ensures by tells ∙ ap (λ e. Spec.referring by (expr_view e)) c.deref-in-Shut.ensures in
+    view-Wide _ ∙ ap wide (view-Shut o v.value ∙ ap (λ e. shut o (expr_view e)) v.ensures.ok ∙ ap (shut o) made) ∙ sym is
