@@ -35,6 +35,20 @@ check_each-returns-in_err-check t c has tells =
     let p = err_from_is_err_and c.from_residual.result c.from_residual.ensures.1 in
     rw (p.1, p.2) (whole_from (λ es. clashes_each has (exprs_view es)) (λ e. clashes has (expr_view e)) (λ e es. refl) c.args.exprs.now c.loop-expr.expr-index c.expr-item.result c.loop-expr-test.true c.expr-item.is (c.loop-expr.invariant has tells) (Fails c.in_err-check.field-0.0 file) (fails_left c.in_err-check.field-0.0 file) (c.in_err-check.ensures has tells))
 
+pub check_each-loop-expr-preserved : goal.check_each-loop-expr-preserved
+check_each-loop-expr-preserved t c has tells =
+    none_more (λ es. clashes_each has (exprs_view es)) (λ e. clashes has (expr_view e)) (λ e es. refl) c.args.exprs.now c.loop-expr.expr-index c.expr-item.result c.loop-expr-test.true c.expr-item.is (c.loop-expr.invariant has tells) (c.in_ok-check.ensures has tells)
+
+pub check_fields-returns-in_err-check_own : goal.check_fields-returns-in_err-check_own
+check_fields-returns-in_err-check_own t c has absent tells told =
+    let every = c.args.absences.now.has_every in
+    let file = c.args.self.now.file in
+    let p = err_from_is_err_and c.from_residual.result c.from_residual.ensures.1 in
+    let e = c.in_err-check_own.field-0.0 in
+    let f = c.field-item.result in
+    let here = fails_left e file (excluded has every absent (string_bytes f.label) f.mark (expr_view f.value)) (clashes has (expr_view f.value)) (c.in_err-check_own.ensures has absent tells told) in
+    rw (p.1, p.2) (whole_from (λ fs. clashes_fields has every absent (fields_view fs)) (of_field has every absent) (field_parts has every absent) c.args.fields.now c.loop-field.field-index f c.loop-field-test.true c.field-item.is (c.loop-field.invariant has absent tells told) (Fails e file) (fails_left e file) here)
+
 pub check_fields-returns-in_err-check : goal.check_fields-returns-in_err-check
 check_fields-returns-in_err-check t c has absent tells told =
     let every = c.args.absences.now.has_every in

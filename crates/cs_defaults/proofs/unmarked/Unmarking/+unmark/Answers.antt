@@ -9,6 +9,7 @@ use Rattle.cs_grammar.proofs.Views.{view-And, view-Paren, view-Struct, view-List
 use Rattle.cs_defaults.specs.Unmarked as Spec
 use Rattle.cs_defaults.specs.Unmarked.{unmarked_each, unmarked_fields}
 use Rattle.cs_defaults.specs.Checks.{unmarked_seen}
+use Rattle.cs_defaults.proofs.Found.{map_pushed}
 use Rattle.cs_defaults.proofs.unmarked.Unmarking.+unmark.Goals as goal
 
 abbrev put : Seen → Fields → Fields
@@ -22,6 +23,14 @@ module _ (has : List ℕ → Bool) where
   fields : (fs : List Field) → fields_of (map (λ f. unmarked_seen has (field_view f)) fs) ≡ unmarked_fields has (fields_view fs)
   fields [] = refl
   fields (f ∷ fs) = ap (λ gs. put (unmarked_seen has (field_view f)) gs) (fields fs)
+
+pub unmarked_each-loop-expr-preserved : goal.unmarked_each-loop-expr-preserved
+unmarked_each-loop-expr-preserved t c has tells =
+    map_pushed (λ e. Spec.unmarked has (expr_view e)) expr_view c.args.exprs.now c.loop-expr.expr-index c.expr-item.result c.loop-expr-test.true c.expr-item.is _ _ _ c.in_ok-push.ensures.items (c.loop-expr.invariant has tells) (c.in_ok-unmarked-2.ensures has tells)
+
+pub unmarked_fields-loop-field-preserved : goal.unmarked_fields-loop-field-preserved
+unmarked_fields-loop-field-preserved t c has tells =
+    map_pushed (λ f. unmarked_seen has (field_view f)) field_view c.args.fields.now c.loop-field.field-index c.field-item.result c.loop-field-test.true c.field-item.is _ _ _ c.in_ok-push.ensures.items (c.loop-field.invariant has tells) (c.in_ok-unmarked_field.ensures has tells)
 
 pub unmarked_each-returns : goal.unmarked_each-returns
 unmarked_each-returns t c has tells =
