@@ -6,7 +6,7 @@ use std::fmt;
 
 /// A refusal of the tool. `file` is the index of a source in the list of sources, `offset` counts its bytes
 /// from 0, `place` is the JSON pointer of a schema object in a schema's text.
-#[derive(Debug, Drop)]
+#[derive(Drop)]
 pub enum Fault {
     /// 1: the sources have more than 1,048,576 bytes together.
     SourcesTooLong,
@@ -135,6 +135,13 @@ pub enum Fault {
 impl fmt::Display for Fault {
     fn fmt<W: fmt::Write>(&self, f: &mut fmt::Formatter<W>) -> fmt::Result {
         f.write_str(meaning(self.number()))
+    }
+}
+
+// Nothing shows a fault by it, and what it carries would take as long to prove as ten other functions.
+impl fmt::Debug for Fault {
+    fn fmt<W: fmt::Write>(&self, f: &mut fmt::Formatter<W>) -> fmt::Result {
+        fmt::Display::fmt(self, f)
     }
 }
 
