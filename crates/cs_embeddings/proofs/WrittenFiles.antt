@@ -133,9 +133,13 @@ module _ (ds : List DefinitionTree) (all : AllByRecursion IsWrittenDefinition ds
   literal_written p cs b h =
       declarations_written (alternatives ds most_steps) (alternatives_written most_steps) (itself p) cs h (opened_if b nothing ∷ []) (tt, tt)
 
-  united_written : (p : Option ℕ) (r : Place) (es : Trees) → AreWritten r es → HaveWritten (united ds p es)
+  conjunction_written : (n : ℕ) (p : Origin) (r : Place) (es : Trees) → AreWritten r es → HaveWritten (alternatives ds (suc n) p (conjunction es) nothing)
   unfolding alternatives
-  united_written p r es h = all_written (alternatives ds 127) (alternatives_written 127) (itself p) r es h (nothing ∷ []) (tt, tt)
+  conjunction_written n p r es h = all_written (alternatives ds n) (alternatives_written n) p r es h (nothing ∷ []) (tt, tt)
+
+  -- that there are steps enough is said without unfolding them
+  united_written : (p : Option ℕ) (r : Place) (es : Trees) → AreWritten r es → HaveWritten (united ds p es)
+  united_written p r es h = conjunction_written 127 (itself p) r es h
 
   -- where values, and values that are put together, are written by themselves
   module _ (value : Option ℕ → Tree → Tree) (written_value : (p : Option ℕ) (e : Tree) → CanStand ds e → IsWritten by_itself (value p e)) where

@@ -1,19 +1,19 @@
-use Rattle.std.proofs.Common.{rules, ◌≡◌, true, false, [], ◌∷◌, ◌++◌, map, take, refl, sym, ap, ap₂, ◌∙◌, subst, IfOk}
+use Rattle.std.proofs.Common.{rules, ◌≡◌, true, false, not, is_some, [], ◌∷◌, ◌++◌, map, take, refl, sym, ap, ap₂, ◌∙◌, subst, IfOk}
 use Rattle.std.proofs.lemmas.List.{take_all, append-nil, map-append}
 use Rattle.std.specs.List.{flat_map}
-use Rattle.cs_grammar.proofs.Views.{view-Name, view-Reference, view-Paren, view-Struct, view-List, view-Wide, view-Marked, view-Merged, view-Shut, view-Selected, view-value}
+use Rattle.cs_grammar.proofs.Views.{view-Name, view-Reference, view-Paren, view-Struct, view-List, view-Wide, view-Marked, view-Merged, view-Shut, view-Selected, view-Each, view-value, view-label, view-declared-field, view-embedded, view-conditional}
 use Rattle.cs_grammar.specs.Tree as T
-use Rattle.cs_grammar.specs.View.{expr_view, exprs_view, trees_of, field_view, fields_view, fields_of, declaration_view, declarations_view, declarations_of, wide_view, selector_view}
-use Rattle.cs_names.specs.Checks.{TellsScope}
+use Rattle.cs_grammar.specs.View.{expr_view, exprs_view, trees_of, field_view, fields_view, fields_of, declaration_view, declarations_view, declarations_of, wide_view, end_view, selector_view, condition_view, field_seen, embedding_seen, conditional_seen}
+use Rattle.cs_names.specs.Checks.{TellsScope, resolved_field_seen, resolved_seen}
 use Rattle.cs_names.specs.Lifted.{known, is_open}
 use Rattle.cs_names.specs.Named as Spec
 use Rattle.cs_names.specs.Scopes.{scope_of_fields, scope_of_declarations, value_scope}
 use Rattle.cs_plain.proofs.Folds.{gathered_more}
-use Rattle.cs_names.proofs.Parts.{kept_field, kept_fields, kept_seen, kept_declarations, kept, lost, resolved_trees}
+use Rattle.cs_names.proofs.Parts.{kept_field, kept_fields, kept_seen, kept_declarations, kept, lost, only_here, only_nowhere, resolved_trees}
 use Rattle.cs_names.proofs.Tables.{inside_of}
 use Rattle.cs_plain.proofs.Walks.{map_pushed}
 use Rattle.cs_names.proofs.resolved.Naming.+resolve.Goals as goal
-use Rattle.cs_names.proofs.resolved.Naming.+resolve.Goals.{resolved_declarations-then-not-is_scoped+in_ok-resolved_declaration+in_ok-push, resolved_declarations-else-not-is_scoped}
+use Rattle.cs_names.proofs.resolved.Naming.+resolve.Goals.{resolved_fields-then-is_none+in_ok-resolved_field+in_ok-push, resolved_fields-else-is_none, resolved_declarations-then-not-is_scoped+in_ok-resolved_declaration+in_ok-push, resolved_declarations-else-not-is_scoped}
 
 -- ---- lists
 
@@ -27,6 +27,29 @@ resolved_each-returns t c all ts ss tells told =
     ap trees_of (c.loop-expr.invariant all ts ss tells told)
     ∙ ap (λ es. trees_of (map (λ e. Spec.resolved (known ts) (is_open ts) c.args.self.now.file ss (expr_view e)) es)) (take_all c.loop-expr.expr-index c.args.exprs.now c.loop-expr-test.false)
     ∙ resolved_trees (known ts) (is_open ts) c.args.self.now.file ss c.args.exprs.now
+
+pub resolved_fields-loop-field-preserved : goal.resolved_fields-loop-field-preserved
+resolved_fields-loop-field-preserved t c all ts scope ss tells own told =
+    let keep = kept_field (known ts) (is_open ts) c.args.self.now.file scope ss in
+    let xs = c.args.fields.now in
+    let k = c.loop-field.field-index in
+    let x = c.field-item.result in
+    let one = resolved_field_seen (known ts) (is_open ts) c.args.self.now.file scope ss (field_view x) in
+    let done = flat_map keep (take k xs) in
+    let more = gathered_more (λ ys. flat_map keep ys) keep refl (λ f fs. refl) xs k x c.loop-field-test.true c.field-item.is in
+    let before = c.loop-field.invariant all ts scope ss tells own told in
+    let scoped = ap (λ (l : T.Label). is_some l.scoped) (view-label x) in
+    elim c.if-is_none.branch [
+      | resolved_fields-then-is_none+in_ok-resolved_field+in_ok-push w ↦
+          let no : is_some x.scoped ≡ false = c.is_none.ensures ∙ ap not w.if-is_none.true in
+          ap (λ v. map field_view v.items) w.resolved-is ∙ ap (map field_view) w.in_ok-push.ensures.items ∙ map-append field_view c.loop-field.resolved.items _
+          ∙ ap₂ (λ fs f. fs ++ f ∷ []) before (w.in_ok-resolved_field.ensures all ts scope ss tells own told)
+          ∙ ap (λ fs. done ++ fs) (sym (only_here (field_view x).label.scoped one (scoped ∙ no))) ∙ sym more
+      | resolved_fields-else-is_none w ↦
+          let yes : is_some x.scoped ≡ true = c.is_none.ensures ∙ ap not w.if-is_none.false in
+          ap (λ v. map field_view v.items) w.resolved-is ∙ before ∙ sym (append-nil done)
+          ∙ ap (λ fs. done ++ fs) (sym (only_nowhere (field_view x).label.scoped one (scoped ∙ yes))) ∙ sym more
+    ]
 
 pub resolved_fields-returns : goal.resolved_fields-returns
 resolved_fields-returns t c all ts scope ss tells own told =
@@ -157,3 +180,33 @@ resolved_wide-returns-in_ok-value-in-Shut-2 t c all ts ss tells told =
     let is = ap (Spec.resolved_wide (known ts) (is_open ts) i ss) (ap wide_view c.in-Shut.is ∙ view-Shut o c.in-Shut.value) in
     let made = c.in_ok-value-in-Shut.ensures all ts ss tells told ∙ ap (λ e. Spec.resolved (known ts) (is_open ts) i ss (expr_view e)) c.deref-in-Shut.ensures in
     view-Wide _ ∙ ap T.wide (view-Shut o v.value ∙ ap (λ e. T.shut o (expr_view e)) v.ensures.ok ∙ ap (T.shut o) made) ∙ sym is
+
+pub resolved_end-returns-in_ok-new-in-Each : goal.resolved_end-returns-in_ok-new-in-Each
+resolved_end-returns-in_ok-new-in-Each t c all ts ss tells told =
+    let i = c.args.self.now.file in
+    let is = ap (Spec.resolved_end (known ts) (is_open ts) i ss) (ap end_view c.in-Each.is ∙ view-Each c.in-Each.each) in
+    let made = c.in_ok-each-in-Each.ensures all ts ss tells told ∙ ap (λ e. Spec.resolved (known ts) (is_open ts) i ss (expr_view e)) c.deref.ensures in
+    view-Each c.in_ok-new-in-Each.field-0 ∙ ap (λ e. T.each (expr_view e)) c.in_ok-new-in-Each.ensures.ok ∙ ap T.each made ∙ sym is
+
+-- ---- declarations
+
+pub resolved_declaration-returns-in_ok-field-in-Field : goal.resolved_declaration-returns-in_ok-field-in-Field
+resolved_declaration-returns-in_ok-field-in-Field t c all ts scope ss tells own told =
+    let seen = resolved_seen (known ts) (is_open ts) c.args.self.now.file scope ss in
+    let is = ap seen (ap declaration_view c.in-Field.is ∙ view-declared-field c.in-Field.field) in
+    view-declared-field c.in_ok-field-in-Field.field ∙ ap field_seen (c.in_ok-field-in-Field.ensures all ts scope ss tells own told) ∙ sym is
+
+pub resolved_declaration-returns-in_ok-value-in-Embedded : goal.resolved_declaration-returns-in_ok-value-in-Embedded
+resolved_declaration-returns-in_ok-value-in-Embedded t c all ts scope ss tells own told =
+    let seen = resolved_seen (known ts) (is_open ts) c.args.self.now.file scope ss in
+    let o = c.in-Embedded.at in
+    let is = ap seen (ap declaration_view c.in-Embedded.is ∙ view-embedded o c.in-Embedded.value) in
+    view-embedded o c.in_ok-value-in-Embedded.value ∙ ap (embedding_seen o) (c.in_ok-value-in-Embedded.ensures all ts scope ss tells own told) ∙ sym is
+
+pub resolved_declaration-returns-in_ok-value-in-Conditional : goal.resolved_declaration-returns-in_ok-value-in-Conditional
+resolved_declaration-returns-in_ok-value-in-Conditional t c all ts scope ss tells own told =
+    let seen = resolved_seen (known ts) (is_open ts) c.args.self.now.file scope ss in
+    let o = c.in-Conditional.at in
+    let is = ap seen (ap declaration_view c.in-Conditional.is ∙ view-conditional o c.in-Conditional.conditions c.in-Conditional.value) in
+    let same = c.in_ok-conditions-in-Conditional.ensures ∙ ap (map condition_view) c.deref.ensures.value in
+    view-conditional o c.in_ok-conditions-in-Conditional.conditions c.in_ok-value-in-Conditional.value ∙ ap₂ (conditional_seen o) same (c.in_ok-value-in-Conditional.ensures all ts scope ss tells own told) ∙ sym is
