@@ -38,10 +38,8 @@ pub struct Findings {
 /// What is found, unless memory runs out.
 type Found = Result<Findings, Fault>;
 
-/// What is found in the sources: a line for each fault, 50 at most; where there is none, one for each definition that is found to have
-/// no instance. `named` has the sources with their names, in their order.
-///
-/// That what is told is so is proved where it is found: by `check` and `warned`. The words and the places in lines are tested. Only memory can run out.
+/// What is found in the sources, which are `named` in their order: a line for each fault, 50 at most; where there is none, one for each definition that
+/// is found to have no instance. That this is so is proved of `check` and `warned`; the words and the places are tested. Only memory can run out.
 pub fn source_findings<'a>(
     alloc: Global,
     sources: &[&[u8]],
@@ -59,9 +57,7 @@ pub fn source_findings<'a>(
     package_findings(alloc, sources, root, about)
 }
 
-/// What is found in the sources in the wide profile, as by [`source_findings`].
-///
-/// That what is told is so is proved where it is found: by `check_wide` and `warned`. The words and the places in lines are tested. Only memory can run out.
+/// What is found in the sources in the wide profile, as by [`source_findings`], by `check_wide` and `warned`. Only memory can run out.
 pub fn wide_findings<'a>(
     alloc: Global,
     sources: &[&[u8]],
@@ -70,12 +66,11 @@ pub fn wide_findings<'a>(
 ) -> Result<Findings, Fault>
     ensures { IfOk result (λ f. ¬ (f.checked ≡ Checked.Faulty) → AreWideAccepted (bytes_in sources.now)) }
 {
-    let profile = Profile::Wide;
     let about = About::of(named, root.unwrap_or(""));
-    let about = About { profile, ..about };
     let faults = check_wide(alloc, sources)?;
     if !faults.is_empty() {
-        return faulty(alloc, &faults, about);
+        let profile = Profile::Wide;
+        return faulty(alloc, &faults, About { profile, ..about });
     }
     match stands_for(alloc, sources)? {
         Some(meant) => package_findings(alloc, &[meant.as_bytes()], root, about),
@@ -89,8 +84,7 @@ fn package_findings(alloc: Global, sources: &[&[u8]], root: Option<&str>, about:
 {
     let package = accepted_package(alloc, sources)?;
     if root.is_some_and(|name| package.package().find(name).is_none()) {
-        let profile = Profile::Default;
-        return faulty(alloc, &[Fault::UnknownRoot], About { profile, ..about });
+        return faulty(alloc, &[Fault::UnknownRoot], about);
     }
     let lines = warning_lines(alloc, &package, about.sources)?;
     let mut checked = Checked::Well;
@@ -100,9 +94,8 @@ fn package_findings(alloc: Global, sources: &[&[u8]], root: Option<&str>, about:
     Ok(Findings { checked, lines })
 }
 
-/// What is found in a schema: a line for each fault, 50 at most.
-///
-/// That what is told is so is proved where it is found, by `check_schema`. The words and the places in lines are tested. Only memory can run out.
+/// What is found in a schema: a line for each fault, 50 at most. That this is so is proved of `check_schema`; the words and the places are tested. Only
+/// memory can run out.
 pub fn schema_findings(alloc: Global, schema: Named<'_>) -> Result<Findings, Fault>
     ensures accepted { IfOk result (λ f. ¬ (f.checked ≡ Checked.Faulty) → IsSchemaText schema.entry.text.now) }
     ensures refused { IfOk result (λ f. f.checked ≡ Checked.Faulty → ¬ (IsSchemaText schema.entry.text.now)) }
@@ -152,8 +145,8 @@ fn faulty(alloc: Global, faults: &[Fault], about: About<'_>) -> Found
     Ok(Findings { checked, lines })
 }
 
-/// The faults in the wide profile of sources with these faults in a profile, where something has to be opened in the default one: the wide one puts
-/// that together unless it has a fault there. None where they tell nothing of that: what is put together is at fault itself, or there may be more.
+/// The faults in the wide profile, which puts together what has to be opened in the default one unless it has a fault there. None where they tell
+/// nothing of that: nothing has to be opened, what is put together is at fault itself, or there may be more.
 fn wide_faults(
     alloc: Global,
     about: About<'_>,
@@ -163,10 +156,8 @@ fn wide_faults(
     if about.profile == Profile::Wide || !faults.iter().any(must_open) {
         return Ok(None);
     }
-    let mut texts = Vec::with_capacity(alloc, about.sources.len())?;
-    for source in about.sources {
-        texts.push(source.text)?;
-    }
+    let texts = about.sources.iter().map(|source| source.text);
+    let texts: Vec<&[u8]> = texts.collect(alloc)?;
     let wide = check_wide(alloc, &texts)?;
     // One that is none of what is put together: not one of its names, and not that it is too large or too high.
     let is_apart = |fault: &Fault| match fault {

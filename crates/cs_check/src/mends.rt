@@ -46,19 +46,17 @@ impl<'a> Draft<'a> {
 
     /// Where in the source it is what is at an offset of the mended text, and whether a mend put it there: then that begins there.
     pub(crate) fn origin(&self, offset: usize) -> (usize, bool) {
-        let mut left = offset;
-        let mut from = 0;
+        let mut at = offset;
         for mend in &self.mends {
-            let Some(behind) = left.checked_sub(mend.from.saturating_sub(from)) else {
+            let Some(behind) = at.checked_sub(mend.from) else {
                 break;
             };
-            let Some(behind_put) = behind.checked_sub(mend.put.len()) else {
+            let Some(behind) = behind.checked_sub(mend.put.len()) else {
                 return (mend.from, true);
             };
-            left = behind_put;
-            from = mend.to;
+            at = mend.to.saturating_add(behind);
         }
-        (from.saturating_add(left), false)
+        (at, false)
     }
 
     /// Adds a mend, in the place of those inside of it. Of two texts that come before the same token the later one stands first.
@@ -89,8 +87,7 @@ impl<'a> Draft<'a> {
             let last = source.token(held.to.saturating_sub(1));
             let is_separated = held.from >= held.to || separates(last);
             let dots = if is_separated { " ..." } else { ", ..." };
-            let mend = Mend::over(held.between(held.to, held.to), dots);
-            return self.add(mend);
+            return self.add(Mend::over(held.between(held.to, held.to), dots));
         }
         let declaration = source.declaration_at(place);
         let opening = Mend::over(declaration.between(place, place), "{");
@@ -123,8 +120,8 @@ impl<'a> Draft<'a> {
 
 /// A place of a source in its declaration.
 #[derive(Clone, Copy)]
-struct Spot<'s, 'a> {
-    place: usize,
+pub(crate) struct Spot<'s, 'a> {
+    near: Near<'s, 'a>,
     declaration: Part<'s, 'a>,
     /// What of it is between the colons around the place, and whether there is one before that, and one behind.
     between: Part<'s, 'a>,
@@ -141,10 +138,8 @@ fn begins_for(part: Part<'_, '_>) -> bool {
 }
 
 impl<'s, 'a> Spot<'s, 'a> {
-    /// What is at fault at a place: where a bracket is closed, something is missing before that.
-    fn new(source: &'s Source<'a>, place: usize) -> Spot<'s, 'a> {
-        let is_closing = source.open_at(place) != source.around(place);
-        let place = place.saturating_sub(usize::from(is_closing));
+    pub(crate) fn new(near: Near<'s, 'a>) -> Spot<'s, 'a> {
+        let Near { source, place } = near;
         let mut declaration = source.declaration_at(place);
         // The comma in the head of a `for` is inside of its declaration.
         if begins_for(declaration) && is_mark(source.token(declaration.to), ",") {
@@ -153,7 +148,7 @@ impl<'s, 'a> Spot<'s, 'a> {
         let between = declaration.part_around(Colon, source.held_in_declaration(place));
         let is_value = between.from > declaration.from;
         Spot {
-            place,
+            near,
             declaration,
             between,
             is_value,
@@ -171,11 +166,11 @@ impl<'s, 'a> Spot<'s, 'a> {
     /// The operand that the place is in, without `...` at its front, becomes `_`, in a value: behind a colon, or in a list or parentheses. The
     /// head of a `for` has a comma, and is none.
     fn mended_operand(self) -> Option<Mend> {
-        let source = self.declaration.source;
-        let around = source.around(self.place);
+        let Near { source, place } = self.near;
+        let around = source.around(place);
         let mut operand = source.held(around);
         for separator in [Amp, Bar, Comma, Colon] {
-            operand = operand.part_around(separator, self.place);
+            operand = operand.part_around(separator, place);
         }
         let dots = usize::from(is_mark(source.token(operand.from), "..."));
         operand.from = operand.from.saturating_add(dots);
@@ -186,7 +181,7 @@ impl<'s, 'a> Spot<'s, 'a> {
     }
 
     /// What is before the struct that a declaration without a label begins or ends with becomes a label, as the head of an `if`.
-    fn mended_head(self) -> Option<Mend> {
+    pub(crate) fn mended_head(self) -> Option<Mend> {
         let Part { source, from, to } = self.declaration;
         let mut opened = source.bracket(source.own(from));
         if opened.inside != Inside::Struct {
@@ -204,9 +199,41 @@ impl<'s, 'a> Spot<'s, 'a> {
         let comma = usize::from(separates(source.token(to)));
         let mut gone = self.declaration.between(from, to.saturating_add(comma));
         if from >= to {
-            gone = gone.between(self.place, self.place.saturating_add(1));
+            gone = gone.between(self.near.place, self.near.place.saturating_add(1));
         }
         Mend::over(gone, " ")
+    }
+
+    /// A declaration that gives a name goes, where that is at fault: it is a `let` that nothing names, or where `is_name` is false a name that another
+    /// struct declares too, or that is held open.
+    pub(crate) fn mended_name(self, is_name: bool) -> Option<Mend> {
+        let is_one = self.near.begins_let() || !is_name && self.near.declares_name();
+        is_one.then_some(self.mended_declaration())
+    }
+
+    /// The name at the place, with its labels where it is a selector.
+    fn name(self) -> Part<'s, 'a> {
+        let Near { source, place } = self.near;
+        let name = source.whole().between(place, place.saturating_add(1));
+        self.near.selector().unwrap_or(name)
+    }
+
+    /// What is embedded at the place becomes an open struct, or the name there alone.
+    pub(crate) fn mended_embedding(self, is_name: bool) -> Option<Mend> {
+        let embedded = self.near.embedding()?;
+        let gone = if is_name { self.name() } else { embedded };
+        Some(Mend::over(gone, "{...}"))
+    }
+
+    /// What is at the place and isn't embedded. A name that isn't declared, or is a field, becomes `_`; as the name of a label in brackets, another
+    /// label. Another value, which an embedding would open, becomes `_`; there is none where no embedding is beside it.
+    pub(crate) fn mended_value(self, is_name: bool) -> Option<Mend> {
+        if is_name {
+            return self.mended_label().or(Some(Mend::over(self.name(), "_")));
+        }
+        let value = self.declaration.declared()?;
+        let is_beside = self.near.stands_beside_embeddings();
+        is_beside.then_some(Mend::over(value, "_"))
     }
 }
 
@@ -244,9 +271,12 @@ fn is_matched(part: Part<'_, '_>) -> bool {
 /// The mend of what is at fault at an offset, where so many were made there: of the label or the operand, of the declaration, of the lines
 /// of the definition; then there is none. Where the brackets of a definition don't match it isn't clear what was meant, so its lines go.
 pub(crate) fn mend_at(source: &Source<'_>, offset: usize, made: usize) -> Option<Mend> {
-    let place = source.place_at(offset);
-    let spot = Spot::new(source, place);
-    let definition = definition_at(source, place);
+    let at = source.place_at(offset);
+    let definition = definition_at(source, at);
+    // Where a bracket is closed, something is missing before that.
+    let is_closing = source.open_at(at) != source.around(at);
+    let place = at.saturating_sub(usize::from(is_closing));
+    let spot = Spot::new(Near { source, place });
     match made {
         0 if is_matched(definition) => spot
             .mended_label()
@@ -257,52 +287,4 @@ pub(crate) fn mend_at(source: &Source<'_>, offset: usize, made: usize) -> Option
         0 | 2 => Some(Mend::over(definition, " ")),
         _ => None,
     }
-}
-
-/// The mend of a declaration that gives a name at a place, where that is at fault: the declaration goes. It is a `let` that nothing names, or where
-/// `is_name` is false a name that another struct declares too, or that is held open. None where neither is there.
-pub(crate) fn mended_name(source: &Source<'_>, place: usize, is_name: bool) -> Option<Mend> {
-    let near = Near { source, place };
-    let is_one = if is_name {
-        near.begins_let()
-    } else {
-        near.declares_name()
-    };
-    is_one.then_some(Spot::new(source, place).mended_declaration())
-}
-
-/// The mend of conditions at a place: what stands before their struct becomes a label. None where none are.
-pub(crate) fn mended_condition(source: &Source<'_>, place: usize) -> Option<Mend> {
-    let is_one = Near { source, place }.is_in_condition();
-    let head = Spot::new(source, place).mended_head();
-    head.filter(|_| is_one)
-}
-
-/// The name at a place, with its labels where it is a selector.
-fn name_at<'s, 'a>(source: &'s Source<'a>, place: usize) -> Part<'s, 'a> {
-    let name = source.whole().between(place, place.saturating_add(1));
-    Near { source, place }.selector().unwrap_or(name)
-}
-
-/// The mend of an embedding at a place: of what is embedded, or of the name there alone. None where none is.
-pub(crate) fn mended_embedding(source: &Source<'_>, place: usize, is_name: bool) -> Option<Mend> {
-    let embedded = Near { source, place }.embedding()?;
-    let gone = if is_name {
-        name_at(source, place)
-    } else {
-        embedded
-    };
-    Some(Mend::over(gone, "{...}"))
-}
-
-/// The mend of what is at a place and isn't embedded. A name that isn't declared, or is a field, becomes `_`; as the name of a label in brackets,
-/// another label. Another value, which an embedding would open, becomes `_`; there is none where no embedding is beside it.
-pub(crate) fn mended_value(source: &Source<'_>, place: usize, is_name: bool) -> Option<Mend> {
-    if is_name {
-        let label = Spot::new(source, place).mended_label();
-        return label.or(Some(Mend::over(name_at(source, place), "_")));
-    }
-    let value = source.declaration_at(place).declared()?;
-    let is_beside = Near { source, place }.stands_beside_embeddings();
-    is_beside.then_some(Mend::over(value, "_"))
 }

@@ -117,9 +117,10 @@ fn bytes_told(faults: &[Fault]) -> usize {
     let mut bytes = 0usize;
     for fault in faults {
         let (place, names) = texts_of(fault);
-        let lengths = names.iter().map(|name| name.len());
-        bytes = lengths.fold(bytes, |all, more| all.saturating_add(more));
         bytes = bytes.saturating_add(place.len());
+        for name in names {
+            bytes = bytes.saturating_add(name.len());
+        }
     }
     bytes
 }

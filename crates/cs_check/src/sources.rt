@@ -4,7 +4,7 @@ ghost use Rattle.cs_tool.specs.Given.{bytes_in};
 ghost use Rattle.cs_check.specs.Told.{AreAccepted, AreWideAccepted, BeginsWithFirst, BeginsWithWideFirst, BeginsWith};
 
 use crate::MOST_FAULTS;
-use crate::mends::{Draft, mend_at, mended_condition, mended_embedding, mended_name, mended_value};
+use crate::mends::{Draft, Spot, mend_at};
 use cs_grammar::Sort;
 use cs_place::Named;
 use cs_sources::{Made, Near, Source};
@@ -225,7 +225,6 @@ impl<'f, 'a> Told<'f, 'a> {
     /// which definitions reach themselves.
     fn original(&self, drafts: &[Draft<'_>], fault: Fault) -> Option<(Fault, bool)> {
         let are_whole = !is_of_text(self.first);
-        let is_literal = matches!(fault, Fault::NotOpened { .. });
         let is_known = match fault {
             Fault::UnknownName { .. } | Fault::FieldReference { .. } => true,
             Fault::NotOpened { .. } | Fault::Cycle { .. } | Fault::ChainTooLong { .. } => are_whole,
@@ -240,7 +239,8 @@ impl<'f, 'a> Told<'f, 'a> {
         let place = source.place_at(offset);
         let near = Near { source, place };
         let is_selector = matches!(fault, Fault::LeftOut { .. }) && near.selector().is_some();
-        let is_joined = is_literal && mended_embedding(source, place, false).is_none();
+        let is_literal = matches!(fault, Fault::NotOpened { .. });
+        let is_joined = is_literal && near.embedding().is_none();
         let is_taken = self.taken.contains(near.name_declared().here().text);
         let is_uncertain = is_taken || is_joined && self.is_loose;
         let is_told = (is_known || is_selector) && !is_mended;
@@ -263,21 +263,22 @@ impl<'f, 'a> Told<'f, 'a> {
         let Some(draft) = drafts.get_mut(file) else {
             return Ok(false);
         };
-        let place = draft.source.place_at(offset);
         let is_name = !matches!(fault, Fault::NotOpened { .. });
         let source = &draft.source;
+        let place = source.place_at(offset);
         let near = Near { source, place };
-        let name = mended_name(source, place, is_name);
+        let spot = Spot::new(near);
+        let name = spot.mended_name(is_name);
         // A name that a `let` binds may be named by this selector alone.
         let is_named = near.selector().is_some() && near.here().sort == Sort::Name;
         if name.is_some() || is_named {
             self.taken.insert(near.name_declared().here().text)?;
         }
-        let condition = mended_condition(&draft.source, place).filter(|_| is_name);
-        let embedding = condition.or(mended_embedding(&draft.source, place, is_name));
+        let is_condition = is_name && near.is_in_condition();
+        let condition = spot.mended_head().filter(|_| is_condition);
+        let embedding = condition.or(spot.mended_embedding(is_name));
         self.is_loose |= embedding.is_some();
-        let mend = name.or(embedding);
-        match mend.or(mended_value(&draft.source, place, is_name)) {
+        match name.or(embedding).or(spot.mended_value(is_name)) {
             Some(mend) => draft.add(mend)?,
             None => draft.open_literal(place)?,
         }

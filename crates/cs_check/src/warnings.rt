@@ -6,13 +6,11 @@ ghost use Rattle.cs_question.specs.NoInstance.{HasNoDocument};
 
 use cs_fault_words::{Names, Profile, put_offset, put_quoted};
 use cs_guard::Guarded;
-use cs_package::{
-    FieldMark, Inside, Kind, Literal, Package, Part, Relation, Shape, ShapeEnd, Simple,
-};
+use cs_package::{FieldMark, Kind, Literal, Package, Part, Relation, Shape, ShapeEnd};
 use cs_place::Named;
 use cs_profile::JsonKind;
 use cs_question::{QuestionFault, without_instance};
-use cs_sources::{Declared, Made, declared_in, sources_of};
+use cs_sources::{Made, declared_in, sources_of};
 use std::alloc::{AllocError, Global};
 use std::collections::{BTreeMap, BTreeSet};
 
@@ -74,32 +72,28 @@ pub(crate) fn warning_lines(alloc: Global, package: &Guarded, named: &[Named<'_>
     }
     let sources = sources_of(alloc, Profile::Wide, named)?;
     let declared = declared_in(alloc, &sources)?;
-    put_warnings(&mut lines, &declared, package, &warnings)?;
+    let names = Names::of(alloc, &declared)?;
+    for warning in &warnings {
+        warning.put(&mut lines, package.package(), &names)?;
+    }
     Ok(lines)
 }
 
-/// Puts warnings of a package, whose definitions are declared there.
-fn put_warnings(
-    lines: &mut String,
-    declared: &Declared<'_, '_>,
-    package: &Guarded,
-    warnings: &[Warning<'_>],
-) -> Made<()> {
-    let names = Names::of(declared.alloc(), declared)?;
-    for warning in warnings {
-        let (name, _) = definition_at(package.package(), warning.definition);
+impl<'a> Warning<'a> {
+    /// Puts its line.
+    fn put(&self, lines: &mut String, package: &Package, names: &Names<'_, '_>) -> Made<()> {
+        let (name, _) = definition_at(package, self.definition);
         if let Some(first) = names.first(name) {
             put_offset(lines, first.source.named, first.here().start)?;
         }
         lines.push_str("warning: no document is an instance of ")?;
         names.put(lines, name)?;
-        if let Some(reason) = warning.reason {
+        if let Some(reason) = self.reason {
             lines.push_str(": ")?;
-            reason.put(lines, &names)?;
+            reason.put(lines, names)?;
         }
-        lines.push('\n')?;
+        lines.push('\n')
     }
-    Ok(())
 }
 
 /// Why no document is an instance of a definition, as far as one reason was found. `put` says what each means.
@@ -178,10 +172,7 @@ struct Operand<'a> {
 
 /// Adds expressions of a body of a definition.
 fn put_shapes<'a>(to: &mut Vec<Operand<'a>>, shapes: &'a [Shape], definition: &'a str) -> Made<()> {
-    for shape in shapes {
-        to.push(Operand { shape, definition })?;
-    }
-    Ok(())
+    to.extend(shapes.iter().map(|shape| Operand { shape, definition }))
 }
 
 /// How many elements lists have at least and at most, by the list literals among these. At least so many are the longest front.
@@ -196,17 +187,6 @@ fn lengths_of(operands: &[Operand<'_>]) -> (usize, usize) {
         }
     }
     (least, most)
-}
-
-/// What lists ask of the element at a place.
-fn elements_at<'a>(alloc: Global, lists: &[Operand<'a>], place: usize) -> Made<Vec<Operand<'a>>> {
-    let mut elements = Vec::new(alloc);
-    for list in lists {
-        if let Some(element) = list.element_at(place) {
-            elements.push(element)?;
-        }
-    }
-    Ok(elements)
 }
 
 impl<'a> Operand<'a> {
@@ -310,25 +290,23 @@ impl<'a> Fields<'a> {
 
 /// The one kind of documents that an expression admits, where its form says so; none where it says nothing or admits several.
 fn kind_of(shape: &Shape) -> Option<JsonKind> {
-    let simple = match shape.inside() {
-        Inside::Simple(simple) => simple,
-        Inside::List { .. } => return Some(JsonKind::Array),
-        Inside::Struct { .. } => return Some(JsonKind::Object),
-        Inside::Definition(_) | Inside::And(_) | Inside::Or(_) => return None,
-    };
-    Some(match simple {
-        Simple::Top | Simple::Bottom | Simple::Excluded(Literal::Null) => return None,
-        Simple::Literal(literal) | Simple::Excluded(literal) => match literal {
-            Literal::Null => JsonKind::Null,
-            Literal::Bool(_) => JsonKind::Boolean,
-            Literal::Int(_) => JsonKind::Integer,
-            Literal::Text(_) => JsonKind::String,
-        },
-        Simple::Kind(Kind::Bool) => JsonKind::Boolean,
-        Simple::Kind(Kind::Text) => JsonKind::String,
-        Simple::Kind(Kind::Int | Kind::Number) | Simple::Range { .. } | Simple::Bound { .. } => {
-            JsonKind::Integer
-        }
+    Some(match shape {
+        Shape::Null => JsonKind::Null,
+        Shape::Bool(_) | Shape::Kind(Kind::Bool) => JsonKind::Boolean,
+        Shape::Int(_)
+        | Shape::NotInt(_)
+        | Shape::Range { .. }
+        | Shape::Bound { .. }
+        | Shape::Kind(Kind::Int | Kind::Number) => JsonKind::Integer,
+        Shape::Text(_) | Shape::NotText(_) | Shape::Kind(Kind::Text) => JsonKind::String,
+        Shape::List { .. } => JsonKind::Array,
+        Shape::Struct { .. } => JsonKind::Object,
+        Shape::Top
+        | Shape::Bottom
+        | Shape::NotNull
+        | Shape::Definition(_)
+        | Shape::And(_)
+        | Shape::Or(_) => return None,
     })
 }
 
@@ -350,17 +328,21 @@ fn ends_of(shape: &Shape) -> (i64, i64) {
 
 /// Why no document meets all of the operands, as far as it is seen without looking at its parts.
 fn clash<'a>(operands: &[Operand<'a>]) -> Option<Reason<'a>> {
-    let mut kinds = operands.iter().filter_map(|operand| kind_of(operand.shape));
-    let kind = kinds.next()?;
-    if kinds.any(|other| other != kind) {
-        return Some(Reason::Kinds);
-    }
+    let (mut kind, mut named) = (None, None);
     // The integers that all operands admit, by their ends.
-    let ends = operands.iter().map(|operand| ends_of(operand.shape));
-    let both = |all: (i64, i64), other: (i64, i64)| (all.0.max(other.0), all.1.min(other.1));
-    let (least, greatest) = ends.fold((i64::MIN, i64::MAX), both);
+    let (mut least, mut greatest) = (i64::MIN, i64::MAX);
+    for operand in operands {
+        let own = kind_of(operand.shape);
+        if own.or(kind) != kind.or(own) {
+            return Some(Reason::Kinds);
+        }
+        kind = kind.or(own);
+        named = named.or(operand.shape.literal());
+        let (first, last) = ends_of(operand.shape);
+        (least, greatest) = (first.max(least), last.min(greatest));
+    }
+    kind?;
     let last = (least == greatest).then_some(Literal::Int(least));
-    let named = operands.iter().find_map(|operand| operand.shape.literal());
     if let Some(value) = named.or(last) {
         let is_left_out = |operand: &Operand<'_>| {
             operand.shape.literal().unwrap_or(value) != value
@@ -435,16 +417,13 @@ impl<'a, 'e> Search<'a, 'e> {
             self.left = self.left.saturating_sub(operand.cost());
             match operand.shape {
                 Shape::Bottom => never = Some(Reason::Bottom),
+                Shape::Definition(number) if *number == self.root => never = Some(Reason::Itself),
                 Shape::Definition(number) => {
                     let (name, bodies) = definition_at(self.package, *number);
-                    if self.empty.get(*number) != Some(&true) {
-                        if seen.insert(*number)? {
-                            put_shapes(&mut waiting, bodies, name)?;
-                        }
-                    } else if *number == self.root {
-                        never = Some(Reason::Itself);
-                    } else {
+                    if self.empty.get(*number) == Some(&true) {
                         never = Some(Reason::Through { name });
+                    } else if seen.insert(*number)? {
+                        put_shapes(&mut waiting, bodies, name)?;
                     }
                 }
                 Shape::And(shapes) => put_shapes(&mut waiting, shapes, operand.definition)?,
@@ -479,21 +458,28 @@ impl<'a, 'e> Search<'a, 'e> {
     fn why_inside(&mut self, operands: &[Operand<'a>], depth: usize) -> Found<'a> {
         let (length, _) = lengths_of(operands);
         for place in 0..length.min(self.left) {
-            let asked = elements_at(self.alloc, operands, place)?;
+            let elements = operands.iter().filter_map(|list| list.element_at(place));
+            let asked: Vec<Operand<'a>> = elements.collect(self.alloc)?;
             if let Some(reason) = self.why(asked, depth)? {
                 return Ok(Some(reason.around(Reason::Element { place })));
             }
         }
         let fields = Fields::of(self.alloc, operands)?;
-        if let Some(reason) = fields.missing_key() {
-            return Ok(Some(reason));
+        match fields.missing_key() {
+            None => self.why_under_key(&fields, depth),
+            missing => Ok(missing),
         }
-        for (key, field) in fields.labelled {
+    }
+
+    /// Why nothing may stand under a required key.
+    #[cycle(why)]
+    fn why_under_key(&mut self, fields: &Fields<'a>, depth: usize) -> Found<'a> {
+        for (key, field) in &fields.labelled {
             if field.is_required {
-                let mut asked = field.operands;
+                let mut asked = field.operands.clone()?;
                 asked.extend_from_slice(&fields.every)?;
                 if let Some(reason) = self.why(asked, depth)? {
-                    return Ok(Some(reason.around(Reason::Field { key })));
+                    return Ok(Some(reason.around(Reason::Field { key: *key })));
                 }
             }
         }
