@@ -9,9 +9,10 @@ set -eu
 cd "$(dirname "$0")/.."
 
 # The parser goes down by the brackets that are open, of which it refuses the 29th; the height of a body is followed 28 deep; a
-# document is read 127 levels deep. Literals are looked for 16 rules deep, and two edits are looked for between names. Why a definition
-# has no instance is looked for 64 parts deep. At most 65 definitions are passed on the way to the mark of a default. Embeddings, and what they narrow, take
-# 128 steps at most, and what is put together is at most 28 levels high.
+# document is read 127 levels deep, and the one that answers a question is made so deep. Literals are looked for 16 rules deep, and
+# two edits are looked for between names. Why a definition has no instance is looked for 64 parts deep. At most 65 definitions are
+# passed on the way to the mark of a default. Embeddings, and what they narrow, take 128 steps at most, and what is put together is
+# at most 28 levels high.
 limited='crates/cs_check/proofs/schema/+cut
 crates/cs_check/proofs/warnings/Search/+why
 crates/cs_conditions/proofs/defaults/+default_within
@@ -21,6 +22,7 @@ crates/cs_embeddings/proofs/joining/Joining/+join
 crates/cs_embeddings/proofs/labels/Labels/+labels
 crates/cs_embeddings/proofs/narrowed/Narrowing/+joins
 crates/cs_json/proofs/listing/Listing/+read
+crates/cs_question/proofs/table/Table/+making
 crates/cs_instance_reasons/proofs/near/literals/Search/+leading
 crates/cs_instance_reasons/proofs/near/names/+are_near
 crates/cs_syntax/proofs/parser/height/+height

@@ -20,36 +20,36 @@ use cs_flat::Item;
 use std::collections::{BTreeMap, BTreeSet};
 
 /// The places of the constants and ranges that aren't to be met.
-#[derive(Drop)]
-pub(crate) struct Refused<'n> {
-    places: BTreeMap<Sign<'n>, usize>,
-}
+type Refused<'n> = BTreeMap<Sign<'n>, usize>;
 
-impl<'n> Refused<'n> {
-    /// Those among what is asked.
-    pub(crate) fn of(nodes: &Nodes<'n>, asked: &[Literal]) -> Made<Refused<'n>> {
-        let mut places = BTreeMap::new(nodes.alloc);
-        for (place, literal) in asked.iter().enumerate() {
-            if !literal.holds {
-                if let Some(sign) = nodes.of(*literal).and_then(|node| sign_of(node)) {
-                    let _ = places.insert(sign, place)?;
-                }
+/// Those among what is asked.
+fn refused_of<'n>(nodes: &Nodes<'n>, asked: &[Literal]) -> Made<Refused<'n>> {
+    let mut places = BTreeMap::new(nodes.alloc);
+    for (place, literal) in asked.iter().enumerate() {
+        if !literal.holds {
+            if let Some(sign) = nodes.of(*literal).and_then(|node| sign_of(node)) {
+                let _ = places.insert(sign, place)?;
             }
         }
-        Ok(Refused { places })
     }
+    Ok(places)
+}
 
-    /// That one of them which is what is to be met: both are the same constant, or the same range.
-    fn alike(&self, nodes: &Nodes<'n>, asked: &[Literal], literal: Literal) -> Option<Literal>
-        ensures { IfSome result (λ _. (J : Judgement) (x : Document) → IsMeaning nodes.now J → meets_all J x asked.now ≡ true
-            → meets J x literal ≡ true → ⊥) }
-    {
-        let node = nodes.of(literal)?;
-        let place = self.places.get(&sign_of(node)?)?;
-        let other = asked.get(*place)?;
-        let rule = nodes.of(*other)?;
-        (other.holds != literal.holds && are_alike(node, rule)).then_some(*other)
-    }
+/// That one of the refused which is what is to be met: both are the same constant, or the same range.
+fn alike<'n>(
+    refused: &Refused<'n>,
+    nodes: &Nodes<'n>,
+    asked: &[Literal],
+    literal: Literal,
+) -> Option<Literal>
+    ensures { IfSome result (λ _. (J : Judgement) (x : Document) → IsMeaning nodes.now J → meets_all J x asked.now ≡ true
+        → meets J x literal ≡ true → ⊥) }
+{
+    let node = nodes.of(literal)?;
+    let place = refused.get(&sign_of(node)?)?;
+    let other = asked.get(*place)?;
+    let rule = nodes.of(*other)?;
+    (other.holds != literal.holds && are_alike(node, rule)).then_some(*other)
 }
 
 /// A scalar that is all that is asked.
@@ -111,20 +111,6 @@ fn opened_at(nodes: &Nodes<'_>, asked: &[Literal]) -> Option<(usize, Literal)>
     Some((place, *literal))
 }
 
-/// Whether a rule is to be met and not to be met.
-fn is_contrary(asked: &[Literal]) -> bool
-    ensures { IsTrue result → (J : Judgement) (x : Document) → meets_all J x asked.now ≡ true → ⊥ }
-{
-    for i in 1..asked.len() {
-        let first = asked[i - 1];
-        let second = asked[i];
-        if first.side == second.side && first.rule == second.rule && first.holds != second.holds {
-            return true;
-        }
-    }
-    false
-}
-
 /// Puts a case among the others, unless it is there.
 ///
 /// # Errors
@@ -160,9 +146,6 @@ fn put_all(
     for part in parts {
         add(&mut asked, part_of(literal, *part))?;
     }
-    if is_contrary(&asked) {
-        return Ok(());
-    }
     put(nodes, cases, asked)
 }
 
@@ -179,7 +162,7 @@ fn put_each<'n>(
     ensures there { OnOk result ((J : Judgement) (x : Document) → IsMeaning nodes.now J → meets_all J x asked.now ≡ true
         → list_any (λ p. meets J x (record literal { rule = p })) parts.now ≡ true → IsCovered J x cases.new.keys) }
 {
-    let refused = Refused::of(nodes, asked)?;
+    let refused = refused_of(nodes, asked)?;
     for part in parts {
         let one = part_of(literal, *part);
         put_with(nodes, cases, &refused, asked, one, effort)?;
@@ -200,15 +183,12 @@ fn put_with<'n>(
     ensures there { OnOk result ((J : Judgement) (x : Document) → IsMeaning nodes.now J → meets_all J x asked.now ≡ true → meets J x literal ≡ true
         → IsCovered J x cases.new.keys) }
 {
-    if refused.alike(nodes, asked, literal).is_some() {
+    if alike(refused, nodes, asked, literal).is_some() {
         return Ok(());
     }
     effort.take(cost_of_copying(asked.len()))?;
     let mut one = Vec::from_slice(effort.alloc, asked)?;
     add(&mut one, literal)?;
-    if is_contrary(&one) {
-        return Ok(());
-    }
     put(nodes, cases, one)
 }
 

@@ -151,20 +151,17 @@ pub(crate) struct Effort {
     pub(crate) wanted: Vec<Vec<Literal>>,
     /// The places of those in it that have no answer yet.
     pub(crate) unanswered: Vec<usize>,
-    /// Whether all parts of a list or a map are asked about, and not those alone that come before the first one without an answer.
-    pub(crate) asks_all: bool,
 }
 
 impl Effort {
     /// No step of so many at most.
-    pub(crate) fn new(alloc: Global, most: usize, asks_all: bool) -> Effort {
+    pub(crate) fn new(alloc: Global, most: usize) -> Effort {
         Effort {
             alloc,
             steps: 0,
             most,
             wanted: Vec::new(alloc),
             unanswered: Vec::new(alloc),
-            asks_all,
         }
     }
 

@@ -17,13 +17,6 @@ pub(crate) enum Key<'a> {
     Index(usize),
 }
 
-/// Whether two keys are the same.
-fn is_same(first: Key<'_>, second: Key<'_>) -> bool
-    ensures { IsTrue result → name_of first.entry ≡ name_of second.entry }
-{
-    first == second
-}
-
 /// A place, what is asked of a value there, and whether there has to be one or can't be one.
 #[derive(Drop)]
 pub(crate) struct Place<'a> {
@@ -87,20 +80,18 @@ fn change(place: &mut Place<'_>, way: &Way<'_>) -> Made<()>
     ensures { OnOk result ((J : Judgement) (n : ℕ) (s : Spread) → HoldsPlace J n s place.old → IsTaken J s way.now → HoldsPlace J n s place.new) }
 {
     match way {
-        Way::Absent(key) if is_same(*key, place.key) => {
+        Way::Absent(key) if *key == place.key => {
             place.is_barred = true;
             Ok(())
         }
-        Way::Present(key, more) if is_same(*key, place.key) => {
+        Way::Present(key, more) if *key == place.key => {
             place.is_needed = true;
             match more {
                 Some(literal) => add(&mut place.asked, *literal),
                 None => Ok(()),
             }
         }
-        Way::Optional(key, literal) if is_same(*key, place.key) => {
-            add(&mut place.asked, *literal)
-        }
+        Way::Optional(key, literal) if *key == place.key => add(&mut place.asked, *literal),
         Way::Absent(_) | Way::Present(_, _) | Way::Optional(_, _) | Way::Behind(_) => Ok(()),
     }
 }
@@ -366,7 +357,7 @@ fn step<'a>(
     let places = places_after(effort.alloc, &demands.places, &state.chosen)?;
     let rule = pick(table, &places, &state.left, demands, effort)?;
     let Some(ways) = demands.rules.get(rule) else {
-        return Ok(Some(chosen_of(effort.alloc, state, places)?));
+        return Ok(Some(chosen_of(effort.alloc, places, state.further)?));
     };
     state.left.retain(|left| *left != rule);
     push_states(table, &places, state, demands, ways, states, effort)?;
@@ -385,7 +376,7 @@ pub(crate) fn choice<'a>(
     ensures { IfOk result (λ o. IsNone o → ByTable table.now (λ t s. HoldsPlaces t.J t.n s demands.now.places.items
         → HoldsFurther t.J t.n s demands.now.further → AllByRecursion (λ w. AreTaken t.J s w.items) demands.now.rules.items → ⊥)) }
 {
-    if effort.asks_all && !table.is_final {
+    if !table.is_final {
         ask_about(table, &demands.places, effort)?;
     }
     if has_dead(table, &demands.places, effort)? {
@@ -406,24 +397,19 @@ pub(crate) fn choice<'a>(
 }
 
 /// What a choice ends with, where its ways have left the places so.
-fn chosen_of<'a>(alloc: Global, state: State<'a>, places: Vec<Place<'a>>) -> Made<Chosen<'a>> {
-    let mut further = state.further;
-    let mut chosen = Chosen {
-        keys: Vec::new(alloc),
-        parts: Vec::new(alloc),
-    };
+fn chosen_of<'a>(
+    alloc: Global,
+    places: Vec<Place<'a>>,
+    mut further: Vec<Vec<Literal>>,
+) -> Made<Chosen<'a>> {
+    let mut keys = Vec::new(alloc);
+    let mut parts = Vec::new(alloc);
     for place in places {
-        put_part(&mut chosen, place)?;
+        if place.is_needed {
+            keys.push(place.key)?;
+            parts.push(place.asked)?;
+        }
     }
-    chosen.parts.append(&mut further)?;
-    Ok(chosen)
-}
-
-/// Puts what is asked at a place, if there has to be a value.
-fn put_part<'a>(chosen: &mut Chosen<'a>, place: Place<'a>) -> Made<()> {
-    if place.is_needed {
-        chosen.keys.push(place.key)?;
-        chosen.parts.push(place.asked)?;
-    }
-    Ok(())
+    parts.append(&mut further)?;
+    Ok(Chosen { keys, parts })
 }

@@ -14,7 +14,7 @@ ghost use Rattle.cs_question.specs.NoInstance.{HasNoDocument};
 use crate::fault::{Answered, Budget, Made, QuestionFault, SearchFault, Searched};
 use crate::nodes::{Literal, Nodes, Side, add, met};
 use crate::sides::side_of;
-use crate::table::{Table, explored, explored_all, witness_of};
+use crate::table::{Table, explored, explored_all};
 use cs_document::Doc;
 use cs_guard::Guarded;
 use cs_instance::{NumberedPackage, is_instance, numbered_package, numbered_root};
@@ -80,7 +80,7 @@ fn document_for(nodes: &Nodes<'_>, asked: &[Literal], budget: &mut Budget) -> Se
     if table.is_shut_at(0, asked) {
         return Ok(None);
     }
-    let (doc, values) = witness_of(nodes.alloc, &table)?;
+    let (doc, values) = table.witness()?;
     budget.spend(nodes.count().saturating_mul(values) / PAIRS_OF_STEP);
     let text = write_doc(nodes.alloc, &doc)?;
     // That is so where it nests no deeper than documents are read.

@@ -174,17 +174,11 @@ fn texts_of<'a>(nodes: &Nodes<'a>, asked: &[Literal]) -> Made<Vec<&'a str>>
     Ok(marks)
 }
 
-fn longest(marks: &[&str]) -> usize
-    ensures { All (λ m. length m.now ≤ result) marks.now }
-{
-    marks.iter().map(|mark| mark.len()).max().unwrap_or(0)
-}
-
 /// A text that is none of these, since it is longer.
 pub(crate) fn other_text(alloc: Global, marks: &[&str]) -> Made<String>
     ensures { IfOk result (λ t. All (λ m. length m.now < length (string_bytes t)) marks.now) }
 {
-    let most = longest(marks);
+    let most = marks.iter().map(|mark| mark.len()).max().unwrap_or(0);
     let mut text = String::new(alloc);
     while text.len() <= most {
         text.push('a')?;

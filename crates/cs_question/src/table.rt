@@ -1,6 +1,6 @@
 // The questions that some questions lead to, which of them were found to have an answer, and which are to be looked at, each again when
 // one has an answer that it waits for; and the document that answers the first one, made of its parts.
-ghost use Rattle.std.specs.Prelude.{◌≡◌, true, IfOk, IsTrue};
+ghost use Rattle.std.specs.Prelude.{◌≡◌, true, IfOk, IsTrue, OnOk};
 ghost use Rattle.cs_question.specs.Truth.{IsShut, IsAtRest};
 
 use crate::cases::found_for;
@@ -14,6 +14,12 @@ use std::collections::{BTreeMap, VecDeque};
 
 /// The most questions.
 const MOST_QUESTIONS: usize = 100_000;
+
+/// The most steps for one look at a question, where others are asked beside it.
+const MOST_OF_ONE: usize = 500_000;
+
+/// The most steps for all questions about one package together.
+const MOST_OF_ALL: usize = 3_000_000;
 
 /// What a choice ends with: the keys of the places where a value has to be, and what is asked there, and then at none of the places.
 #[derive(Drop)]
@@ -34,22 +40,18 @@ pub(crate) enum Found<'a> {
     },
 }
 
-impl Found<'_> {
-    /// What is asked of each of its parts.
-    pub(crate) fn parts(&self) -> &[Vec<Literal>] {
-        match self {
-            Found::Scalar(_) => &[],
-            Found::List(parts) => parts,
-            Found::Map { chosen, .. } => &chosen.parts,
-        }
-    }
+/// How many values a document has, and how deep it nests.
+#[derive(Clone, Copy)]
+pub(crate) struct Extent {
+    values: usize,
+    depth: usize,
 }
 
 /// A question, with what was found to answer it.
 #[derive(Drop)]
 pub(crate) struct Entry<'a> {
     pub(crate) asked: Vec<Literal>,
-    pub(crate) found: Option<Found<'a>>,
+    pub(crate) found: Option<(Found<'a>, Extent)>,
     /// The places of those that wait for its answer.
     waiting: Vec<usize>,
     is_queued: bool,
@@ -65,8 +67,6 @@ pub(crate) struct Table<'a> {
     queue: VecDeque<usize>,
     /// Whether one for which a limit is met counts as one that has an answer, instead of ending the search.
     pub(crate) skips: bool,
-    /// The places of those that were answered, in that order.
-    pub(crate) answered: Vec<usize>,
     /// Whether only what is in the table counts as having no answer. Before that a question that isn't in it yet counts so too.
     pub(crate) is_final: bool,
 }
@@ -79,7 +79,6 @@ impl<'a> Table<'a> {
             places: BTreeMap::new(alloc),
             queue: VecDeque::new(alloc),
             skips,
-            answered: Vec::new(alloc),
             is_final: false,
         }
     }
@@ -89,15 +88,33 @@ impl<'a> Table<'a> {
         self.places.get(asked).copied()
     }
 
-    /// What was found to answer the question at a place.
-    pub(crate) fn found(&self, place: usize) -> Option<&Found<'a>> {
+    /// What was found to answer a question.
+    fn found(&self, asked: &Vec<Literal>) -> Option<&(Found<'a>, Extent)> {
+        let place = self.place(asked)?;
         self.entries.get(place)?.found.as_ref()
     }
 
-    /// The same where its document is used: so many times for each question.
-    fn found_if_used(&self, place: usize, uses: &[usize]) -> Option<&Found<'a>> {
-        self.found(place)
-            .filter(|_| uses.get(place).is_some_and(|times| *times > 0))
+    /// The extent of a document around all of its parts, which were found before.
+    fn extent_of(&self, found: &Found<'a>) -> Extent {
+        let parts = match found {
+            Found::Scalar(_) => return Extent {
+                values: 1,
+                depth: 0,
+            },
+            Found::List(parts) => parts,
+            Found::Map { chosen, .. } => &chosen.parts,
+        };
+        let mut extent = Extent {
+            values: 1,
+            depth: 1,
+        };
+        for part in parts {
+            if let Some((_, inner)) = self.found(part) {
+                extent.values = extent.values.saturating_add(inner.values);
+                extent.depth = extent.depth.max(inner.depth.saturating_add(1));
+            }
+        }
+        extent
     }
 
     /// Where a question is, which is added unless it is there, and looked at later. There may be no room for it.
@@ -148,12 +165,12 @@ impl<'a> Table<'a> {
 
     /// Keeps what was found to answer the question at a place, and puts those that wait for it.
     pub(crate) fn answer(&mut self, place: usize, found: Found<'a>) -> Made<()> {
+        let extent = self.extent_of(&found);
         let Some(entry) = self.entries.get_mut(place) else {
             return Ok(());
         };
-        entry.found = Some(found);
+        entry.found = Some((found, extent));
         let woken = std::mem::replace(&mut entry.waiting, Vec::new(self.alloc));
-        self.answered.push(place)?;
         for waiting in &woken {
             self.put(*waiting)?;
         }
@@ -170,7 +187,7 @@ impl<'a> Table<'a> {
             return Ok(!self.is_final);
         };
         let is_shut = self.is_shut_at(place, asked);
-        if is_shut && effort.asks_all {
+        if is_shut && !self.is_final {
             effort.unanswered.push(place)?;
         }
         Ok(is_shut)
@@ -185,15 +202,7 @@ impl<'a> Table<'a> {
             None => false,
         }
     }
-}
 
-/// The most steps for one look at a question, where others are asked beside it.
-const MOST_OF_ONE: usize = 500_000;
-
-/// The most steps for all questions about one package together.
-const MOST_OF_ALL: usize = 3_000_000;
-
-impl<'a> Table<'a> {
     /// Lets a question wait for all that it met at the last look.
     ///
     /// # Errors
@@ -216,7 +225,7 @@ impl<'a> Table<'a> {
             Some(_) | None => return Ok(()),
         };
         let most = if self.skips { MOST_OF_ONE } else { usize::MAX };
-        let mut effort = Effort::new(nodes.alloc, budget.steps.min(most), true);
+        let mut effort = Effort::new(nodes.alloc, budget.steps.min(most));
         let found = found_for(nodes, self, asked, &mut effort);
         budget.spend(effort.steps);
         let looked = match found {
@@ -246,32 +255,35 @@ impl<'a> Table<'a> {
     }
 }
 
-/// Whether no question without an answer has one, where all others without one have none of less depth.
-fn is_settled(nodes: &Nodes<'_>, table: &Table<'_>, effort: &mut Effort) -> Searched<bool>
-    ensures { IfOk result (λ b. IsTrue b → IsAtRest nodes.now table.now) }
+/// Looks once more at each question without an answer: none has one, where all others without one have none of less depth.
+///
+/// # Errors
+/// `TooManyCases` where a limit is met, or one has an answer.
+fn settle(nodes: &Nodes<'_>, table: &Table<'_>, effort: &mut Effort) -> Searched<()>
+    ensures { OnOk result (IsAtRest nodes.now table.now) }
 {
     for entry in &table.entries {
         if entry.found.is_none() && found_for(nodes, table, &entry.asked, effort)?.is_some() {
-            return Ok(false);
+            return Err(SearchFault::TooManyCases);
         }
     }
-    Ok(true)
+    Ok(())
 }
 
 /// The table, at rest.
 ///
 /// # Errors
 /// `TooManyCases` where a limit is met, or the table isn't at rest.
-fn at_rest<'a>(nodes: &Nodes<'a>, mut table: Table<'a>, effort: &mut Effort) -> Searched<Table<'a>>
+fn at_rest<'a>(nodes: &Nodes<'a>, mut table: Table<'a>, budget: &mut Budget) -> Searched<Table<'a>>
     ensures rest { IfOk result (λ t. IsAtRest nodes.now t) }
     ensures ended { IfOk result (λ t. t.is_final ≡ true) }
 {
     table.is_final = true;
-    if is_settled(nodes, &table, effort)? {
-        Ok(table)
-    } else {
-        Err(SearchFault::TooManyCases)
-    }
+    let mut effort = Effort::new(nodes.alloc, budget.steps);
+    let settled = settle(nodes, &table, &mut effort);
+    budget.spend(effort.steps);
+    settled?;
+    Ok(table)
 }
 
 /// The table of a question and of all that it leads to, at rest: a question in it without an answer has none.
@@ -289,10 +301,7 @@ pub(crate) fn explored<'a>(
     let mut table = Table::new(nodes.alloc, false);
     let _place = table.ask(Vec::from_slice(nodes.alloc, asked)?)?;
     table.explore(nodes, budget)?;
-    let mut effort = Effort::new(nodes.alloc, budget.steps, true);
-    let explored = at_rest(nodes, table, &mut effort);
-    budget.spend(effort.steps);
-    explored
+    at_rest(nodes, table, budget)
 }
 
 /// The table of the questions for a document that meets a rule, for each of these, and of all that they lead to, at rest: a
@@ -309,8 +318,7 @@ pub(crate) fn explored_all<'a>(nodes: &Nodes<'a>, rules: &[usize]) -> Searched<T
         let _place = table.ask(met(nodes.alloc, *rule)?)?;
     }
     table.explore(nodes, &mut Budget { steps: MOST_OF_ALL })?;
-    let mut effort = Effort::new(nodes.alloc, MOST_STEPS, false);
-    at_rest(nodes, table, &mut effort)
+    at_rest(nodes, table, &mut Budget::new())
 }
 
 /// The most values that a document may have, and how deep it may nest: no deeper than documents are read.
@@ -318,111 +326,53 @@ const MOST_VALUES: usize = 100_000;
 
 const MOST_DEPTH: usize = 127;
 
-/// How many values a document has, and how deep it nests.
-#[derive(Clone, Copy)]
-struct Extent {
-    values: usize,
-    depth: usize,
-}
-
-/// The extent of the document that was found for the question at a place, around all of its parts; none where it is too large.
-fn extent_at(table: &Table<'_>, place: usize, extents: &[Option<Extent>]) -> Option<Extent> {
-    let found = table.found(place)?;
-    let mut values: usize = 1;
-    let mut depth = usize::from(!matches!(found, Found::Scalar(_)));
-    for part in found.parts() {
-        let part = (*extents.get(table.place(part)?)?)?;
-        values = values.saturating_add(part.values);
-        depth = depth.max(part.depth.saturating_add(1));
-    }
-    (values <= MOST_VALUES && depth <= MOST_DEPTH).then_some(Extent { values, depth })
-}
-
-/// The extent of the document that was found for each question.
-fn extents_of(alloc: Global, table: &Table<'_>) -> Made<Vec<Option<Extent>>> {
-    let mut extents = vec![in alloc; None; table.entries.len()]?;
-    for place in &table.answered {
-        let extent = extent_at(table, *place, &extents);
-        if let Some(known) = extents.get_mut(*place) {
-            *known = extent;
-        }
-    }
-    Ok(extents)
-}
-
-/// Counts a use of the document of each part.
-fn count_parts(table: &Table<'_>, uses: &mut Vec<usize>, found: &Found<'_>) {
-    for part in found.parts() {
-        if let Some(place) = table.place(part) {
-            if let Some(times) = uses.get_mut(place) {
-                *times = times.saturating_add(1);
+impl Table<'_> {
+    /// The document that was found for a question, which nests at most so deep.
+    #[cycle(making)]
+    fn doc_of(&self, asked: &Vec<Literal>, depth: usize) -> Searched<Doc> {
+        match self.found(asked) {
+            Some((Found::Scalar(doc), _)) => Ok(doc.copy(self.alloc)?),
+            Some((Found::List(parts), _)) if depth > 0 => self.list_of(parts, depth - 1),
+            Some((Found::Map { chosen, labels }, _)) if depth > 0 => {
+                self.map_of(chosen, labels, depth - 1)
             }
-        }
-    }
-}
-
-/// How many times the document of each question is used for the first question's one, which is itself used once.
-fn uses_of(alloc: Global, table: &Table<'_>) -> Made<Vec<usize>> {
-    let mut uses = vec![in alloc; 0usize; table.entries.len()]?;
-    if let Some(times) = uses.first_mut() {
-        *times = 1;
-    }
-    for place in table.answered.iter().rev() {
-        if let Some(found) = table.found_if_used(*place, &uses) {
-            count_parts(table, &mut uses, found);
-        }
-    }
-    Ok(uses)
-}
-
-/// The documents that were made so far for the questions of a table, and how many times each is still used. One that isn't used any
-/// more is kept no longer, so that what is kept beside a document is no larger than its parts.
-#[derive(Drop)]
-struct Making<'t, 'a> {
-    alloc: Global,
-    table: &'t Table<'a>,
-    docs: BTreeMap<usize, Doc>,
-    uses: Vec<usize>,
-}
-
-impl Making<'_, '_> {
-    /// The document that was made for the question at a place, if it has one: itself at its last use, and before that a copy.
-    fn take(&mut self, place: Option<usize>) -> Searched<Doc> {
-        let place = place.ok_or(SearchFault::TooManyCases)?;
-        let Some(times) = self.uses.get_mut(place) else {
-            return Err(SearchFault::TooManyCases);
-        };
-        *times = times.saturating_sub(1);
-        match self.docs.get(&place) {
-            Some(doc) if *times > 0 => Ok(doc.copy(self.alloc)?),
-            Some(_) | None => self.docs.remove(&place).ok_or(SearchFault::TooManyCases),
+            Some((Found::List(_) | Found::Map { .. }, _)) | None => Err(SearchFault::TooManyCases),
         }
     }
 
-    fn list_of(&mut self, parts: &[Vec<Literal>]) -> Searched<Doc> {
+    #[cycle(making)]
+    fn list_of(&self, parts: &[Vec<Literal>], depth: usize) -> Searched<Doc> {
         let mut elements = Vec::with_capacity(self.alloc, parts.len())?;
         for part in parts {
-            elements.push(self.take(self.table.place(part))?)?;
+            let doc = self.doc_of(part, depth)?;
+            elements.push(doc)?;
         }
         Ok(Doc::List(elements))
     }
 
-    fn map_of(&mut self, chosen: &Chosen<'_>, labels: &[&str]) -> Searched<Doc> {
+    #[cycle(making)]
+    fn map_of(&self, chosen: &Chosen<'_>, labels: &[&str], depth: usize) -> Searched<Doc> {
         let mut map = BTreeMap::new(self.alloc);
         for (number, part) in chosen.parts.iter().enumerate() {
-            let doc = self.take(self.table.place(part))?;
-            let _ = map.insert(key_at(self.alloc, &chosen.keys, labels, number)?, doc)?;
+            let key = key_at(self.alloc, &chosen.keys, labels, number)?;
+            let doc = self.doc_of(part, depth)?;
+            let _ = map.insert(key, doc)?;
         }
         Ok(Doc::Object(map))
     }
 
-    /// The document that was found to answer a question.
-    fn doc_of(&mut self, found: &Found<'_>) -> Searched<Doc> {
-        match found {
-            Found::Scalar(doc) => Ok(doc.copy(self.alloc)?),
-            Found::List(parts) => self.list_of(parts),
-            Found::Map { chosen, labels } => self.map_of(chosen, labels),
+    /// The document that was found for the first question, with how many values it has.
+    ///
+    /// # Errors
+    /// `TooManyCases` where it would have more values than a limit, or nest deeper.
+    pub(crate) fn witness(&self) -> Searched<(Doc, usize)> {
+        let first = self.entries.first().ok_or(SearchFault::TooManyCases)?;
+        let (_, extent) = first.found.as_ref().ok_or(SearchFault::TooManyCases)?;
+        if extent.values > MOST_VALUES || extent.depth > MOST_DEPTH {
+            return Err(SearchFault::TooManyCases);
         }
+        let doc = self.doc_of(&first.asked, MOST_DEPTH)?;
+        Ok((doc, extent.values))
     }
 }
 
@@ -436,28 +386,4 @@ fn key_at(alloc: Global, keys: &[Key<'_>], labels: &[&str], number: usize) -> Ma
         key.push('a')?;
     }
     Ok(key)
-}
-
-/// The document that was found for the first question, with how many values it has.
-///
-/// # Errors
-/// `TooManyCases` where it would have more values than a limit, or nest deeper.
-pub(crate) fn witness_of(alloc: Global, table: &Table<'_>) -> Searched<(Doc, usize)> {
-    let extents = extents_of(alloc, table)?;
-    let Some(Some(extent)) = extents.first() else {
-        return Err(SearchFault::TooManyCases);
-    };
-    let mut making = Making {
-        alloc,
-        table,
-        docs: BTreeMap::new(alloc),
-        uses: uses_of(alloc, table)?,
-    };
-    for place in &table.answered {
-        if let Some(found) = table.found_if_used(*place, &making.uses) {
-            let doc = making.doc_of(found)?;
-            let _ = making.docs.insert(*place, doc)?;
-        }
-    }
-    Ok((making.take(Some(0))?, extent.values))
 }

@@ -8,8 +8,8 @@ use Rattle.cs_question.specs.Nodes.{Judgement, IsMeaning}
 use Rattle.cs_question.proofs.Some.{all_placed}
 use Rattle.cs_question.proofs.Loops.{item_some}
 use Rattle.cs_question.proofs.Said.{opposite}
-use Rattle.cs_question.proofs.cases.Refused.alike.Goals as goal
-use Rattle.cs_question.proofs.cases.Refused.alike.Goals.{then-other-literal, else-other-literal}
+use Rattle.cs_question.proofs.cases.alike.Goals as goal
+use Rattle.cs_question.proofs.cases.alike.Goals.{then-other-literal, else-other-literal}
 
 -- what is so where a value is given
 where_given : {X : Type 0} (b : Bool) (x : X) (P : Type 0) → (b ≡ true → P) → IfSome (then_some b x) (λ _. P)

@@ -4,8 +4,8 @@ use Rattle.std.proofs.lemmas.Option.{same_Some, slice_get_within}
 use Rattle.cs_question.specs.declared.table.Entry.{Entry}
 use Rattle.cs_question.specs.Truth.{NoDocument}
 use Rattle.cs_question.proofs.Loops.{got_some}
-use Rattle.cs_question.proofs.table.is_settled.Goals as goal
-use Rattle.cs_question.proofs.table.is_settled.Goals.{else-is_none-via-then-is_none+in_ok-found_for+else-is_some, else-is_none-via-else-is_none}
+use Rattle.cs_question.proofs.table.settle.Goals as goal
+use Rattle.cs_question.proofs.table.settle.Goals.{else-is_none-via-then-is_none+in_ok-found_for+else-is_some, else-is_none-via-else-is_none}
 
 pub loop-entry-preserved : goal.loop-entry-preserved
 loop-entry-preserved c =
@@ -24,6 +24,6 @@ loop-entry-preserved c =
     ]) i h e
 
 pub returns : goal.returns
-returns c = λ e asked s.
+returns c = λ asked s.
     let within : s.place < c.loop-entry.entry-index = let l = slice_get_within c.args.table.now.entries.items s.place s.entry s.at in omega (arith, l, c.loop-entry-test.false, ap length c.deref-entry-items.ensures.value) in
     subst (NoDocument c.args.nodes.now c.args.table.now) s.same (c.loop-entry.invariant s.place s.entry within s.at s.none)
