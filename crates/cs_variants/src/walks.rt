@@ -165,7 +165,14 @@ impl<'a> Walk<'a> {
             Inside::And(operands) => self.visit_each(operands),
             Inside::Or(operands) => self.visit_alternatives(operands),
             Inside::Struct { parts, opened } => self.visit_struct(parts, opened),
-            Inside::List { front, end } => self.visit_list(front, end),
+            Inside::List { front, end } => {
+                self.put_rule(Sampled::Invalid, Change::Simple(Simple::Top))?;
+                if !front.is_empty() {
+                    self.put_rule(Sampled::Invalid, Change::Shorter)?;
+                }
+                self.visit_each(front)?;
+                self.visit_end(front.len(), end)
+            }
         }
     }
 
@@ -236,23 +243,22 @@ impl<'a> Walk<'a> {
         }
     }
 
-    /// Visits the fixed elements, and what follows them: the least length and the next one, where there may be more.
+    /// What follows the fixed elements: the least length of a list and the next one, where it may be longer.
     #[cycle(visit)]
-    fn visit_list(&mut self, front: &'a [Shape], end: &'a ShapeEnd) -> Made<()> {
-        self.put_rule(Sampled::Invalid, Change::Simple(Simple::Top))?;
-        if !front.is_empty() {
-            self.put_rule(Sampled::Invalid, Change::Shorter)?;
+    fn visit_end(&mut self, step: usize, end: &'a ShapeEnd) -> Made<()> {
+        match end {
+            ShapeEnd::Closed => self.put_rule(Sampled::Invalid, Change::Longer),
+            ShapeEnd::Any => self.put_lengths(),
+            ShapeEnd::Each(shape) => {
+                self.put_lengths()?;
+                self.step(step, shape)
+            }
         }
-        self.visit_each(front)?;
-        if matches!(end, ShapeEnd::Closed) {
-            return self.put_rule(Sampled::Invalid, Change::Longer);
-        }
+    }
+
+    fn put_lengths(&mut self) -> Made<()> {
         self.put_rule(Sampled::Valid, Change::Shortest)?;
-        self.put(Sampled::Valid, Change::Longer)?;
-        if let ShapeEnd::Each(shape) = end {
-            self.step(front.len(), shape)?;
-        }
-        Ok(())
+        self.put(Sampled::Valid, Change::Longer)
     }
 
     /// The rule of what has no parts: for instances its ends, where it has some, and for others what is next to it and then anything
