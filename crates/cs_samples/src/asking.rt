@@ -37,11 +37,8 @@ const ATTEMPTS: [(Where, bool); 4] = [
 impl Asking<'_, '_> {
     ghost use Rattle.cs_samples.specs.Answers.{IsAnswer};
 
-    /// What the question of a place answers: the first text that an attempt gives. Where the change breaks nothing at one reference,
-    /// it is made at all of them.
-    ///
-    /// # Errors
-    /// `TooManyCases` where a limit was met, `OutOfMemory`.
+    /// What the question of a place answers: the first text that an attempt gives, or `TooManyCases` where a limit was met. Where the
+    /// change breaks nothing at one reference, it is made at all of them.
     pub(crate) fn asked(&self, place: &Place<'_>, budget: &mut Budget) -> Answer
         ensures { IfOk result (IsAnswer self.now) }
     {
@@ -58,10 +55,8 @@ impl Asking<'_, '_> {
         Ok(None)
     }
 
-    /// What a variant answers, where there is one, by half of the steps that are left once it is made.
-    ///
-    /// # Errors
-    /// `TooManyCases` where a limit was met, `OutOfMemory`.
+    /// What a variant answers, where there is one, by half of the steps that are left once it is made; `TooManyCases` where a limit
+    /// was met.
     pub(crate) fn answered(&self, variant: Option<Guarded>, budget: &mut Budget) -> Answer
         ensures { IfOk result (IsAnswer self.now) }
     {
@@ -124,6 +119,9 @@ impl Asking<'_, '_> {
 /// The steps for each byte of a document's text: the document is built, judged and written, some ten microseconds a value.
 const STEPS_OF_BYTE: usize = 10;
 
+/// The steps that counting the documents beyond those that are asked for may take, even where the documents took fewer.
+const LEAST_FOR_COUNTING: usize = 100_000;
+
 /// The texts of the documents that questions answered, in the order of the questions, no two alike; how far the questions came, and
 /// what is left for them.
 #[derive(Drop)]
@@ -138,21 +136,26 @@ impl Found {
     ghost use Rattle.cs_samples.specs.Answers.{IsAnswer};
     ghost use Rattle.cs_samples.specs.Kept.{AreFound};
 
-    pub(crate) fn new(asking: &Asking<'_, '_>, tally: Tally) -> Found
-        ensures { AreFound asking.now result }
+    /// Nothing is found yet, and no question is asked.
+    pub(crate) fn new(asking: &Asking<'_, '_>) -> Result<Found, AllocError>
+        ensures { IfOk result (AreFound asking.now) }
     {
-        Found {
+        let tally = Tally {
+            is_open: vec![in asking.alloc; true; asking.walk.rules]?,
+            unasked: asking.walk.places.len(),
+            is_unmet: false,
+            is_limited: false,
+        };
+        Ok(Found {
             texts: Vec::new(asking.alloc),
             seen: BTreeSet::new(asking.alloc),
             tally,
             budget: Budget::new(),
-        }
+        })
     }
 
-    /// Asks the questions of all places, in turns, as far as the budget lasts.
-    ///
-    /// # Errors
-    /// `OutOfMemory`, with the documents so far.
+    /// Asks the questions of all places, in turns, as far as the budget lasts. Where memory runs out, the documents so far stay. Those
+    /// beyond the ones that are asked for are counted alone, by as many steps as were taken of these.
     pub(crate) fn ask_each(&mut self, asking: &Asking<'_, '_>, most: usize) -> Answered<()>
         requires { AreFound asking.now self.old }
         ensures { AreFound asking.now self.new }
@@ -170,7 +173,8 @@ impl Found {
                 self.take(asking, answer)?;
             }
             if self.texts.len() >= most {
-                self.tally.count_on(whole, &mut self.budget);
+                let taken = whole.saturating_sub(self.budget.steps);
+                self.budget.steps = self.budget.steps.min(taken.max(LEAST_FOR_COUNTING));
             }
         }
         Ok(())
@@ -215,79 +219,41 @@ impl Found {
     }
 }
 
-/// The steps that counting the documents beyond those that are asked for may take, even where the documents took fewer.
-const LEAST_FOR_COUNTING: usize = 100_000;
-
 /// The steps that are left for a question about the root as a whole, as long as there is no document.
 const RESERVED: usize = 500_000;
 
 /// For which rules no question was answered, and how far the questions came.
 #[derive(Drop)]
 pub(crate) struct Tally {
-    is_open: Vec<bool>,
-    places: usize,
-    asked: usize,
-    /// Whether the first question has no answer.
+    pub(crate) is_open: Vec<bool>,
+    /// How many places weren't asked about.
+    pub(crate) unasked: usize,
+    /// Whether the question about the root as it stands, which is that of the first rule for instances, has no answer.
     is_unmet: bool,
     /// Whether a limit was met, or memory ran out.
     pub(crate) is_limited: bool,
-    is_counting: bool,
 }
 
 impl Tally {
-    /// Of so many rules with so many places, of which none was asked about.
-    pub(crate) fn new(alloc: Global, rules: usize, places: usize) -> Result<Tally, AllocError> {
-        let is_open = vec![in alloc; true; rules]?;
-        Ok(Tally {
-            is_open,
-            places,
-            asked: 0,
-            is_unmet: false,
-            is_limited: false,
-            is_counting: false,
-        })
-    }
-
     /// Notes the answer to the question of a place, by the rule of which it is.
-    pub(crate) fn note(&mut self, rule: usize, answer: &Answer) {
-        self.asked = self.asked.saturating_add(1);
+    fn note(&mut self, rule: usize, answer: &Answer) {
+        self.unasked = self.unasked.saturating_sub(1);
         if answer.is_err() {
             self.is_limited = true;
             return;
         }
-        self.is_unmet = self.is_unmet || (self.asked == 1 && matches!(answer, Ok(None)));
+        self.is_unmet = self.is_unmet || (rule == 0 && matches!(answer, Ok(None)));
         if let Some(is_open) = self.is_open.get_mut(rule) {
             *is_open = false;
         }
     }
 
-    /// From here on documents are counted alone, by as many steps as were taken so far of these.
-    pub(crate) fn count_on(&mut self, whole: usize, budget: &mut Budget) {
-        if self.is_counting {
-            return;
-        }
-        self.is_counting = true;
-        let taken = whole.saturating_sub(budget.steps);
-        budget.steps = budget.steps.min(taken.max(LEAST_FOR_COUNTING));
-    }
-
-    /// Whether no more is to be asked: where nothing is an instance of the root, which the first question for instances is about as
-    /// it stands, and where the steps are used up.
-    pub(crate) fn is_over(&self, which: Sampled, has_none: bool, budget: &Budget) -> bool {
+    /// Whether no more is to be asked: where nothing is an instance of the root, and where the steps are used up.
+    fn is_over(&self, which: Sampled, has_none: bool, budget: &Budget) -> bool {
         match which {
             Sampled::Invalid if has_none => budget.steps <= RESERVED,
             Sampled::Valid if self.is_unmet => true,
             Sampled::Valid | Sampled::Invalid => budget.steps == 0,
         }
-    }
-
-    /// Whether each place was asked about, and no limit was met.
-    pub(crate) fn is_complete(&self) -> bool {
-        !self.is_limited && self.asked == self.places
-    }
-
-    /// For how many rules no question was answered.
-    pub(crate) fn untried(&self) -> usize {
-        self.is_open.iter().filter(|is_open| **is_open).count()
     }
 }

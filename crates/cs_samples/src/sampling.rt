@@ -5,7 +5,7 @@ ghost use Rattle.cs_package.specs.Environment.{Names};
 ghost use Rattle.cs_samples.specs.Kept.{AreFound, IsSplit};
 ghost use Rattle.cs_samples.specs.Sample.{AreSamples, HasMore, HasNoInstance, same_text};
 
-use crate::asking::{Asking, Found, Tally};
+use crate::asking::{Asking, Found};
 use cs_guard::Guarded;
 use cs_json::shown_text;
 use cs_question::{Budget, QuestionFault, instance_of};
@@ -107,16 +107,15 @@ fn first_of(found: Found, most: usize) -> SampleTexts
     ensures within { length result.texts.items ≤ most }
     ensures some { 0 < most → result.texts.items ≡ [] → found.texts.items ≡ [] }
 {
-    let is_complete = found.tally.is_complete();
-    let untried = found.tally.untried();
+    let tally = found.tally;
     let mut texts = found.texts;
     let more = texts.len().saturating_sub(most);
     texts.truncate(most);
     SampleTexts {
         texts,
         more,
-        is_complete,
-        untried,
+        is_complete: !tally.is_limited && tally.unasked == 0,
+        untried: tally.is_open.iter().filter(|is_open| **is_open).count(),
     }
 }
 
@@ -142,9 +141,7 @@ fn one_instance(asking: &Asking<'_, '_>, mut budget: Budget) -> Result<SampleTex
 fn gathered(asking: &Asking<'_, '_>, most: usize) -> Result<Found, QuestionFault>
     ensures { IfOk result (AreFound asking.now) }
 {
-    let walk = asking.walk;
-    let tally = Tally::new(asking.alloc, walk.rules, walk.places.len())?;
-    let mut found = Found::new(asking, tally);
+    let mut found = Found::new(asking)?;
     match found.ask_each(asking, most) {
         Ok(()) if found.texts.is_empty() => found.ask_any(asking)?,
         Ok(()) => {}

@@ -1,5 +1,6 @@
 // Copies of expressions, in which something may be put at a place.
 use crate::places::{Change, Made, Sampled};
+use crate::variants::Draft;
 use cs_package::{FieldMark, Inside, Literal, Part, Shape, ShapeEnd, Simple};
 use std::alloc::Global;
 
@@ -21,30 +22,20 @@ fn change_at(way: Way<'_>) -> Change<'_> {
     }
 }
 
-/// How expressions are copied, and for which documents.
-#[derive(Clone, Copy)]
-pub(crate) struct Copying {
-    pub(crate) alloc: Global,
-    pub(crate) which: Sampled,
-    /// Whether what a document may lack is left out, but for what is on the way to a place: optional keys, a map's keys where it has
-    /// no others, and elements that repeat.
-    pub(crate) is_least: bool,
-}
-
-impl Copying {
+impl Draft<'_, '_> {
     /// The same expression in its own memory, or what is least of it. On a way each step is forced, so that a document has
     /// something at the place, and the change is made there: an alternative stands alone, a declaration's key is there, and so is
     /// an element that repeats. What a change isn't made for stays as it is.
     #[cycle(copies)]
     fn copy_shape(&self, shape: &Shape, way: Way<'_>) -> Made<Shape> {
         match change_at(way) {
-            Change::Simple(simple) => return shape_of(self.alloc, simple),
+            Change::Simple(simple) => return shape_of(self.walk.alloc, simple),
             Change::Definition(number) => return Ok(Shape::Definition(number)),
             Change::Same | Change::FurtherKey | Change::Without(_) => {}
             Change::Shorter | Change::Shortest | Change::Longer => {}
         }
         match shape.inside() {
-            Inside::Simple(simple) => shape_of(self.alloc, simple),
+            Inside::Simple(simple) => shape_of(self.walk.alloc, simple),
             Inside::Definition(number) => Ok(Shape::Definition(number)),
             Inside::And(operands) => Ok(Shape::And(self.copy_shapes(operands, way)?)),
             Inside::Or(operands) => self.copy_alternatives(operands, way),
@@ -54,8 +45,9 @@ impl Copying {
                 if matches!(change_at(way), Change::Shorter) {
                     let _ = copied.pop();
                 }
-                if let Some(element) = self.further_element(end, front.len(), way)? {
-                    copied.push(element)?;
+                let further = after(way, front.len());
+                if further.is_some() || matches!(change_at(way), Change::Longer) {
+                    copied.push(self.further_element(end, further)?)?;
                 }
                 let end = self.copy_end(end, way)?;
                 Ok(Shape::List { front: copied, end })
@@ -66,7 +58,7 @@ impl Copying {
     /// The same expressions, in order: bodies, operands or elements.
     #[cycle(copies)]
     pub(crate) fn copy_shapes(&self, shapes: &[Shape], way: Way<'_>) -> Made<Vec<Shape>> {
-        let mut copies = Vec::with_capacity(self.alloc, shapes.len())?;
+        let mut copies = Vec::with_capacity(self.walk.alloc, shapes.len())?;
         for (i, shape) in shapes.iter().enumerate() {
             copies.push(self.copy_shape(shape, after(way, i))?)?;
         }
@@ -84,17 +76,12 @@ impl Copying {
         Ok(Shape::Or(self.copy_shapes(operands, None)?))
     }
 
-    /// An element behind so many fixed ones, where the way or the change has one there: what it has to be, and anything where
-    /// there may be none.
+    /// An element behind the fixed ones: what it has to be, and anything where there may be none.
     #[cycle(copies)]
-    fn further_element(&self, end: &ShapeEnd, count: usize, way: Way<'_>) -> Made<Option<Shape>> {
-        let further = after(way, count);
-        if further.is_none() && !matches!(change_at(way), Change::Longer) {
-            return Ok(None);
-        }
+    fn further_element(&self, end: &ShapeEnd, way: Way<'_>) -> Made<Shape> {
         match end {
-            ShapeEnd::Closed | ShapeEnd::Any => Ok(Some(Shape::Top)),
-            ShapeEnd::Each(shape) => Ok(Some(self.copy_shape(shape, further)?)),
+            ShapeEnd::Closed | ShapeEnd::Any => Ok(Shape::Top),
+            ShapeEnd::Each(shape) => self.copy_shape(shape, way),
         }
     }
 
@@ -108,7 +95,7 @@ impl Copying {
             (ShapeEnd::Any, _) => Ok(ShapeEnd::Any),
             (ShapeEnd::Each(shape), _) => {
                 let copied = self.copy_shape(shape, None)?;
-                Ok(ShapeEnd::Each(Box::new(self.alloc, copied)?))
+                Ok(ShapeEnd::Each(Box::new(self.walk.alloc, copied)?))
             }
         }
     }
@@ -117,30 +104,34 @@ impl Copying {
     /// a step to it is forced: its key is there. What is valid under a further key has to meet `[string]` as it stands, too. What
     /// is invalid there couldn't, so `[string]` itself is changed, and stands beside a struct with no further key.
     #[cycle(copies)]
-    fn copy_struct(&self, parts: &[Part], opened: bool, way: Way<'_>) -> Made<Shape> {
-        let mut copied = Vec::with_capacity(self.alloc, parts.len())?;
-        let mut every = None;
+    fn copy_struct(&self, declared: &[Part], opened: bool, way: Way<'_>) -> Made<Shape> {
+        let (mut parts, mut every) = (Vec::new(self.walk.alloc), None);
         let is_same = matches!(way, None | Some(([], Change::Same)));
-        if self.is_least && !opened && is_same && !has_required(parts) {
-            return self.struct_of(copied, opened, every);
+        if self.is_least && !opened && is_same && !has_required(declared) {
+            return Ok(Shape::Struct { parts, opened });
         }
-        for (i, part) in parts.iter().enumerate() {
+        for (i, part) in declared.iter().enumerate() {
             let further = after(way, i);
             if further.is_some() {
                 let value = self.copy_shape(&part.value, further)?;
-                let (forced, changed) = self.forced(parts, part, value)?;
-                copied.push(forced)?;
+                let (forced, changed) = self.forced(declared, part, value)?;
+                parts.push(forced)?;
                 every = changed;
             }
-            if further.is_none() || (is_every(part) && self.which.is_valid()) {
-                copied.push(self.copy_part(part, i, way)?)?;
+            if further.is_none() || (is_every(part) && self.walk.which.is_valid()) {
+                parts.push(self.copy_part(part, i, way)?)?;
             }
         }
         let is_longer = matches!(change_at(way), Change::FurtherKey);
         if is_longer {
-            copied.push(further_part(self.alloc, parts, Shape::Top)?)?;
+            parts.push(self.further_part(declared, Shape::Top)?)?;
         }
-        self.struct_of(copied, opened || is_longer, every)
+        let opened = every.is_none() && (opened || is_longer);
+        let copied = Shape::Struct { parts, opened };
+        let Some(every) = every else {
+            return Ok(copied);
+        };
+        Ok(Shape::And(vec![in self.walk.alloc; copied, every]?))
     }
 
     /// The same declaration, or one of the same label by which that is no key.
@@ -153,32 +144,34 @@ impl Copying {
         with_value(part, part.mark, self.copy_shape(&part.value, None)?)
     }
 
-    /// A declaration by which the key of this one is there, with that value, and `[string]` where that is changed.
-    fn forced(&self, parts: &[Part], part: &Part, value: Shape) -> Made<(Part, Option<Part>)> {
-        match (is_every(part), self.which) {
+    /// A declaration by which the key of this one is there, with that value, and a struct of `[string]` where that is changed.
+    fn forced(&self, parts: &[Part], part: &Part, value: Shape) -> Made<(Part, Option<Shape>)> {
+        match (is_every(part), self.walk.which) {
             (false, _) => Ok((with_value(part, FieldMark::Regular, value)?, None)),
-            (true, Sampled::Valid) => Ok((further_part(self.alloc, parts, value)?, None)),
+            (true, Sampled::Valid) => Ok((self.further_part(parts, value)?, None)),
             (true, Sampled::Invalid) => {
                 let every = with_value(part, part.mark, value)?;
-                Ok((further_part(self.alloc, parts, Shape::Top)?, Some(every)))
+                let every = Shape::Struct {
+                    parts: vec![in self.walk.alloc; every]?,
+                    opened: true,
+                };
+                Ok((self.further_part(parts, Shape::Top)?, Some(every)))
             }
         }
     }
 
-    /// The struct of these, with no further key where `[string]` stands beside them.
-    fn struct_of(&self, parts: Vec<Part>, opened: bool, every: Option<Part>) -> Made<Shape> {
-        let Some(part) = every else {
-            return Ok(Shape::Struct { parts, opened });
-        };
-        let closed = Shape::Struct {
-            parts,
-            opened: false,
-        };
-        let every = Shape::Struct {
-            parts: vec![in self.alloc; part]?,
-            opened: true,
-        };
-        Ok(Shape::And(vec![in self.alloc; closed, every]?))
+    /// The declaration of a key that these don't have.
+    fn further_part(&self, parts: &[Part], value: Shape) -> Made<Part> {
+        let mut label = String::from_str(self.walk.alloc, "key")?;
+        for _ in 0..parts.len() {
+            let name = label.as_str();
+            if !parts.iter().any(|part| part.label.as_str() == name) {
+                break;
+            }
+            label.push_str("_")?;
+        }
+        let mark = FieldMark::Regular;
+        Ok(Part { label, mark, value })
     }
 }
 
@@ -210,20 +203,6 @@ pub(crate) fn is_every(part: &Part) -> bool {
 /// Whether a key has to be there.
 fn has_required(parts: &[Part]) -> bool {
     parts.iter().any(|part| matches!(part.mark, FieldMark::Regular | FieldMark::Required))
-}
-
-/// The declaration of a key that these don't have.
-fn further_part(alloc: Global, parts: &[Part], value: Shape) -> Made<Part> {
-    let mut label = String::from_str(alloc, "key")?;
-    for _ in 0..parts.len() {
-        let name = label.as_str();
-        if !parts.iter().any(|part| part.label.as_str() == name) {
-            break;
-        }
-        label.push_str("_")?;
-    }
-    let mark = FieldMark::Regular;
-    Ok(Part { label, mark, value })
 }
 
 /// The declaration with another mark and value.

@@ -6,6 +6,6 @@ mod places;
 mod variants;
 mod walks;
 
-pub use places::{Change, Place, Reached, Sampled};
+pub use places::{Place, Sampled};
 pub use variants::Where;
 pub use walks::{Walk, walk_of};

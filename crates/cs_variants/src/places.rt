@@ -1,7 +1,6 @@
 // Which documents are sampled, places in a package, and what is put there: ends of an expression without parts, and what is next to it.
 ghost use Rattle.std.specs.Prelude.{◌≡◌};
 
-use crate::copies::Way;
 use cs_package::{Kind, Literal, Relation, Simple};
 use std::alloc::AllocError;
 
@@ -43,20 +42,6 @@ pub struct Place<'a> {
     pub rule: usize,
     /// The number of the change among those of its rule.
     pub(crate) turn: usize,
-}
-
-impl Place<'_> {
-    /// The way to the place from the bodies of its definition, with that put there.
-    pub(crate) fn way<'w>(&'w self, change: Change<'w>) -> Way<'w> {
-        Some((self.steps.as_slice(), change))
-    }
-}
-
-/// A definition that the root reaches, and the place of a reference to it; the root itself has none.
-#[derive(Drop)]
-pub struct Reached<'a> {
-    pub(crate) definition: usize,
-    pub(crate) from: Option<Place<'a>>,
 }
 
 /// Which documents are sampled: instances of a definition, or documents that aren't.

@@ -5,7 +5,7 @@ ghost use Rattle.cs_package.specs.Environment.{IsDefinitionName, written};
 ghost use Rattle.cs_package.specs.View.{IsTable};
 ghost use Rattle.cs_variants.specs.Sound.{IsSound, IsSoundPart, IsSoundEnd};
 
-use crate::copies::{Copying, Way};
+use crate::copies::Way;
 use crate::places::{Change, Made, Place};
 use crate::walks::Walk;
 use cs_guard::{GuardFault, Guarded, guard};
@@ -20,11 +20,13 @@ pub enum Where {
     Everywhere,
 }
 
-/// The definitions of a variant: the number of each in the package that it is made of, and its bodies, copied like this.
+/// The definitions of a variant: the number of each in the package that it is made of, and its bodies, copied from there.
 #[derive(Drop)]
-struct Draft<'w, 'a> {
-    walk: &'w Walk<'a>,
-    copying: Copying,
+pub(crate) struct Draft<'w, 'a> {
+    pub(crate) walk: &'w Walk<'a>,
+    /// Whether what a document may lack is left out, but for what is on the way to a place: optional keys, a map's keys where it has
+    /// no others, and elements that repeat.
+    pub(crate) is_least: bool,
     definitions: Vec<usize>,
     bodies: Vec<Vec<Shape>>,
 }
@@ -35,107 +37,80 @@ impl Walk<'_> {
     /// Where the change is made everywhere, the definition of the place is changed itself. What a document may lack is left out
     /// where the least is asked for: its questions lead to far fewer others. Only memory can run out.
     pub fn variant(&self, place: &Place<'_>, at: Where, is_least: bool) -> Made<Option<Guarded>> {
-        let mut draft = Draft::new(self, is_least);
-        for definition in 0..self.package.count() {
-            draft.put_copy(definition, None)?;
-        }
-        let changed = match at {
-            Where::Once => draft.put_copy(place.definition, place.way(place.change))?,
-            Where::Everywhere => draft.put_changed(place)?,
+        let mut draft = Draft {
+            walk: self,
+            is_least,
+            definitions: Vec::new(self.alloc),
+            bodies: Vec::new(self.alloc),
         };
-        draft.put_way(place.entry, changed)?;
-        draft.guarded()
+        draft.put_all(place, at)?;
+        draft.put_way(place, at)?;
+        let bodies = draft.bodies;
+        self.guarded(&draft.definitions, bodies)
     }
 
     /// The package of one definition, `_`, in place of the root. Only memory can run out.
     pub fn of_everything(&self) -> Made<Option<Guarded>> {
-        let mut draft = Draft::new(self, false);
         let anything = vec![in self.alloc; Shape::Top]?;
-        let _ = draft.put(self.root, anything)?;
-        draft.guarded()
-    }
-}
-
-impl<'w, 'a> Draft<'w, 'a> {
-    fn new(walk: &'w Walk<'a>, is_least: bool) -> Draft<'w, 'a> {
-        let alloc = walk.alloc;
-        let copying = Copying {
-            alloc,
-            which: walk.which,
-            is_least,
-        };
-        Draft {
-            walk,
-            copying,
-            definitions: Vec::new(alloc),
-            bodies: Vec::new(alloc),
-        }
+        self.guarded(&[self.root], vec![in self.alloc; anything]?)
     }
 
-    /// The package of these definitions, where it is guarded.
-    fn guarded(self) -> Made<Option<Guarded>> {
-        let alloc = self.walk.alloc;
-        let names = names_of(alloc, self.walk.package, &self.definitions)?;
-        let Some(package) = whole(names, self.bodies) else {
+    /// The package of copies of these definitions with these bodies, where it is guarded.
+    fn guarded(&self, definitions: &[usize], bodies: Vec<Vec<Shape>>) -> Made<Option<Guarded>> {
+        let names = names_of(self.alloc, self.package, definitions)?;
+        let Some(package) = whole(names, bodies) else {
             return Ok(None);
         };
-        match guard(alloc, package) {
+        match guard(self.alloc, package) {
             Ok(guarded) => Ok(Some(guarded)),
             Err(GuardFault::OutOfMemory) => Err(AllocError),
             Err(GuardFault::Cycle { .. } | GuardFault::ChainTooLong { .. }) => Ok(None),
         }
     }
+}
 
-    /// Puts copies of the definitions that refer to the one of an entry behind the others, on the way back to the root. The first
-    /// copy refers to the definition of that number instead, and each further one to the copy before it.
-    fn put_way(&mut self, entry: usize, definition: usize) -> Made<()> {
-        let walk = self.walk;
-        let (mut entry, mut last) = (entry, definition);
-        for _ in 0..walk.reached.len() {
-            let Some(from) = walk.reference_to(entry) else {
-                break;
+impl Draft<'_, '_> {
+    /// Puts copies of all definitions, of which that of a place is changed in its stead where all references to it are meant.
+    fn put_all(&mut self, place: &Place<'_>, at: Where) -> Made<()> {
+        for definition in 0..self.walk.package.count() {
+            let way = match at {
+                Where::Everywhere if definition == place.definition => {
+                    Some((place.steps.as_slice(), place.change))
+                }
+                Where::Everywhere | Where::Once => None,
             };
-            last = self.put_copy(from.definition, from.way(Change::Definition(last)))?;
-            entry = from.entry;
+            self.put_copy(definition, way)?;
         }
         Ok(())
     }
 
-    /// Changes the definition of a place in its stead; its number. The root, which was reached first, has a copy too, since the last
-    /// definition counts as the root.
-    fn put_changed(&mut self, place: &Place<'_>) -> Made<usize> {
-        let way = place.way(place.change);
-        let copies = self.copied(place.definition, way)?;
-        if let Some(bodies) = self.bodies.get_mut(place.definition) {
-            *bodies = copies;
+    /// Puts copies of the definitions on the way to a place behind the others, on the way back to the root, which is the last one:
+    /// the last definition counts as the root. The first copy has the change, and each further one refers to the copy before it.
+    /// Where all references are meant, the definition of the place is there already, unless it is the root.
+    fn put_way(&mut self, place: &Place<'_>, at: Where) -> Made<()> {
+        let walk = self.walk;
+        let (mut next, mut change) = match (at, walk.reference_to(place.entry)) {
+            (Where::Everywhere, Some(from)) => (Some(from), Change::Definition(place.definition)),
+            (Where::Everywhere, None) | (Where::Once, _) => (Some(place), place.change),
+        };
+        for _ in 0..walk.reached.len() {
+            let Some(place) = next else {
+                break;
+            };
+            let way = Some((place.steps.as_slice(), change));
+            change = Change::Definition(self.put_copy(place.definition, way)?);
+            next = walk.reference_to(place.entry);
         }
-        if place.entry == 0 {
-            self.put_copy(place.definition, way)?;
-        }
-        Ok(place.definition)
+        Ok(())
     }
 
     /// Puts a copy of a definition behind the others, with what a way puts in it; its number.
     fn put_copy(&mut self, definition: usize, way: Way<'_>) -> Made<usize> {
-        let copies = self.copied(definition, way)?;
-        self.put(definition, copies)
-    }
-
-    /// Puts a definition with these bodies behind the others; its number.
-    fn put(&mut self, definition: usize, bodies: Vec<Shape>) -> Made<usize> {
         let number = self.bodies.len();
+        let copies = self.copy_shapes(self.walk.bodies(definition), way)?;
+        self.bodies.push(copies)?;
         self.definitions.push(definition)?;
-        self.bodies.push(bodies)?;
         Ok(number)
-    }
-
-    /// The bodies of a definition, with what a way puts in them; none where the root doesn't reach it.
-    fn copied(&self, definition: usize, way: Way<'_>) -> Made<Vec<Shape>> {
-        let package = self.walk.package;
-        if definition >= package.count() || self.walk.uses.get(definition) == Some(&0) {
-            return Ok(Vec::new(self.walk.alloc));
-        }
-        self.copying.copy_shapes(package.bodies(definition), way)
     }
 }
 
