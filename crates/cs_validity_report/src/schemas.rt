@@ -96,7 +96,12 @@ impl<'t> Schemas<'t> {
             return Ok(Finding::here("excluded", text));
         }
         KINDS.put_mismatch(&mut text, value)?;
-        let [reason, kind] = put_unmet(&mut text, keyword, keywords)?;
+        let reason = put_unmet(&mut text, keyword, keywords)?;
+        // Every number is an integer here, so what asks for either is told as one.
+        let kind = match (keyword, keywords.kind) {
+            (Keyword::Type, Some(JsonKind::Number | JsonKind::Integer)) => "number",
+            _ => "",
+        };
         Ok(Finding::here(reason, text).of_kind(kind))
     }
 
@@ -261,30 +266,28 @@ fn put_values(text: &mut String, values: &Vec<Doc>) -> Written {
     put_more(text, values.len())
 }
 
-/// Puts what a keyword asks, and answers which kind of reason it is that a value isn't so, and of which kind the value isn't, where several tell
-/// that: `type` asks for a number or an integer, and every number is an integer here.
-fn put_unmet(text: &mut String, keyword: Keyword, keywords: &Keywords) -> Made<[&'static str; 2]> {
+/// Puts what a keyword asks, and answers which kind of reason it is that a value isn't so, in a word.
+fn put_unmet(text: &mut String, keyword: Keyword, keywords: &Keywords) -> Made<&'static str> {
     for (limiting, mark, limit) in limits(keywords) {
         if limiting.name() == keyword.name() {
             text.push_str(mark)?;
             put_integer(text, limit.unwrap_or(0))?;
-            return Ok(["range", ""]);
+            return Ok("range");
         }
     }
     match (keyword, keywords.kind, &keywords.equal, &keywords.one_of) {
         (Keyword::Type, Some(kind), _, _) => {
             text.push_str(kind_name(kind))?;
-            let is_number = matches!(kind, JsonKind::Number | JsonKind::Integer);
-            return Ok(["kind", if is_number { "number" } else { "" }]);
+            return Ok("kind");
         }
         (Keyword::Const, _, Some(value), _) => put_value(text, value)?,
         (Keyword::Enum, _, _, Some(values)) if !values.is_empty() => put_values(text, values)?,
         _ => {
             text.push_str("no value")?;
-            return Ok(["never", ""]);
+            return Ok("never");
         }
     }
-    Ok(["value", ""])
+    Ok("value")
 }
 
 /// Puts what `not` refuses.
