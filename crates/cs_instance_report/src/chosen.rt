@@ -5,7 +5,7 @@ use cs_grammar::{Expr, Field, Site};
 use cs_instance::holds_simply;
 use cs_instance_reasons::InstanceCause;
 use cs_package::{FieldMark, Inside, Part, Shape};
-use cs_reason_words::{Made, item_at};
+use cs_reason_words::{Made, item_at, number_under};
 use std::alloc::Global;
 
 /// The alternative that is followed, of those that the conditions of a literal make.
@@ -14,14 +14,13 @@ pub(crate) struct Choice<'t> {
     /// The alternatives, and the same in the files that the sources stand for.
     shapes: &'t [Shape],
     trees: &'t [Expr],
-    /// The place of the one that is followed.
-    place: usize,
+    followed: Alternative<'t>,
     /// The number of the map.
-    pub(crate) item: usize,
+    item: usize,
     /// How many bytes its pointer has.
     pub(crate) pointer: usize,
     /// The place of the declaration that is followed from there, if one is.
-    declaration: Option<usize>,
+    pub(crate) declaration: Option<usize>,
 }
 
 /// A struct literal, with what each of its declarations is in the files that the sources stand for.
@@ -41,27 +40,28 @@ pub(crate) enum Sought<'t> {
     Key(&'t str),
 }
 
-/// The value under a key, if there is one.
-pub(crate) fn member_of<'t>(flat: &'t Flat<'t>, item: usize, key: &str) -> Option<Item<'t>> {
+/// Labels of a map, each with its value; none where the map hasn't the key.
+type Members<'t> = Vec<(&'t str, Option<Item<'t>>)>;
+
+/// The key of the member at a place of a map.
+pub(crate) fn key_at<'t>(flat: &'t Flat<'t>, item: usize, member: usize) -> Option<&'t str> {
     match item_at(flat, item) {
-        Item::Object(entries) => {
-            let place = entries.binary_search_by_key(&key, |entry| entry.0).ok()?;
-            Some(item_at(flat, entries.get(place)?.1))
-        }
+        Item::Object(entries) => Some(entries.get(member)?.0),
         Item::Null | Item::Bool(_) | Item::Int(_) | Item::Text(_) | Item::List(_) => None,
     }
 }
 
+/// The value under a key, if there is one.
+fn member_of<'t>(flat: &'t Flat<'t>, item: usize, key: &str) -> Option<Item<'t>> {
+    Some(item_at(flat, number_under(item_at(flat, item), key)?))
+}
+
 /// Whether what a condition makes of a field, an expression without parts or the kinds of values that are none of a literal, admits a value.
 fn admits(shape: &Shape, value: &Item<'_>) -> bool {
-    match shape.inside() {
-        Inside::Or(operands) => operands.iter().any(|operand| admits_one(operand, value)),
-        Inside::Simple(_)
-        | Inside::Definition(_)
-        | Inside::And(_)
-        | Inside::Struct { .. }
-        | Inside::List { .. } => admits_one(shape, value),
+    if let Shape::Or(operands) = shape {
+        return operands.iter().any(|operand| admits_one(operand, value));
     }
+    admits_one(shape, value)
 }
 
 fn admits_one(shape: &Shape, value: &Item<'_>) -> bool {
@@ -94,10 +94,12 @@ fn is_met(flat: &Flat<'_>, item: usize, part: &Part) -> bool {
     }
 }
 
-/// Adds a label, unless it is there already.
-fn add_label<'t>(labels: &mut Vec<&'t str>, label: &'t str) -> Made<()> {
-    if labels.iter().all(|other| *other != label) {
-        labels.push(label)?;
+/// Adds labels, but for those that are there already.
+fn add_new<'t>(labels: &mut Vec<&'t str>, others: &[&'t str]) -> Made<()> {
+    for label in others {
+        if !labels.contains(label) {
+            labels.push(*label)?;
+        }
     }
     Ok(())
 }
@@ -106,112 +108,11 @@ fn is_same_site(site: &Site, other: &Site) -> bool {
     site.at == other.at && site.by == other.by && site.all.as_slice() == other.all.as_slice()
 }
 
-/// Whether a declaration allows a key: that of its label, or `[string]`.
-fn allows(part: &Part, key: &str) -> bool {
-    part.label.as_str() == key || matches!(part.mark, FieldMark::Every { .. })
-}
-
 impl<'t> Alternative<'t> {
-    /// The labels of the fields that conditions ask for, and that a map hasn't so.
-    fn unmet(self, alloc: Global, flat: &Flat<'_>, item: usize) -> Made<Vec<&'t str>> {
-        let mut labels = Vec::new(alloc);
-        for (part, field) in self.parts.iter().zip(self.fields) {
-            if field.asked && !is_met(flat, item, part) {
-                add_label(&mut labels, part.label.as_str())?;
-            }
-        }
-        Ok(labels)
-    }
-
-    /// The labels of the fields that conditions ask for, of these.
-    fn asked(self, alloc: Global, labels: &[&str]) -> Made<Vec<&'t str>> {
-        let mut asked = Vec::new(alloc);
-        for (part, field) in self.parts.iter().zip(self.fields) {
-            let label = part.label.as_str();
-            if field.asked && labels.iter().any(|other| *other == label) {
-                add_label(&mut asked, label)?;
-            }
-        }
-        Ok(asked)
-    }
-
-    fn has(self, sought: Sought<'_>) -> bool {
-        match sought {
-            Sought::Declaration(site) => self
-                .fields
-                .iter()
-                .any(|field| is_same_site(&field.site, site)),
-            Sought::Key(key) => self.opened || self.parts.iter().any(|part| allows(part, key)),
-        }
-    }
-}
-
-/// What is known of alternatives by one after another.
-#[derive(Drop)]
-struct Compared<'t> {
-    /// Whether all have what is sought, or none has.
-    are_alike: bool,
-    /// How many fields at least a map hasn't as one asks that differs, and which ones by those of so many.
-    least: usize,
-    labels: Vec<&'t str>,
-}
-
-impl<'t> Compared<'t> {
-    /// Adds an alternative that differs, by the labels of its fields that are unmet.
-    fn add(&mut self, unmet: &[&'t str]) -> Made<()> {
-        self.are_alike = false;
-        if unmet.len() < self.least {
-            self.least = unmet.len();
-            self.labels.truncate(0);
-        }
-        if unmet.len() == self.least {
-            for label in unmet {
-                add_label(&mut self.labels, label)?;
-            }
-        }
-        Ok(())
-    }
-}
-
-impl<'t> Choice<'t> {
-    /// That of the alternative at a place, if conditions make these: the alternatives of a value that is a map, whose pointer has so many
-    /// bytes.
-    pub(crate) fn of(
-        shapes: &'t [Shape],
-        spelled: Option<Spelled<'t>>,
-        place: usize,
-        item: usize,
-        pointer: usize,
-    ) -> Option<Choice<'t>> {
-        let choice = Choice {
-            shapes,
-            trees: spelled?.alternatives(),
-            place,
-            item,
-            pointer,
-            declaration: None,
-        };
-        let followed = choice.alternative(place)?;
-        followed
-            .fields
-            .iter()
-            .any(|field| field.asked)
-            .then_some(choice)
-    }
-
-    /// The same where a declaration is followed from there.
-    pub(crate) fn inside(self, declaration: usize) -> Choice<'t> {
-        let declaration = self.declaration.or(Some(declaration));
-        Choice {
-            declaration,
-            ..self
-        }
-    }
-
-    /// The alternative at a place, if it is a struct literal.
-    fn alternative(self, place: usize) -> Option<Alternative<'t>> {
-        let fields = fields_of(self.trees.get(place)?)?;
-        match self.shapes.get(place)? {
+    /// That at a place, if it is a struct literal.
+    fn at(shapes: &'t [Shape], trees: &'t [Expr], place: usize) -> Option<Alternative<'t>> {
+        let fields = fields_of(trees.get(place)?)?;
+        match shapes.get(place)? {
             Shape::Struct { parts, opened } if parts.len() == fields.len() => Some(Alternative {
                 parts,
                 fields,
@@ -219,6 +120,65 @@ impl<'t> Choice<'t> {
             }),
             _ => None,
         }
+    }
+
+    /// The labels of the fields that conditions ask for, and that a map hasn't so.
+    fn unmet(self, alloc: Global, flat: &Flat<'_>, item: usize) -> Made<Vec<&'t str>> {
+        let mut labels = Vec::new(alloc);
+        for (part, field) in self.parts.iter().zip(self.fields) {
+            if field.asked && !is_met(flat, item, part) {
+                add_new(&mut labels, &[part.label.as_str()])?;
+            }
+        }
+        Ok(labels)
+    }
+
+    /// Of these labels those of fields that conditions ask for, each once, with their values in a map.
+    fn asked(self, labels: &Vec<&str>, flat: &'t Flat<'t>, item: usize) -> Made<Members<'t>> {
+        let mut asked: Members<'t> = Vec::new(*labels.allocator());
+        for (part, field) in self.parts.iter().zip(self.fields) {
+            let label = part.label.as_str();
+            let is_new = asked.iter().all(|other| other.0 != label);
+            if field.asked && is_new && labels.contains(&label) {
+                asked.push((label, member_of(flat, item, label)))?;
+            }
+        }
+        Ok(asked)
+    }
+
+    fn has(self, sought: Sought<'_>) -> bool {
+        let (mut parts, mut fields) = (self.parts.iter(), self.fields.iter());
+        match sought {
+            Sought::Declaration(site) => fields.any(|field| is_same_site(&field.site, site)),
+            Sought::Key(key) => {
+                let allows = |part: &Part| part.label.as_str() == key
+                    || matches!(part.mark, FieldMark::Every { .. });
+                self.opened || parts.any(allows)
+            }
+        }
+    }
+}
+
+impl<'t> Choice<'t> {
+    /// That of the alternative at a place, if conditions make these, those of a value that is a map, whose pointer has so many bytes.
+    pub(crate) fn of(
+        shapes: &'t [Shape],
+        spelled: Option<Spelled<'t>>,
+        place: usize,
+        item: usize,
+        pointer: usize,
+    ) -> Option<Choice<'t>> {
+        let trees = spelled?.alternatives();
+        let followed = Alternative::at(shapes, trees, place)?;
+        let mut fields = followed.fields.iter();
+        fields.any(|field| field.asked).then_some(Choice {
+            shapes,
+            trees,
+            followed,
+            item,
+            pointer,
+            declaration: None,
+        })
     }
 
     /// How many declarations the alternatives have.
@@ -233,71 +193,63 @@ impl<'t> Choice<'t> {
     }
 
     /// What the alternative has, or hasn't, by which a cause refuses a value in it, or inside of it.
-    pub(crate) fn sought(self, cause: &InstanceCause, key: &'t str) -> Option<Sought<'t>> {
+    pub(crate) fn sought(self, flat: &'t Flat<'t>, cause: &InstanceCause) -> Option<Sought<'t>> {
         let place = match (self.declaration, cause) {
             (Some(place), _) => place,
             (None, InstanceCause::Missing { declaration, .. }) => *declaration,
-            (None, InstanceCause::Extra { .. }) => return Some(Sought::Key(key)),
+            (None, InstanceCause::Extra { member, .. }) => {
+                return Some(Sought::Key(key_at(flat, self.item, *member).unwrap_or("")));
+            }
             (None, _) => return None,
         };
-        let field = self.alternative(self.place)?.fields.get(place)?;
-        Some(Sought::Declaration(&field.site))
+        Some(Sought::Declaration(&self.followed.fields.get(place)?.site))
     }
 
-    /// The labels of the fields that would have to be other ones for the alternative to be one that has what is sought, where it hasn't, or the
-    /// other way round: as few of them as may be, and none where all alternatives do the same. Nothing is known where the map hasn't all fields
-    /// that conditions ask for in it, or has those of one that does otherwise.
-    pub(crate) fn labels(
+    /// The fields that would have to be other ones for the alternative to have what is sought, where it hasn't, or the other way round: as few
+    /// as may be, and none where all alternatives do the same. Nothing is known where the map fails its conditions, or meets those of one that
+    /// does otherwise.
+    pub(crate) fn fields(
         self,
         alloc: Global,
-        flat: &Flat<'_>,
+        flat: &'t Flat<'t>,
         sought: Sought<'_>,
-    ) -> Made<Option<Vec<&'t str>>> {
-        let Some(followed) = self.alternative(self.place) else {
-            return Ok(None);
-        };
-        let has = followed.has(sought);
-        let mut compared = Compared {
-            are_alike: true,
-            least: usize::MAX,
-            labels: Vec::new(alloc),
-        };
+    ) -> Made<Option<Members<'t>>> {
+        let has = self.followed.has(sought);
+        let mut labels = Vec::new(alloc);
+        let mut least = usize::MAX;
         for place in 0..self.shapes.len() {
-            let Some(other) = self.alternative(place) else {
+            let Some(other) = Alternative::at(self.shapes, self.trees, place) else {
                 return Ok(None);
             };
-            if other.has(sought) != has {
-                compared.add(&other.unmet(alloc, flat, self.item)?)?;
+            if other.has(sought) == has {
+                continue;
+            }
+            let unmet = other.unmet(alloc, flat, self.item)?;
+            if unmet.len() < least {
+                least = unmet.len();
+                labels.truncate(0);
+            }
+            if unmet.len() == least {
+                add_new(&mut labels, &unmet)?;
             }
         }
-        if compared.are_alike {
-            return Ok(Some(Vec::new(alloc)));
-        }
-        if compared.least == 0 || !followed.unmet(alloc, flat, self.item)?.is_empty() {
+        let unmet = self.followed.unmet(alloc, flat, self.item)?;
+        if least == 0 || (least < usize::MAX && !unmet.is_empty()) {
             return Ok(None);
         }
-        Ok(Some(followed.asked(alloc, &compared.labels)?))
+        Ok(Some(self.followed.asked(&labels, flat, self.item)?))
     }
 
-    /// Whether a condition alone asks for the field whose value is refused, and another declaration of it refuses the value too, which tells
-    /// more.
-    pub(crate) fn is_told_elsewhere(self, flat: &Flat<'_>) -> bool {
-        let (Some(followed), Some(place)) = (self.alternative(self.place), self.declaration) else {
-            return false;
+    /// Where a condition alone asks for the field whose value is refused, another declaration of it that refuses it too, and tells more.
+    pub(crate) fn told_by(self, flat: &Flat<'_>) -> Option<&'t Part> {
+        let Alternative { parts, fields, .. } = self.followed;
+        let place = self.declaration?;
+        let label = parts.get(place)?.label.as_str();
+        fields.get(place).filter(|field| field.asked)?;
+        let value = member_of(flat, self.item, label)?;
+        let refuses_too = |other: &(&Part, &Field)| {
+            !other.1.asked && other.0.label.as_str() == label && refuses(&other.0.value, &value)
         };
-        let (Some(part), Some(field)) = (followed.parts.get(place), followed.fields.get(place))
-        else {
-            return false;
-        };
-        let Some(value) = member_of(flat, self.item, part.label.as_str()) else {
-            return false;
-        };
-        let mut others = followed.parts.iter().zip(followed.fields);
-        field.asked
-            && others.any(|(other, written)| {
-                !written.asked
-                    && other.label.as_str() == part.label.as_str()
-                    && refuses(&other.value, &value)
-            })
+        Some(parts.iter().zip(fields).find(refuses_too)?.0)
     }
 }

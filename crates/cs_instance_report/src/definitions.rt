@@ -3,7 +3,7 @@ ghost use Rattle.std.specs.Prelude.{◌≡◌, ◌++◌, true, OnOk, OnErr, is_n
 ghost use Rattle.cs_format.specs.Formats.{asks_standard};
 ghost use Rattle.cs_reason_words.specs.Valid.{flag_text, HasLines, Reports};
 
-use crate::chosen::{Choice, member_of};
+use crate::chosen::{Choice, key_at};
 use crate::written::{Spelled, Written};
 use cs_flat::{Flat, Item};
 use cs_instance::RootRules;
@@ -12,7 +12,7 @@ use cs_package::{FieldMark, Inside, Kind, Literal, Part, Relation, Shape, ShapeE
 use cs_place::{Named, Step, put_quoted};
 use cs_reason_words::{
     Finding, Form, Found, Kinds, MOST_COMPARISONS, Made, Since, Way, Words, item_at, put_integer,
-    put_told, report_verdict, told_apart, told_by,
+    put_told, report_verdict, told_by,
 };
 use cs_reasons::{Reasons, Telling};
 use std::alloc::Global;
@@ -47,20 +47,11 @@ struct Node<'t> {
     choice: Option<Choice<'t>>,
 }
 
-/// The key of the member at a place of a map.
-fn key_at<'t>(flat: &'t Flat<'t>, item: usize, member: usize) -> Option<&'t str> {
-    match item_at(flat, item) {
-        Item::Object(entries) => Some(entries.get(member)?.0),
-        Item::Null | Item::Bool(_) | Item::Int(_) | Item::Text(_) | Item::List(_) => None,
-    }
-}
-
 /// Whether a label needs no quotes.
 fn is_plain(label: &str) -> bool {
-    let begins_with_digit = matches!(label.as_bytes(), [b'0'..=b'9', ..]);
     let mut bytes = label.bytes();
-    let are_plain = bytes.all(|byte| byte.is_ascii_alphanumeric() || matches!(byte, b'_' | b'$'));
-    are_plain && !begins_with_digit && !label.is_empty()
+    !matches!(label.as_bytes(), [] | [b'0'..=b'9', ..])
+        && bytes.all(|byte| byte.is_ascii_alphanumeric() || matches!(byte, b'_' | b'$'))
 }
 
 /// Puts the step of a path to what a declaration declares.
@@ -114,8 +105,7 @@ impl<'t> Definitions<'t> {
         })
     }
 
-    /// What is at a place in a rule: a body of a definition, the definition that a reference names, an operand, what a declaration declares,
-    /// or what is asked of an element.
+    /// What is at a place in a rule: a body, the definition that a reference names, an operand, what is declared, or what is asked of an element.
     fn part(&self, mut node: Node<'t>, place: usize, way: &mut Way) -> Made<Node<'t>> {
         let whole = node.spelled;
         node.spelled = whole.and_then(|whole| whole.inside(place));
@@ -126,11 +116,9 @@ impl<'t> Definitions<'t> {
             }
             Some(Shape::Definition(number)) => {
                 let choice = node.choice;
-                let definition = self.definition(*number, &mut way.path)?;
-                return Ok(Node {
-                    choice,
-                    ..definition
-                });
+                node = self.definition(*number, &mut way.path)?;
+                node.choice = choice;
+                return Ok(node);
             }
             Some(Shape::And(operands)) => operands.get(place),
             Some(Shape::Or(operands)) => {
@@ -139,7 +127,9 @@ impl<'t> Definitions<'t> {
                 operands.get(place)
             }
             Some(Shape::Struct { parts, .. }) => {
-                node.choice = node.choice.map(|choice| choice.inside(place));
+                if let Some(choice) = &mut node.choice {
+                    choice.declaration = choice.declaration.or(Some(place));
+                }
                 let part = parts.get(place);
                 if let Some(part) = part {
                     put_label(&mut way.path, part)?;
@@ -172,23 +162,16 @@ impl<'t> Definitions<'t> {
         let Some(choice) = choice.filter(|choice| choice.size() <= self.trials) else {
             return Ok(None);
         };
-        let key = match cause {
-            InstanceCause::Extra { member, .. } => key_at(self.flat, way.item, *member),
-            _ => None,
-        };
-        let Some(sought) = choice.sought(cause, key.unwrap_or("")) else {
+        let Some(sought) = choice.sought(self.flat, cause) else {
             return Ok(None);
         };
         self.trials = self.trials.saturating_sub(choice.size());
-        let Some(labels) = choice.labels(self.alloc, self.flat, sought)? else {
+        let Some(fields) = choice.fields(self.alloc, self.flat, sought)? else {
             return Ok(None);
         };
         way.alternative.truncate(0);
-        let mut fields = Vec::with_capacity(self.alloc, labels.len())?;
-        for label in labels {
-            fields.push((label, member_of(self.flat, choice.item, label)))?;
-        }
-        Since::of(self.alloc, KINDS, choice.pointer, fields)
+        let (kinds, map, has_some) = (KINDS, choice.pointer, !fields.is_empty());
+        Ok(has_some.then_some(Since { kinds, map, fields }))
     }
 
     /// That a key isn't allowed.
@@ -207,20 +190,17 @@ impl<'t> Definitions<'t> {
 
     /// That none of the alternatives takes a value, or the one under the key that tells them apart. One that asks for `_|_` takes none.
     fn none_taken(&self, item: usize, rule: usize) -> Made<Finding<'t>> {
-        let mut wanted = wanted_by(self.rules, self.alloc, self.flat, item, rule)?;
-        let alternatives = &mut wanted.alternatives;
+        let (alloc, flat) = (self.alloc, self.flat);
+        let mut wanted = wanted_by(self.rules, alloc, flat, item, rule)?;
+        let (key, alternatives) = (wanted.key, &mut wanted.alternatives);
         alternatives.retain(|wants| !wants.iter().any(is_never));
-        let (item, step) = told_apart(item, wanted.key);
-        if wanted.alternatives.is_empty() {
-            return Ok(Finding::never(self.alloc)?.at(step));
+        if alternatives.is_empty() {
+            return Ok(Finding::never(alloc)?.at(key.map(|(key, _)| Step::Key(key))));
         }
-        let value = item_at(self.flat, item);
-        let finding = Finding::untaken(self.alloc, KINDS, value, &wanted.alternatives, put_want)?;
-        Ok(finding.at(step))
+        Finding::untaken(alloc, KINDS, flat, item, key, alternatives, put_want)
     }
 
-    /// What is wrong by a cause of the rule that the way has led to, and where that is written. Of a key that conditions chose not to allow no
-    /// other one may have been meant.
+    /// What is wrong by a cause of a rule, and where that is written. Of a key that conditions chose not to allow no other one may have been meant.
     fn refusal(
         &mut self,
         node: Node<'t>,
@@ -305,7 +285,8 @@ impl<'t> Words<'t> for Definitions<'t> {
 
     fn finding(&mut self, node: Node<'t>, cause: &InstanceCause, way: &mut Way) -> Found<'t> {
         let choice = node.choice.filter(|_| !self.are_followed);
-        if choice.is_some_and(|choice| choice.is_told_elsewhere(self.flat)) {
+        let other = choice.and_then(|choice| choice.told_by(self.flat));
+        if other.is_some() {
             return Ok(None);
         }
         let since = self.since(choice, cause, way)?;
@@ -319,7 +300,7 @@ impl<'t> Words<'t> for Definitions<'t> {
 }
 
 /// What values with parts are called in CUE.
-const KINDS: Kinds = Kinds {
+const KINDS: Kinds<'static> = Kinds {
     list: "a list",
     map: "a struct",
 };
@@ -360,9 +341,9 @@ fn put_range(text: &mut String, least: i64, greatest: Option<i64>) -> Made<()> {
             return text.push_str(name);
         }
     }
-    put_literal(text, ">=", Literal::Int(least))?;
+    write!(text, ">={least}")?;
     if let Some(most) = greatest {
-        put_literal(text, " & <=", Literal::Int(most))?;
+        write!(text, " & <={most}")?;
     }
     Ok(())
 }
@@ -417,8 +398,7 @@ fn is_never(want: &Want<'_>) -> bool {
     matches!(want, Want::Expression(Shape::Bottom))
 }
 
-/// Which kind of reason it is that a value isn't what an expression admits, in a word, and of which kind the value isn't, where that is all
-/// that is wrong with it.
+/// Which kind of reason it is that a value isn't what an expression admits, and of which kind the value isn't, where nothing else is wrong with it.
 fn mismatch_words(item: Item<'_>, shape: &Shape) -> (&'static str, &'static str) {
     // The kind of all values that the expression admits or leaves out, and the word for a value of that kind.
     let (kind, reason) = match shape.simple() {

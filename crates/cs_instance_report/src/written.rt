@@ -1,5 +1,5 @@
 // Sources, and where they write what the definitions of their package are made of.
-use cs_grammar::{Definition, Expr, Field, ListEnd, Profile, Site, Sort, Wide};
+use cs_grammar::{Definition, Expr, Field, File, ListEnd, Profile, Site, Sort, Wide};
 use cs_place::{Named, Position, Positions};
 use cs_placed::{Placed, placed_files};
 use cs_reason_words::{Form, Made, SourcePlace};
@@ -29,12 +29,9 @@ impl Drop for Written<'_> {
 }
 
 /// The names of the definitions of files, each with its file and its place there, in their order.
-fn names_of(alloc: Global, placed: Option<&Placed>) -> Made<Vec<(String, usize, usize)>> {
+fn names_of(alloc: Global, files: &[File]) -> Made<Vec<(String, usize, usize)>> {
     let mut names = Vec::new(alloc);
-    let Some(placed) = placed else {
-        return Ok(names)
-    };
-    for (file, parsed) in placed.files.iter().enumerate() {
+    for (file, parsed) in files.iter().enumerate() {
         for (place, definition) in parsed.definitions.iter().enumerate() {
             names.push((definition.name.clone()?, file, place))?;
         }
@@ -65,7 +62,8 @@ impl<'a> Written<'a> {
             positions.push(positions_of(alloc, source)?)?;
         }
         let placed = placed_files(alloc, &texts)?;
-        let by_name = names_of(alloc, placed.as_ref())?;
+        let files = placed.as_ref().map(|placed| placed.files.as_slice());
+        let by_name = names_of(alloc, files.unwrap_or(&[]))?;
         Ok(Written {
             cut,
             positions,
@@ -117,8 +115,7 @@ impl<'a> Written<'a> {
         self.place_of(self.token_at(offset)?)
     }
 
-    /// What is declared behind the label at an offset of the files; of a field that a condition asks for, the label there; and of what a selector asks for,
-    /// the selector.
+    /// What is declared behind the label at an offset of the files; where a condition asks for the field, its label; and where a selector asks, that.
     fn declared_at(&self, offset: usize) -> Option<Part<'_, 'a>> {
         let label = self.token_at(offset)?;
         if let Some(selector) = label.selector() {
@@ -157,11 +154,11 @@ fn bare(expr: &Expr) -> &Expr {
 
 /// Whether an expression is the alternatives of one literal that is put together.
 fn is_of_one(expr: &Expr) -> bool {
-    match expr {
-        Expr::Or(operands) => match operands.as_slice() {
-            [Expr::Struct { at, .. }, Expr::Struct { at: other, .. }, ..] => at == other,
-            _ => false,
-        },
+    let Expr::Or(operands) = expr else {
+        return false;
+    };
+    match operands.as_slice() {
+        [Expr::Struct { at, .. }, Expr::Struct { at: other, .. }, ..] => at == other,
         _ => false,
     }
 }

@@ -4,8 +4,7 @@
 use cs_conditions::{ConditionFault, have_conditions, without_conditions};
 use cs_embeddings::{EmbeddingFault, without_embeddings};
 use cs_grammar::{
-    Condition, Declaration, Expr, Field, FieldMark, File, ListEnd, Profile, Selector, SyntaxFault,
-    Wide, atom,
+    Declaration, Expr, Field, FieldMark, File, ListEnd, Profile, Selector, SyntaxFault, Wide, atom,
 };
 use cs_names::{NameFault, have_names, without_names};
 use cs_selectors::{SelectorFault, have_selectors, without_selectors};
@@ -25,8 +24,7 @@ pub struct Placed {
 }
 
 impl Placed {
-    /// Where the first definition of a name without `#` is: the number of the source, and the offset there. One that stands for a name of a scope is
-    /// where that is declared.
+    /// The source of the first definition of a name without `#`, and its offset there: for a name of a scope where that is declared.
     pub fn definition(&self, name: &str) -> Option<(usize, usize)> {
         let mut definitions = self.files.iter().flat_map(|file| file.definitions.iter());
         let first = definitions.find(|definition| definition.name.as_str() == name)?;
@@ -60,14 +58,8 @@ fn named_files(alloc: Global, files: Vec<File>) -> Result<Vec<File>, AllocError>
         return Ok(files);
     }
     match without_names(alloc, &files) {
-        Ok(named) => Ok(named),
         Err(NameFault::OutOfMemory) => Err(AllocError),
-        Err(
-            NameFault::LeftOut { .. }
-            | NameFault::UnknownName { .. }
-            | NameFault::NamesField { .. }
-            | NameFault::Redeclared { .. },
-        ) => Ok(files),
+        named => Ok(named.unwrap_or(files)),
     }
 }
 
@@ -77,42 +69,27 @@ fn unselected_files(alloc: Global, files: Vec<File>) -> Result<Vec<File>, AllocE
         return Ok(files);
     }
     match without_selectors(alloc, &files) {
-        Ok(unselected) => Ok(unselected),
         Err(SelectorFault::OutOfMemory) => Err(AllocError),
-        Err(
-            SelectorFault::LeftOut { .. }
-            | SelectorFault::UnknownName { .. }
-            | SelectorFault::NotRegular { .. }
-            | SelectorFault::TooLarge,
-        ) => Ok(files),
+        unselected => Ok(unselected.unwrap_or(files)),
     }
 }
 
-/// Files without conditions. Where they stand for none they are themselves, in which each literal has the fields alone that are there under no
-/// condition.
+/// Files without conditions. Where they stand for none they are themselves, in which each literal has those fields alone that need none.
 fn chosen_files(alloc: Global, files: Vec<File>) -> Result<Vec<File>, AllocError> {
     if !have_conditions(&files) {
         return Ok(files);
     }
     match without_conditions(alloc, &files) {
-        Ok(chosen) => Ok(chosen),
         Err(ConditionFault::OutOfMemory) => Err(AllocError),
-        Err(ConditionFault::LeftOut { .. } | ConditionFault::MayBeAbsent { .. }) => Ok(files),
+        chosen => Ok(chosen.unwrap_or(files)),
     }
 }
 
 /// Files without embeddings. Where they stand for none they are themselves, in which each literal has its own fields alone.
 fn joined_files(alloc: Global, files: Vec<File>) -> Result<Vec<File>, AllocError> {
     match without_embeddings(alloc, &files) {
-        Ok(joined) => Ok(joined),
         Err(EmbeddingFault::OutOfMemory) => Err(AllocError),
-        Err(
-            EmbeddingFault::UnknownName { .. }
-            | EmbeddingFault::NoStruct { .. }
-            | EmbeddingFault::Reopened { .. }
-            | EmbeddingFault::TooHigh { .. }
-            | EmbeddingFault::TooLarge,
-        ) => Ok(files),
+        joined => Ok(joined.unwrap_or(files)),
     }
 }
 
@@ -132,8 +109,8 @@ pub fn spelled_files(alloc: Global, sources: &[&[u8]]) -> Result<Option<Placed>,
     Ok(Some(Placed { files, bases }))
 }
 
-/// The file that a source spells, in either profile, since the wide one reads what the default one reads, with offsets that count from further
-/// before; none where it is refused.
+/// The file that a source spells, as the wide profile reads it, which reads all of the default one, with offsets from further before; none where
+/// it is refused.
 fn file_of(alloc: Global, source: &[u8], base: usize) -> Result<Option<File>, AllocError> {
     let Ok(text) = str::from_utf8(source) else {
         return Ok(None);
@@ -251,7 +228,9 @@ fn shift_declaration(declaration: &mut Declaration, base: usize) {
             value,
         } => {
             add(at, base);
-            shift_conditions(conditions, base);
+            for condition in conditions.iter_mut() {
+                add(&mut condition.at, base);
+            }
             shift(value, base);
         }
     }
@@ -261,12 +240,5 @@ fn shift_declaration(declaration: &mut Declaration, base: usize) {
 fn shift_selectors(labels: &mut Vec<Selector>, base: usize) {
     for label in labels.iter_mut() {
         add(&mut label.at, base);
-    }
-}
-
-/// Adds a number to the offset of each condition.
-fn shift_conditions(conditions: &mut Vec<Condition>, base: usize) {
-    for condition in conditions.iter_mut() {
-        add(&mut condition.at, base);
     }
 }

@@ -1,5 +1,5 @@
--- The place that steps into a document lead to, as a JSON pointer (RFC 6901, section 3).
-use Rattle.std.specs.Prelude.{ℕ, List, [], ◌∷◌}
+-- The place that a step into a document leads to, as a JSON pointer (RFC 6901, section 3).
+use Rattle.std.specs.Prelude.{ℕ, List}
 use Rattle.cs_place.specs.declared.values.Step.{Step}
 use Rattle.cs_place.specs.declared.values.Step.TheVariants.{Key, Element}
 use Rattle.cs_profile.specs.Places.{at_key, at_index}
@@ -8,8 +8,3 @@ use Rattle.cs_profile.specs.Places.{at_key, at_index}
 abbrev pub at_step : List ℕ → Step → List ℕ
 at_step place (Key k) = at_key place k.now
 at_step place (Element i) = at_index place i
-
--- the place that steps lead to from another one
-abbrev pub at_steps : List ℕ → List Step → List ℕ
-at_steps place [] = place
-at_steps place (s ∷ ss) = at_steps (at_step place s) ss

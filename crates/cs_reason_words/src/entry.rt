@@ -120,19 +120,22 @@ impl<'t> Finding<'t> {
         Ok(Finding::here("many", text))
     }
 
-    /// That no alternative takes a value: what is found, and what the first ones want, each once, by a function that puts what is wanted and
-    /// answers whether it is a value.
+    /// That no alternative takes a value, or the one of a number under the key that tells them apart: what is found, and what the first ones
+    /// want, each once, by a function that puts what is wanted and answers whether it is a value.
     pub fn untaken<W, P: Fn(&mut String, &W) -> Made<bool>>(
         alloc: Global,
-        kinds: Kinds,
-        value: Item<'_>,
+        kinds: Kinds<'_>,
+        flat: &Flat<'_>,
+        item: usize,
+        key: Option<(&'t str, usize)>,
         alternatives: &[Vec<W>],
         put_want: P,
     ) -> Made<Finding<'t>>
         requires { P.IsAlwaysCallable put_want }
     {
         let mut text = String::new(alloc);
-        kinds.put_found(&mut text, value)?;
+        let value = key.map_or(item, |(_, under)| under);
+        kinds.put_found(&mut text, item_at(flat, value))?;
         let mut told = BTreeSet::new(alloc);
         let mut are_values = true;
         for wants in alternatives {
@@ -149,7 +152,7 @@ impl<'t> Finding<'t> {
         }
         put_more(&mut text, told.len())?;
         let reason = if are_values { "value" } else { "alternatives" };
-        Ok(Finding::here(reason, text))
+        Ok(Finding::here(reason, text).at(key.map(|(key, _)| Step::Key(key))))
     }
 }
 
@@ -186,11 +189,6 @@ pub fn item_at<'t>(flat: &'t Flat<'t>, item: usize) -> Item<'t> {
     }
 }
 
-/// What tells alternatives apart that a value isn't taken by: the value itself, or the one under a key, by its number and the step there.
-pub fn told_apart<'t>(item: usize, key: Option<(&'t str, usize)>) -> (usize, Option<Step<'t>>) {
-    key.map_or((item, None), |(key, under)| (under, Some(Step::Key(key))))
-}
-
 /// How many elements a value has.
 fn element_count(item: Item<'_>) -> usize {
     match item {
@@ -199,11 +197,14 @@ fn element_count(item: Item<'_>) -> usize {
     }
 }
 
-/// Whether a value has a key.
-fn has_key(item: Item<'_>, key: &str) -> bool {
+/// The number of what is under a key of a value; none where that is no map, or hasn't the key.
+pub fn number_under(item: Item<'_>, key: &str) -> Option<usize> {
     match item {
-        Item::Object(entries) => entries.binary_search_by_key(&key, |entry| entry.0).is_ok(),
-        Item::Null | Item::Bool(_) | Item::Int(_) | Item::Text(_) | Item::List(_) => false,
+        Item::Object(entries) => {
+            let place = entries.binary_search_by_key(&key, |entry| entry.0).ok()?;
+            Some(entries.get(place)?.1)
+        }
+        Item::Null | Item::Bool(_) | Item::Int(_) | Item::Text(_) | Item::List(_) => None,
     }
 }
 
@@ -217,7 +218,7 @@ fn meant<'n>(alloc: Global, map: Item<'_>, key: &str, names: &[&'n str]) -> Made
     for name in names {
         if let Some(edits) = few_edits(alloc, key, name)?
             && edits < least
-            && !has_key(map, name)
+            && number_under(map, name).is_none()
         {
             meant = Some(*name);
             least = edits;
@@ -376,9 +377,8 @@ impl<'t> Told<'t> {
         offset_in(&self.places, value, false)
     }
 
-    /// Leaves the first entries, in the order of the document, where they are given in the order in which their reasons were found. What
-    /// several say of one value by one alternative is told once, by the first of them; and that a key is missing isn't told where another
-    /// one is told to be its misspelling. A line that several alternatives have alike is told once.
+    /// Leaves the first entries, in the order of the document. What several say of one value by one alternative is told once, by the one that was
+    /// found first; a line that several alternatives have alike is told once; and no missing key that another one is told to be a misspelling of.
     pub(crate) fn keep_new(&mut self, alloc: Global, telling: Telling, text: &[u8]) -> Written {
         self.places = places(alloc, text, &self.paths)?;
         let mut are_new = are_new(alloc, &self.entries)?.into_iter();

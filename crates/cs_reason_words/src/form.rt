@@ -39,9 +39,8 @@ pub fn put_told(text: &mut String, form: Form, document: Named<'_>, told: &Told<
     }
 }
 
-/// Adds what is told of a verdict, whatever was judged: of a valid document nothing for people, and else the object that says so.
-/// Of an invalid one what is told of its reasons: for people lines, and for programs the members behind the verdict's.
-/// Only memory can run out; nothing is added then.
+/// Adds what is told of a verdict: of a valid document nothing for people, and else the object that says so; of an invalid one its reasons, for
+/// people lines, and for programs the members behind the verdict's. Only memory can run out; nothing is added then.
 pub fn report_verdict(
     alloc: Global,
     form: Form,
@@ -67,8 +66,7 @@ pub fn report_verdict(
 
 /// Puts the object of an entry.
 fn put_object(text: &mut String, entry: &Entry<'_>) -> Written {
-    let finding = &entry.finding;
-    let way = &entry.way;
+    let Entry { finding, way, .. } = entry;
     text.push_str("{\"valid\":false")?;
     put_string(text, "instanceLocation", way.pointer.as_str())?;
     put_count(text, "line", entry.position.line)?;
@@ -115,30 +113,25 @@ pub(crate) fn put_members(text: &mut String, entries: &[Entry<'_>], more: usize)
     put_count(text, "more", more)
 }
 
-/// Puts what says no: its place in the source, its path, where it is embedded, and the alternative.
-fn put_rule(text: &mut String, entry: &Entry<'_>) -> Written {
-    if let Some(place) = entry.finding.source {
+/// Puts what is wrong, by which fields conditions chose that, and what says no: its place in the source, its path, its embedding, the alternative.
+fn put_reason(text: &mut String, entry: &Entry<'_>) -> Written {
+    let Entry { finding, way, .. } = entry;
+    put_all(text, &[": ", finding.text.as_str()])?;
+    if let Some(since) = &finding.since {
+        since.put(text)?;
+    }
+    text.push_str(" [")?;
+    if let Some(place) = finding.source {
         put_place(text, place.file, place.line, place.column)?;
         text.push(' ')?;
     }
-    put_shown(text, entry.way.path.as_str())?;
-    if let Some(place) = entry.finding.embedded {
+    put_shown(text, way.path.as_str())?;
+    if let Some(place) = finding.embedded {
         text.push_str(", embedded at ")?;
         put_place(text, place.file, place.line, place.column)?;
     }
-    if entry.way.alternative.is_empty() {
-        return Ok(());
-    }
-    put_all(text, &[", ", entry.way.alternative.as_str()])
-}
-
-/// Puts what is wrong, and by which fields of the document conditions chose that, up to the bracket.
-fn put_reason(text: &mut String, entry: &Entry<'_>) -> Written {
-    put_all(text, &[": ", entry.finding.text.as_str()])?;
-    if let Some(since) = &entry.finding.since {
-        since.put(text)?;
-    }
-    text.push_str(" [")
+    let mark = if way.alternative.is_empty() { "" } else { ", " };
+    put_all(text, &[mark, way.alternative.as_str()])
 }
 
 /// Puts the line of an entry, with what says no in brackets.
@@ -153,7 +146,6 @@ fn put_entry(text: &mut String, name: &str, entry: &Entry<'_>) -> Written
     let at = entry.way.pointer.as_str();
     put_shown(text, if at.is_empty() { "(root)" } else { at })?;
     put_reason(text, entry)?;
-    put_rule(text, entry)?;
     text.push_str("]\n")?;
     Ok(())
 }
@@ -167,8 +159,7 @@ fn put_more(text: &mut String, more: usize) -> Written
     Ok(())
 }
 
-/// Puts a line for each entry, and one that says how many reasons are left out, if any are; where there is no entry, that is one at
-/// least.
+/// Puts a line for each entry, and one that says how many reasons are left out, if any are: where there is no entry, one at least.
 pub fn put_lines(text: &mut String, document: Named<'_>, told: &[Entry<'_>], more: usize) -> Written
     ensures { OnOk result (EndsInLine (string_bytes text.new)) }
 {

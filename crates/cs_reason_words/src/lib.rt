@@ -1,5 +1,4 @@
-// What reports of reasons have in common, whatever was judged: the walks along chains of causes, reasons in words, and these as lines for
-// people and as JSON for programs.
+// What reports of reasons have in common, whatever was judged: walks along chains of causes, reasons in words, and these as lines and as JSON.
 #![tactic(auto)]
 
 mod entry;
@@ -11,9 +10,9 @@ mod wording;
 pub use cs_format::{Form, Format};
 pub use cs_text::{Made, Written, put_count, put_integer, put_string};
 pub use entry::{
-    Entry, Finding, Found, MOST_COMPARISONS, SourcePlace, Told, item_at, position_in, told_apart,
+    Entry, Finding, Found, MOST_COMPARISONS, SourcePlace, Told, item_at, number_under, position_in,
 };
 pub use form::{put_lines, put_told, report_verdict};
 pub use since::Since;
-pub use walk::{Way, Words, chain_to, put_steps, told_by, walk_to};
+pub use walk::{Way, Words, chain_to, put_step, told_by, walk_to};
 pub use wording::{Kinds, MOST_WANTED, put_between, put_more};

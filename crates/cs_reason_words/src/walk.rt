@@ -1,7 +1,7 @@
 // Along chains of causes, from the root to a rule and from the document to a value, by the words of a side; and what is told of reasons.
 ghost use Rattle.std.specs.Prelude.{◌≡◌, ◌++◌, OnOk, string_bytes, encode_utf8};
-ghost use Rattle.cs_profile.specs.Places.{escaped, at_key, at_index};
-ghost use Rattle.cs_reason_words.specs.Pointer.{at_step, at_steps};
+ghost use Rattle.cs_profile.specs.Places.{escaped, at_key};
+ghost use Rattle.cs_reason_words.specs.Pointer.{at_step};
 
 use crate::entry::{Entry, Found, Told, position_in};
 use cs_place::{Named, Position, Positions, Step};
@@ -92,7 +92,7 @@ pub fn walk_to<'t, W: Words<'t>>(
         if let Some(up) = &link.up {
             way.steps = way.steps.saturating_add(1);
             if let Some(step) = words.step_of(way.item, &up.cause) {
-                put_steps(&mut way.pointer, &[step])?;
+                put_step(&mut way.pointer, &step)?;
             }
             node = words.inside(node, &up.cause, &mut way)?;
         }
@@ -103,8 +103,7 @@ pub fn walk_to<'t, W: Words<'t>>(
     Ok((node, way))
 }
 
-/// How one side tells its reasons, by definitions or by schemas: where causes lead, and what is wrong where one leads nowhere. Only memory
-/// can run out.
+/// How one side tells its reasons: where causes lead, and what is wrong where one leads nowhere. Only memory can run out.
 pub trait Words<'t>: Drop {
     /// Why a rule refuses an item.
     type Cause: Cause;
@@ -157,8 +156,7 @@ pub fn told_by<'t, W: Words<'t>>(
     Ok(told)
 }
 
-/// Adds a reason in words, unless it is told elsewhere, with no place in the text yet. Answers what that took: the bytes of the texts, and
-/// eight for each step of the chain.
+/// Adds a reason in words without its place in the text, unless it is told elsewhere. Answers what that took: bytes of texts, and [`STEP`]s.
 fn tell<'t, W: Words<'t>>(
     words: &mut W,
     links: &[Link<W::Cause>],
@@ -169,12 +167,11 @@ fn tell<'t, W: Words<'t>>(
     let alloc = *told.entries.allocator();
     let (node, mut way) = walk_to(alloc, &*words, links, reason.link)?;
     let steps = way.steps.saturating_mul(STEP);
-    let found = words.finding(node, &reason.cause, &mut way)?;
-    let Some(finding) = found else {
-        return Ok(steps)
+    let Some(finding) = words.finding(node, &reason.cause, &mut way)? else {
+        return Ok(steps);
     };
-    if let Some(step) = finding.step {
-        put_steps(&mut way.pointer, &[step])?;
+    if let Some(step) = &finding.step {
+        put_step(&mut way.pointer, step)?;
     }
     let entry = Entry {
         value: told.put(reason.link, finding.step)?,
@@ -214,32 +211,16 @@ fn put_key(pointer: &mut String, key: &str) -> Written
     Ok(())
 }
 
-/// Leads a pointer on to the element at a place.
+/// Leads a pointer on by a step. Only memory can run out.
 #[tactic(auto, unfolding(cs_profile::specs::Places::at_index))]
-fn put_index(pointer: &mut String, place: usize) -> Written
-    ensures { OnOk result (string_bytes pointer.new ≡ at_index (string_bytes pointer.old) place) }
-{
-    pointer.push_str("/")?;
-    pointer.push_str(Buffer::new().format(place))
-}
-
-/// Leads a pointer on by a step.
-fn put_step(pointer: &mut String, step: &Step<'_>) -> Written
+pub fn put_step(pointer: &mut String, step: &Step<'_>) -> Written
     ensures { OnOk result (string_bytes pointer.new ≡ at_step (string_bytes pointer.old) step.now) }
 {
     match step {
         Step::Key(key) => put_key(pointer, key),
-        Step::Element(place) => put_index(pointer, *place),
+        Step::Element(place) => {
+            pointer.push_str("/")?;
+            pointer.push_str(Buffer::new().format(*place))
+        }
     }
-}
-
-/// Leads a pointer on by these steps.
-pub fn put_steps(pointer: &mut String, steps: &[Step<'_>]) -> Written
-    ensures { OnOk result (string_bytes pointer.new
-        ≡ at_steps (string_bytes pointer.old) steps.now) }
-{
-    for step in steps {
-        put_step(pointer, step)?;
-    }
-    Ok(())
 }

@@ -11,14 +11,14 @@ pub const MOST_WANTED: usize = 8;
 
 /// What values with parts are called.
 #[derive(Clone, Copy)]
-pub struct Kinds {
+pub struct Kinds<'k> {
     /// A list.
-    pub list: &'static str,
+    pub list: &'k str,
     /// A map.
-    pub map: &'static str,
+    pub map: &'k str,
 }
 
-impl Kinds {
+impl Kinds<'_> {
     /// Puts a value: a scalar as JSON writes it, cut where it is long, or of which kind it is.
     pub fn put(self, text: &mut String, item: Item<'_>) -> Written {
         match item {

@@ -21,8 +21,7 @@ const UNIT_BYTES: usize = 128;
 /// How many bytes a path of keywords has at most.
 const MOST_OF_PATH: usize = 1024;
 
-/// A path of keywords from the root, through references (Core, section 12.3.1). A longer one than is told ends behind the last reference
-/// before its limit.
+/// A path of keywords from the root, through references (Core, section 12.3.1). A long one ends behind the last reference before its limit.
 #[derive(PartialEq, Eq, PartialOrd, Ord, Drop)]
 struct Location {
     path: String,
@@ -60,14 +59,13 @@ impl Location {
         self.path.len() > MOST_OF_PATH
     }
 
-    /// Puts the beginning of a unit, with its path; where that is cut with the place of the rule in the schema document too.
+    /// Puts it as the beginning of a unit; where it is cut with the place of the rule in the schema document too.
     fn put(&self, text: &mut String, rule: &str) -> Written {
         text.push_str("{\"valid\":false")?;
-        let path = self.path.as_str();
         if !self.is_cut() {
-            return put_string(text, "keywordLocation", path);
+            return put_string(text, "keywordLocation", self.path.as_str());
         }
-        let told = path.get(..self.through).unwrap_or("");
+        let told = self.path.get(..self.through).unwrap_or("");
         put_string(text, "keywordLocation", told)?;
         text.push_str(",\"absoluteKeywordLocation\":\"#")?;
         for byte in rule.bytes().skip(1) {
@@ -91,8 +89,7 @@ fn put_value(text: &mut String, pointer: &str, error: &str, position: Position) 
     text.push('}')
 }
 
-/// The output unit of a schema (Core, section 12.3). Units are in the order of their values in the text, and those of one value in that of
-/// their paths.
+/// The output unit of a schema (Core, section 12.3), in the order of the values in the text, and of the paths of one value.
 #[derive(PartialEq, Eq, PartialOrd, Ord, Drop)]
 struct Unit {
     /// The offset of the value in the document's text.
@@ -119,9 +116,8 @@ fn on_chains(reasons: &Reasons<ValidCause<'_>>, told: &Told<'_>) -> Made<BTreeSe
     Ok(on)
 }
 
-/// The units of the root and of the schemas on the chains to the reasons that are told: a schema comes before those inside it. One that is
-/// `false` has that of its reason. One whose path is too long to be told has none, nor have those that it leads to; and they end where
-/// they take too much together.
+/// The units of the root and of the schemas on the chains to the reasons that are told. One that is `false` has that of its reason. One whose
+/// path is too long to be told has none, nor have those that it leads to; and they end where they take too much together.
 fn schema_units<'t>(
     words: &Schemas<'t>,
     reasons: &Reasons<ValidCause<'t>>,

@@ -10,7 +10,7 @@ use cs_place::{Named, Step};
 use cs_profile::{JsonKind, Keyword, Keywords, Schema};
 use cs_reason_words::{
     Finding, Form, Found, Kinds, MOST_COMPARISONS, MOST_WANTED, Made, Way, Words, Written, item_at,
-    put_between, put_integer, put_more, put_steps, put_told, report_verdict, told_apart, told_by,
+    put_between, put_integer, put_more, put_step, put_told, report_verdict, told_by,
 };
 use cs_reasons::Telling;
 use cs_validate::SchemaRules;
@@ -39,8 +39,8 @@ pub(crate) struct Node<'t> {
     last: Option<(ValidCause<'t>, &'t Keywords, usize)>,
 }
 
-/// The keyword that a cause is of, the step from its value to the schema that the cause leads to, if that is a part of it, and the step into
-/// the document; none where the schema is `false`.
+/// The keyword of a cause, the step from its value to the schema that the cause leads to, if it takes one, and that into the document; none where
+/// the schema is `false`.
 fn steps_of<'a>(cause: &ValidCause<'a>) -> Option<(Keyword, Option<Step<'a>>, Option<Step<'a>>)> {
     let at = |place: usize| Some(Step::Element(place));
     let under = |key| Some(Step::Key(key));
@@ -72,9 +72,9 @@ pub(crate) fn put_keywords(path: &mut String, cause: &ValidCause<'_>) -> Written
     let Some((keyword, part, _)) = steps_of(cause) else {
         return Ok(());
     };
-    put_steps(path, &[Step::Key(keyword.name())])?;
+    put_step(path, &Step::Key(keyword.name()))?;
     match part {
-        Some(step) => put_steps(path, &[step]),
+        Some(step) => put_step(path, &step),
         None => Ok(()),
     }
 }
@@ -97,16 +97,27 @@ impl<'t> Schemas<'t> {
         }
         KINDS.put_mismatch(&mut text, value)?;
         let reason = put_unmet(&mut text, keyword, keywords)?;
-        Ok(Finding::here(reason, text).of_kind(wanted_kind(keyword, keywords)))
+        // Every number is an integer here, so what asks for either is told as one.
+        let kind = match (keyword, keywords.kind) {
+            (Keyword::Type, Some(JsonKind::Number | JsonKind::Integer)) => "number",
+            _ => "",
+        };
+        Ok(Finding::here(reason, text).of_kind(kind))
     }
 
     /// That none of the alternatives takes a value, or the one under the key that tells them apart.
     fn none_taken(&self, item: usize, rule: usize) -> Made<Finding<'t>> {
-        let wanted = wanted_by(self.rules, self.alloc, self.flat, item, rule)?;
-        let (item, step) = told_apart(item, wanted.key);
-        let value = item_at(self.flat, item);
-        let finding = Finding::untaken(self.alloc, KINDS, value, &wanted.alternatives, put_want)?;
-        Ok(finding.at(step))
+        let (alloc, flat) = (self.alloc, self.flat);
+        let wanted = wanted_by(self.rules, alloc, flat, item, rule)?;
+        Finding::untaken(
+            alloc,
+            KINDS,
+            flat,
+            item,
+            wanted.key,
+            &wanted.alternatives,
+            put_want,
+        )
     }
 
     /// That a key isn't allowed.
@@ -140,8 +151,7 @@ impl<'t> Schemas<'t> {
         }
     }
 
-    /// That a schema is `false`: that of keys that aren't declared, or that of elements behind those of a list, which is told at the first
-    /// element that is too many.
+    /// That a schema is `false`: that of other keys, or that of elements behind those of a list, which is told at the first one too many.
     fn never(&mut self, node: Node<'t>) -> Found<'t> {
         let finding = match node.last {
             Some((ValidCause::Additional { key, .. }, keywords, item)) => {
@@ -183,8 +193,8 @@ impl<'t> Words<'t> for Schemas<'t> {
             (ValidCause::Reference { .. }, Some(name)) => {
                 way.path.truncate(0);
                 way.path.push_str("#")?;
-                let (defs, name) = (Step::Key(Keyword::Defs.name()), Step::Key(name.as_str()));
-                put_steps(&mut way.path, &[defs, name])?;
+                put_step(&mut way.path, &Step::Key(Keyword::Defs.name()))?;
+                put_step(&mut way.path, &Step::Key(name.as_str()))?;
             }
             _ => put_keywords(&mut way.path, cause)?,
         }
@@ -217,7 +227,7 @@ impl<'t> Words<'t> for Schemas<'t> {
 }
 
 /// What values with parts are called in schemas.
-const KINDS: Kinds = Kinds {
+const KINDS: Kinds<'static> = Kinds {
     list: "an array",
     map: "an object",
 };
@@ -232,15 +242,6 @@ fn kind_name(kind: JsonKind) -> &'static str {
         JsonKind::Number => "number",
         JsonKind::String => "string",
         JsonKind::Integer => "integer",
-    }
-}
-
-/// Of which kind a value isn't that a keyword refuses, where that is told by several: `type` asks for a number or an integer, and every
-/// number is an integer here.
-fn wanted_kind(keyword: Keyword, keywords: &Keywords) -> &'static str {
-    match (keyword, keywords.kind) {
-        (Keyword::Type, Some(JsonKind::Number | JsonKind::Integer)) => "number",
-        _ => "",
     }
 }
 
