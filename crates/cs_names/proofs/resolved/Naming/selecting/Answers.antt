@@ -1,8 +1,8 @@
-use Rattle.std.proofs.Common.{◌≡◌, ℕ, nat_eq, Bool, true, false, List, [], ◌∷◌, map, length, refl, ap, ap₂, ◌∙◌}
-use Rattle.cs_grammar.specs.Tree.{reference, selected, wide}
+use Rattle.std.proofs.Common.{◌≡◌, ℕ, nat_eq, Bool, false, List, [], ◌∷◌, map, length, refl, ap, ap₂, ◌∙◌}
+use Rattle.cs_grammar.specs.Tree.{selected, wide}
 use Rattle.cs_grammar.specs.View.{selector_view}
 use Rattle.cs_grammar.specs.declared.ast.Selector.{Selector}
-use Rattle.cs_grammar.proofs.Views.{view-Reference, view-Selected, view-Wide}
+use Rattle.cs_grammar.proofs.Views.{view-Selected, view-Wide}
 use Rattle.cs_names.specs.Named.{selecting}
 use Rattle.cs_names.proofs.resolved.Naming.selecting.Goals as goal
 
@@ -10,15 +10,6 @@ some_labels : (t : List ℕ) (o : ℕ) (xs : List Selector) (b : Bool) → b ≡
     → wide (selected o t (map selector_view xs)) ≡ selecting t o (map selector_view xs)
 some_labels t o [] b h k = cc
 some_labels t o (x ∷ xs) b h k = refl
-
-no_labels : (t : List ℕ) (o : ℕ) (xs : List Selector) (b : Bool) → b ≡ nat_eq (length xs) 0 → b ≡ true → reference t o ≡ selecting t o (map selector_view xs)
-no_labels t o [] b h k = refl
-no_labels t o (x ∷ xs) b h k = cc
-
-pub returns-then-is_empty : goal.returns-then-is_empty
-returns-then-is_empty c =
-    let o = c.args.at in
-    view-Reference c.in_ok-name.name o ∙ ap (λ s. reference s o) c.in_ok-name.ensures.ok ∙ no_labels c.args.nested.now o c.args.labels.now c.is_empty.result c.is_empty.ensures c.if-is_empty.true
 
 pub returns : goal.returns
 returns c =
