@@ -2,7 +2,8 @@
 use crate::forms::{Form, Found};
 use crate::syntax::form_of_selected;
 use cs_grammar::{Profile, Sort};
-use cs_sources::{Near, Part};
+use cs_sources::{MOST_AROUND, Near, Part};
+use std::iter::successors;
 
 /// The form at a name that names a field, where it may not: in a condition, or where `.` selects it, the field may be absent.
 pub fn form_of_field<'s, 'a>(near: Near<'s, 'a>) -> Found<'s, 'a> {
@@ -24,7 +25,9 @@ pub fn form_of_field<'s, 'a>(near: Near<'s, 'a>) -> Found<'s, 'a> {
 
 /// Whether a struct around a name has a label without quotes that is the name.
 fn names_field(near: Near<'_, '_>) -> bool {
-    near.here().sort == Sort::Name && near.label_around().is_some()
+    let mut around = successors(near.bracket(), |inner| inner.bracket()).take(MOST_AROUND);
+    let label = around.find_map(|bracket| bracket.held()?.label(near.here().text));
+    near.here().sort == Sort::Name && label.is_some()
 }
 
 /// The form at a token in the conditions of an `if` in the wide profile, which is out of place there, or left out as another form; none elsewhere.
@@ -54,9 +57,7 @@ fn form_of_asked(near: Near<'_, '_>) -> Form {
 
 /// Whether a declaration of a field of that name, with its label in quotes or not, begins in a part, at any depth.
 fn declares_inside(body: Part<'_, '_>, name: &str) -> bool {
-    let Part { source, from, to } = body;
-    (from..to).any(|place| {
-        let token = Near { source, place };
+    body.any(|token| {
         let here = token.here();
         let is_name = matches!(here.sort, Sort::Name | Sort::Text);
         is_name && here.text.trim_matches('"') == name && token.is_label()

@@ -1,5 +1,4 @@
-// Forms that the wide profile refuses: of defaults, by the tokens around a mark, or at a reference (5), and of embeddings, by what is embedded
-// (11).
+// Forms that the wide profile refuses: of defaults, by the tokens around a mark or at a reference (5), and of embeddings (11).
 use crate::conditions::form_in_condition;
 use crate::forms::{Form, Found};
 use crate::syntax::{form_left_out, form_of_selected};
@@ -29,41 +28,30 @@ pub fn form_left_out_in<'s, 'a>(
     declared: &Declared<'_, 'a>,
 ) -> Made<Found<'s, 'a>> {
     let found = form_left_out(near);
-    if let Some(condition) = form_in_condition(near, found.form) {
-        return Ok(condition);
-    }
-    if let Some(selected) = form_of_selected(near) {
-        return Ok(selected);
+    let other = form_in_condition(near, found.form).or(form_of_selected(near));
+    if let Some(other) = other {
+        return Ok(other);
     }
     if near.source.profile == Profile::Default {
         return Ok(found);
     }
+    let is_at_top = near.begins_declaration() && near.inside() == Inside::File;
     let form = match found.form {
         Form::If => Form::IfOutside,
         Form::Let => Form::LetOutside,
         Form::HiddenName if near.before(1).text == "let" => Form::LetOutside,
         // Elsewhere it is a name that a struct or a file declares.
         Form::HiddenName => Form::Misplaced,
-        _ if near.here().sort == Sort::Definition => return excluded_default(near, declared),
+        _ if near.here().sort == Sort::Definition && is_at_top => Form::DefaultInside,
+        _ if near.here().sort == Sort::Definition => Form::ExcludedDefault,
         Form::DefaultMark => form_of_default(near),
         _ => return Ok(found),
     };
+    let found = Found::at(near, form);
     if matches!(form, Form::ExcludedDefault) {
-        return excluded_default(near, declared);
+        return Ok(found.showing(label_at(declared, near)?));
     }
-    Ok(Found::at(near, form))
-}
-
-/// The form of a default, or of a reference to a definition with one, that another declaration could exclude.
-fn excluded_default<'s, 'a>(
-    near: Near<'s, 'a>,
-    declared: &Declared<'_, 'a>,
-) -> Made<Found<'s, 'a>> {
-    if near.begins_declaration() && near.inside() == Inside::File {
-        return Ok(Found::at(near, Form::DefaultInside));
-    }
-    let label = label_at(declared, near)?;
-    Ok(Found::at(near, Form::ExcludedDefault).showing(label))
+    Ok(found)
 }
 
 /// The label of the field whose value a token is in, in parentheses or in none. Where the token embeds something, that of two declarations.
@@ -85,19 +73,17 @@ fn form_of_default(mark: Near<'_, '_>) -> Form {
     };
     let operand = value.part_around(Bar, mark.place);
     let is_operand = mark.place == operand.from && value.count(Bar) > 0;
-    let has_mark_before = (0..=value.count(Bar)).any(|place| {
-        let first = value.first_of(Bar, place);
-        first.is_some_and(|first| first.place < mark.place && first.here().text == "*")
-    });
-    let mut marked = mark.place.saturating_add(1)..operand.to;
+    let is_marked = |first: Near<'_, '_>| first.place < mark.place && first.here().text == "*";
+    let has_mark_before = value.find_first(Bar, is_marked).is_some();
+    let marked = operand.between(mark.place.saturating_add(1), operand.to);
     if !is_operand || !is_whole(mark, value) {
         Form::MisplacedDefault
     } else if has_mark_before {
         Form::SecondDefault
-    } else if marked.all(|place| is_of_literal(mark.source.token(place))) {
-        Form::ExcludedDefault
-    } else {
+    } else if marked.any(|token| !is_of_literal(token.here())) {
         Form::DefaultValue
+    } else {
+        Form::ExcludedDefault
     }
 }
 
@@ -115,14 +101,11 @@ fn value_of<'s, 'a>(near: Near<'s, 'a>) -> Option<Part<'s, 'a>> {
 
 /// Whether a value, which a token is in, has nothing around it but parentheses.
 fn is_whole(near: Near<'_, '_>, value: Part<'_, '_>) -> bool {
-    let mut outermost = near;
-    for _ in 1..MOST_AROUND {
-        match outermost.bracket() {
-            Some(bracket) if outermost.inside() == Inside::Parentheses => outermost = bracket,
-            Some(_) | None => break,
-        }
-    }
-    let whole = value_of(outermost);
+    let outer = successors(Some(near), |inner| match inner.inside() {
+        Inside::Parentheses => inner.bracket(),
+        Inside::File | Inside::Struct | Inside::List | Inside::Label => None,
+    });
+    let whole = value_of(outer.take(MOST_AROUND).last().unwrap_or(near));
     whole.is_some_and(|whole| whole.without("").from == value.from)
 }
 
@@ -154,26 +137,18 @@ pub fn form_closed<'s, 'a>(near: Near<'s, 'a>, declared: &Declared<'_, 'a>) -> M
     Ok(Found::at(near, form).showing(shown))
 }
 
-/// The form of a name that is declared at a token and is at fault beside structs that are joined: only a struct may declare it again, and only what is no
-/// definition and holds a literal is held open.
+/// The form of a declared name at fault beside structs that are joined: a struct may declare it again, and what is no definition is held open.
 fn form_of_declared(name: Near<'_, '_>) -> Form {
     let here = name.here();
     let is_inner = name.inside() == Inside::Struct && here.sort != Sort::Name;
     let is_definition = here.sort == Sort::Definition || here.text.starts_with("_#");
     let value = name.source.declaration_at(name.place).declared();
+    let is_literal = |token: Near<'_, '_>| ["{", ":", "["].contains(&token.here().text);
     match (is_inner, value) {
-        (true, Some(value)) if !is_definition && has_literal(value) => Form::JoinedName,
+        (true, Some(value)) if !is_definition && value.any(is_literal) => Form::JoinedName,
         (true, _) => Form::RedeclaredName,
         (false, _) => Form::HeldName,
     }
-}
-
-/// Whether a struct or a list stands in a part of a source.
-fn has_literal(part: Part<'_, '_>) -> bool {
-    (part.from..part.to).any(|place| {
-        let token = part.source.token(place);
-        is_mark(token, "{") || is_mark(token, ":") || is_mark(token, "[")
-    })
 }
 
 /// A text of a source as it is shown, where it is short and on one line.
@@ -220,11 +195,9 @@ fn flaw_inside<'a>(declared: &Declared<'_, 'a>, embedded: Part<'_, 'a>) -> Made<
         return Ok(None);
     };
     let whole = other.source.declaration_at(other.from);
-    let is_body = whole.count(Colon) > 0;
-    let about = if is_body {
-        label_of(whole)
-    } else {
-        other.text()
+    let about = match whole.count(Colon) {
+        0 => other.text(),
+        _ => label_of(whole),
     };
     Ok(Some((Form::EmbeddedNoStruct, about)))
 }
@@ -258,13 +231,10 @@ fn fields_beside<'a>(declared: &Declared<'_, 'a>, near: Near<'_, 'a>) -> Made<Ve
 /// What the literal holds that has the declaration which a token is in, whether by itself or by embedding literals that have it; or else the
 /// operands of `&` that the literal is joined with.
 fn literal_around<'s, 'a>(near: Near<'s, 'a>) -> Option<Part<'s, 'a>> {
-    let mut opening = near.struct_around()?;
-    for _ in 1..MOST_AROUND {
-        let Some(around) = opening.embedding().and(opening.struct_around()) else {
-            break;
-        };
-        opening = around;
-    }
+    let around = successors(near.struct_around(), |inner| {
+        inner.embedding().and(inner.struct_around())
+    });
+    let opening = around.take(MOST_AROUND).last()?;
     let source = near.source;
     let place = source.held_in_declaration(opening.place);
     Near { source, place }.conjunction().or(opening.held())
@@ -278,15 +248,12 @@ fn first_twice<'a>(fields: &[Field<'a>], is_opened: bool) -> Flaw<'a> {
             let is_met = !is_opened || are_opened(*first, **second);
             is_met && may_share_key(first.label, second.label)
         });
-        match second.map(|second| (first.label, second.label)) {
-            Some((EVERY, EVERY)) => return Some((Form::EmbeddedTwice, EVERY)),
-            Some((EVERY, label) | (label, EVERY)) => return Some((
-                Form::EmbeddedBesideEvery,
-                label,
-            )),
-            Some((label, _)) => return Some((Form::EmbeddedTwice, label)),
-            None => {}
-        }
+        let Some(second) = second else { continue };
+        return Some(match (first.label, second.label) {
+            (EVERY, EVERY) => (Form::EmbeddedTwice, EVERY),
+            (EVERY, label) | (label, EVERY) => (Form::EmbeddedBesideEvery, label),
+            (label, _) => (Form::EmbeddedTwice, label),
+        });
     }
     None
 }
@@ -360,13 +327,13 @@ impl<'s, 'a> Embedded<'s, 'a> {
             other: None,
             coming: Vec::new(alloc),
         };
-        found.put_each(part, None, Comma)?;
-        found.pass_all()?;
+        found.pass_all(part)?;
         Ok(found)
     }
 
-    /// Passes what is still to come.
-    fn pass_all(&mut self) -> Made<()> {
+    /// Passes the declarations of a part, and what is still to come behind them.
+    fn pass_all(&mut self, part: Part<'s, 'a>) -> Made<()> {
+        self.put_each(part, None, Comma)?;
         for _ in 0..MOST_PASSED {
             let Some((next, by)) = self.coming.pop() else {
                 break;
@@ -427,23 +394,23 @@ impl<'s, 'a> Embedded<'s, 'a> {
 
     /// What a field is, and its value.
     fn field_of(&self, field: Part<'s, 'a>, by: Option<usize>) -> Field<'a> {
-        let Part { source, from, to } = field;
-        let bracket = source.around(from);
+        let source = field.source;
+        let bracket = source.around(field.from);
         let other = (bracket != self.bracket).then_some(source.bracket(bracket).first);
-        let is_shut = (from..to).any(|place| {
-            let near = Near { source, place };
+        let is_shut = field.any(|near| {
             let is_call = near.here().text == "close" && is_mark(near.behind(1), "(");
             is_call || near.here().sort == Sort::Definition
         });
         let value = field.declared().unwrap_or(field);
-        let only = value.only().map(|only| only.here());
-        let reference = only.filter(|only| only.sort == Sort::Definition);
+        let reference = value
+            .only()
+            .filter(|only| only.here().sort == Sort::Definition);
         Field {
             label: label_of(field),
             brought: by.or(other),
             holds: is_shut || !value.is_plain(),
             is_shut,
-            reference: reference.map(|reference| reference.text),
+            reference: reference.map(|reference| reference.here().text),
         }
     }
 

@@ -1,12 +1,9 @@
-// Forms by the tokens at a place: where no token of the profile begins (3), at a token that is out of place (4) or that only CUE outside of the
-// profile has (5), and of names that aren't declared (9).
+// Forms by the tokens at a place: where none begins (3), at one that is out of place (4) or left out (5), and of names that aren't declared (9).
 use crate::conditions::form_in_condition;
 use crate::forms::{Form, Found, said_of_shown};
 use cs_grammar::{Profile, Sort, Token};
 use cs_sources::Separator::Comma;
-use cs_sources::{
-    Declared, Inside, Near, Source, begins_value, ends_value, follows_label, separates,
-};
+use cs_sources::{Declared, Inside, Near, begins_value, ends_value, follows_label, separates};
 
 /// The packages that come with CUE.
 const PACKAGES: [&str; 18] = [
@@ -14,21 +11,18 @@ const PACKAGES: [&str; 18] = [
     "strconv", "strings", "struct", "template", "time", "uuid", "yaml",
 ];
 
-/// The forms of clauses by the words that begin them.
-const CLAUSES: [(&str, Form); 3] = [("let", Form::Let), ("for", Form::For), ("if", Form::If)];
-
-/// What the default profile leaves out by its token alone: the form of that, and of that in the brackets of a label.
-const LEFT_OUT: [(&str, Form, Form); 10] = [
-    ("import", Form::Import, Form::Import),
-    ("let", Form::Let, Form::Let),
-    ("for", Form::For, Form::For),
-    ("if", Form::If, Form::If),
-    ("=", Form::Alias, Form::AliasLabel),
-    ("=~", Form::RegularExpression, Form::Pattern),
-    ("!~", Form::RegularExpression, Form::Pattern),
-    ("==", Form::Comparison, Form::Comparison),
-    ("&&", Form::Comparison, Form::Comparison),
-    ("||", Form::Comparison, Form::Comparison),
+/// What the default profile leaves out by its token alone.
+const LEFT_OUT: [(&str, Form); 10] = [
+    ("import", Form::Import),
+    ("let", Form::Let),
+    ("for", Form::For),
+    ("if", Form::If),
+    ("=", Form::Alias),
+    ("=~", Form::RegularExpression),
+    ("!~", Form::RegularExpression),
+    ("==", Form::Comparison),
+    ("&&", Form::Comparison),
+    ("||", Form::Comparison),
 ];
 
 /// The form at an offset of a source where no token of its profile begins; another one stands there in its place.
@@ -107,8 +101,7 @@ fn text_at(bytes: &[u8]) -> (Form, usize) {
     (opened, bytes.len())
 }
 
-/// The form of a name that isn't declared, or that `.` selects from in the wide profile where it has no such field; or of a `let` that binds one which
-/// nothing names, or which something else declares.
+/// The form of a name that isn't declared, or has no field that `.` selects from it; or of a `let` whose name nothing names, or another one has.
 pub fn form_unknown<'s, 'a>(near: Near<'s, 'a>, declared: &Declared<'_, 'a>) -> Found<'s, 'a> {
     let name = near.here();
     if near.begins_let() {
@@ -134,41 +127,24 @@ pub fn form_unknown<'s, 'a>(near: Near<'s, 'a>, declared: &Declared<'_, 'a>) -> 
 /// Whether a definition, a struct or a file declares a name.
 fn is_declared(name: &str, declared: &Declared<'_, '_>) -> bool {
     declared.of(name).is_some()
-        || declared
-            .sources
-            .iter()
-            .any(|source| declares_name(source, name))
-}
-
-/// Whether a struct or a file of a source declares a name.
-fn declares_name(source: &Source<'_>, name: &str) -> bool {
-    (0..source.tokens.len()).any(|place| {
-        let token = Near { source, place };
-        token.declares_name() && token.name_declared().here().text == name
-    })
+        || declared.sources.iter().any(|source| {
+            source.whole().any(|token| {
+                token.declares_name() && token.name_declared().here().text == name
+            })
+        })
 }
 
 /// The form of a `let` at fault: another declaration of its struct or its file may have its name.
 fn form_of_let<'s, 'a>(near: Near<'s, 'a>) -> Found<'s, 'a> {
     let name = near.name_declared().here().text;
     let held = near.source.held(near.source.around(near.place));
-    let is_twice = (0..=held.count(Comma)).any(|place| {
-        let first = held.first_of(Comma, place);
-        first.is_some_and(|first| first.place != near.place && begins_with_name(first, name))
+    let twice = held.find_first(Comma, |first| {
+        let declared = first.name_declared();
+        let is_name = first.begins_let() || follows_label(declared.behind(1));
+        first.place != near.place && is_name && declared.here().text == name
     });
-    let form = if is_twice {
-        Form::BoundTwice
-    } else {
-        Form::UnusedLet
-    };
+    let form = twice.map_or(Form::UnusedLet, |_| Form::BoundTwice);
     Found::between(form, near, near.place.saturating_add(2)).showing(name)
-}
-
-/// Whether the declaration that begins with a token declares a name.
-fn begins_with_name(first: Near<'_, '_>, name: &str) -> bool {
-    let declared = first.name_declared();
-    let is_one = first.begins_let() || follows_label(declared.behind(1));
-    is_one && declared.here().text == name
 }
 
 /// The form at a name with a selector behind it; none at another token.
@@ -187,10 +163,11 @@ pub(crate) fn form_left_out<'s, 'a>(near: Near<'s, 'a>) -> Found<'s, 'a> {
     if here.text == "." {
         return form_of_dot(near);
     }
-    let listed = LEFT_OUT.iter().find(|(text, _, _)| *text == here.text);
-    let form = match listed {
-        Some((_, _, in_label)) if near.inside() == Inside::Label => *in_label,
-        Some((_, form, _)) => *form,
+    let is_in_label = near.inside() == Inside::Label;
+    let form = match form_of_token(here.text) {
+        Some(Form::Alias) if is_in_label => Form::AliasLabel,
+        Some(Form::RegularExpression) if is_in_label => Form::Pattern,
+        Some(form) => form,
         None if here.sort == Sort::Hidden => Form::HiddenName,
         None if here.sort == Sort::Name => Form::Misplaced,
         None if here.text == "*" && !ends_value(near.before(1)) => Form::DefaultMark,
@@ -199,10 +176,10 @@ pub(crate) fn form_left_out<'s, 'a>(near: Near<'s, 'a>) -> Found<'s, 'a> {
     Found::at(near, form)
 }
 
-/// The form of a clause that a word begins.
-fn form_of_clause(word: &str) -> Option<Form> {
-    let clause = CLAUSES.iter().find(|(begun, _)| *begun == word)?;
-    Some(clause.1)
+/// The form of what the default profile leaves out by its token alone.
+fn form_of_token(text: &str) -> Option<Form> {
+    let listed = LEFT_OUT.iter().find(|(token, _)| *token == text)?;
+    Some(listed.1)
 }
 
 fn form_of_dot<'s, 'a>(near: Near<'s, 'a>) -> Found<'s, 'a> {
@@ -238,7 +215,9 @@ pub fn form_out_of_place<'s, 'a>(near: Near<'s, 'a>) -> Found<'s, 'a> {
 /// The form after a word that begins a clause, or of a value after the mark of a limit, or after its sign.
 fn after_word<'s, 'a>(near: Near<'s, 'a>) -> Option<Found<'s, 'a>> {
     let (before, here) = (near.before(1), near.here());
-    if let Some(form) = form_of_clause(before.text) {
+    if let Some(form) = form_of_token(before.text)
+        && matches!(form, Form::Let | Form::For | Form::If)
+    {
         let is_let = matches!(form, Form::Let) && near.source.profile == Profile::Wide;
         let form = if is_let { Form::LetOutside } else { form };
         return Some(Found::before(near, form));
@@ -285,6 +264,7 @@ fn form_of_declaration<'s, 'a>(near: Near<'s, 'a>) -> Found<'s, 'a> {
 /// The form inside of an expression, behind the end of a value.
 fn behind_value<'s, 'a>(near: Near<'s, 'a>) -> Found<'s, 'a> {
     let (before, here) = (near.before(1), near.here());
+    let first = near.part().first().unwrap_or(near);
     let is_name = matches!(before.sort, Sort::Definition | Sort::Hidden);
     match here.text {
         "?" | "!" if is_name && near.source.profile == Profile::Wide => {
@@ -299,21 +279,17 @@ fn behind_value<'s, 'a>(near: Near<'s, 'a>) -> Found<'s, 'a> {
         "(" if before.sort == Sort::Name => Found::before(near, Form::Call),
         "[" if before.text != "}" => Found::at(near, Form::Index),
         ":" if before.sort == Sort::Definition => Found::before(near, Form::NestedDefinition),
-        ":" if near.colon().is_none() => behind_label(near),
+        ":" if near.colon().is_some() => plain(near),
+        ":" if first.here().sort == Sort::Integer => Found::at(first, Form::DigitLabel),
+        // What is no label.
+        ":" => match first.here().text.as_bytes() {
+            [b'*'] => Found::at(first, Form::MisplacedDefault),
+            [b'['] => Found::at(first, Form::Pattern),
+            [b'('] => Found::at(first, Form::DynamicLabel),
+            _ => plain(near),
+        },
         _ if is_relation(here) => Found::at(near, Form::Comparison),
         "-" | "div" | "mod" | "quo" | "rem" => Found::at(near, Form::Arithmetic),
-        _ => plain(near),
-    }
-}
-
-/// The form at the colon behind what is no label.
-fn behind_label<'s, 'a>(near: Near<'s, 'a>) -> Found<'s, 'a> {
-    let first = near.part().first().unwrap_or(near);
-    match first.here().text.as_bytes() {
-        _ if first.here().sort == Sort::Integer => Found::at(first, Form::DigitLabel),
-        [b'*'] => Found::at(first, Form::MisplacedDefault),
-        [b'['] => Found::at(first, Form::Pattern),
-        [b'('] => Found::at(first, Form::DynamicLabel),
         _ => plain(near),
     }
 }
@@ -339,7 +315,7 @@ fn plain<'s, 'a>(near: Near<'s, 'a>) -> Found<'s, 'a> {
         _ if is_label_before(near) => Found::before(near, Form::MissingColon),
         _ if begins_value(here) && ends_value(before) => Found::at(near, Form::MissingComma),
         _ if begins_value(here) && is_parted => Found::at(near, Form::NewLineInList),
-        _ if is_end(here) && wants_value(before) => Found::at(near, Form::MissingValue),
+        _ if lacks_value(before, here) => Found::at(near, Form::MissingValue),
         [b'}' | b']' | b')'] => closing(near),
         // The end, or the comma that it inserts.
         [] if near.behind(1).sort == Sort::End => closing(near),
@@ -355,14 +331,10 @@ fn is_label_before(near: Near<'_, '_>) -> bool {
     is_label && is_first && near.here().text != ":"
 }
 
-/// Whether an expression ends before a token.
-fn is_end(token: Token<'_>) -> bool {
-    separates(token) || ["}", "]", ")", "&", "|", ":"].contains(&token.text)
-}
-
-/// Whether a value has to follow a token.
-fn wants_value(token: Token<'_>) -> bool {
-    is_relation(token) || [":", "&", "|", "-", "(", "*"].contains(&token.text)
+/// Whether a value is missing between two tokens: it has to follow the first one, and the second one ends an expression.
+fn lacks_value(before: Token<'_>, here: Token<'_>) -> bool {
+    let is_wanted = is_relation(before) || [":", "&", "|", "-", "(", "*"].contains(&before.text);
+    is_wanted && (separates(here) || ["}", "]", ")", "&", "|", ":"].contains(&here.text))
 }
 
 /// The form at the end of a source, or at a closing bracket that closes nothing.

@@ -2,15 +2,11 @@
 // are shown to people.
 #![tactic(auto)]
 
-mod named;
 mod position;
-mod positions;
 mod shown;
 mod values;
 
-pub use named::Named;
-pub use position::{Position, position_of};
-pub use positions::Positions;
+pub use position::{Position, Positions, position_of};
 pub use shown::{Label, is_hidden, put_in_string, put_place, put_quoted, put_shown};
 use std::alloc::AllocError;
 pub use values::{Place, Step, ValuePath, places, pointer_at};
@@ -20,3 +16,13 @@ pub type Made<T> = Result<T, AllocError>;
 
 /// What writing into a text gives: that memory ran out is all that can go wrong.
 pub type Written = Made<()>;
+
+/// A text, the name that people know it by, and the number of its first line.
+#[derive(Clone, Copy)]
+pub struct Named<'a> {
+    /// The path of its file, or `-` for standard input.
+    pub name: &'a str,
+    pub text: &'a [u8],
+    /// 1, or for a document that is a line of a file the number of that line.
+    pub line: usize,
+}

@@ -1,4 +1,4 @@
-// Lines and columns.
+// Lines and columns, of one offset and of many.
 ghost use Rattle.std.specs.Prelude.{◌≡◌, ℕ, ◌+◌, ◌<◌, ◌≤◌, ◌^◌, ◌++◌, List, length, count_by};
 ghost use Rattle.cs_place.specs.Positions.{begins_character as is_first, ends_line, position_at, position_behind};
 
@@ -12,7 +12,7 @@ pub struct Position {
 }
 
 /// The place of a text's first byte.
-pub(crate) const FIRST: Position = Position { line: 1, column: 1 };
+const FIRST: Position = Position { line: 1, column: 1 };
 
 /// The line and the column of an offset; one past the end counts as the end.
 pub fn position_of(text: &[u8], offset: usize) -> Position
@@ -22,7 +22,7 @@ pub fn position_of(text: &[u8], offset: usize) -> Position
 }
 
 /// The place behind these bytes, of which the first is at a place.
-pub(crate) fn behind(from: Position, bytes: &[u8]) -> Position
+fn behind(from: Position, bytes: &[u8]) -> Position
     requires line { from.line + length bytes.now < 2 ^ 64 }
     requires column { from.column + length bytes.now < 2 ^ 64 }
     ensures { (before : List ℕ) → from ≡ position_behind before
@@ -53,4 +53,52 @@ fn characters(bytes: &[u8]) -> usize
     ensures bound { result ≤ length bytes.now }
 {
     bytes.iter().filter(|b| **b < 128 || 191 < **b).count()
+}
+
+/// Finds lines and columns in a text. Where offsets ascend it reads the text once in all.
+#[derive(Clone, Copy)]
+pub struct Positions<'a> {
+    pub text: &'a [u8],
+    /// The last offset, and its place.
+    offset: usize,
+    position: Position,
+    ghost within: { offset ≤ length text.now },
+    ghost known: { position ≡ position_at text.now offset },
+}
+
+impl<'a> Positions<'a> {
+    pub fn new(text: &'a [u8]) -> Self
+        ensures { result.text ≡ text.entry }
+    {
+        Positions {
+            text,
+            offset: 0,
+            position: FIRST,
+        }
+    }
+
+    /// As [`position_of`].
+    pub fn at(&mut self, offset: usize) -> Position
+        ensures value { result ≡ position_at self.old.text.now offset }
+        ensures text { self.new.text ≡ self.old.text }
+    {
+        let end = offset.min(self.text.len());
+        let (from, first) = self.nearest(end);
+        let position = behind(from, &self.text[first..end]);
+        self.position = position;
+        self.offset = end;
+        position
+    }
+
+    /// A place that is known, and its offset, which is not past another one.
+    fn nearest(&self, offset: usize) -> (Position, usize)
+        ensures up { result.1 ≤ offset }
+        ensures known { result.0 ≡ position_at self.now.text.now result.1 }
+    {
+        if offset < self.offset {
+            (FIRST, 0)
+        } else {
+            (self.position, self.offset)
+        }
+    }
 }

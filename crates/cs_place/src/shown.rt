@@ -1,6 +1,6 @@
 // How texts that users wrote are shown to people: on their line, with nothing that a terminal obeys or that changes how what is
 // around them looks.
-ghost use Rattle.std.specs.Prelude.{◌≡◌, ◌++◌, ◌/◌, OnOk, string_bytes, encode_utf8, encode_utf8_all};
+ghost use Rattle.std.specs.Prelude.{◌≡◌, ◌++◌, ◌/◌, OnOk, string_bytes, encode_utf8_all};
 ghost use Rattle.cs_place.specs.Shown.{is_hidden, last_digit, letter_or_digits, shown_by, quoted_by, shown, quoted, place_text};
 
 use crate::{Made, Written};
@@ -33,29 +33,18 @@ fn hex_digit(number: u32) -> char
     char::from_digit(number % 16, 16).unwrap_or('0')
 }
 
-/// Puts what follows the backslash of an escape (RFC 8259, section 7).
+/// Puts what follows the backslash of an escape: a letter, or the number of the character in four digits (RFC 8259, section 7).
 fn put_escape(text: &mut String, hidden: char) -> Written
     ensures { OnOk result (string_bytes text.new
         ≡ string_bytes text.old ++ encode_utf8_all (letter_or_digits hidden)) }
 {
+    let number = hidden as u32;
     match hidden {
-        '\n' => text.push('n'),
-        '\r' => text.push('r'),
-        '\t' => text.push('t'),
-        _ => put_digits(text, hidden as u32),
+        '\n' => return text.push('n'),
+        '\r' => return text.push('r'),
+        '\t' => return text.push('t'),
+        _ => text.push('u')?,
     }
-}
-
-/// Puts the number of a character in four digits.
-fn put_digits(text: &mut String, number: u32) -> Written
-    ensures { OnOk result (string_bytes text.new ≡ string_bytes text.old
-        ++ encode_utf8 117
-        ++ encode_utf8 (last_digit (number / 4096))
-        ++ encode_utf8 (last_digit (number / 256))
-        ++ encode_utf8 (last_digit (number / 16))
-        ++ encode_utf8 (last_digit number)) }
-{
-    text.push('u')?;
     text.push(hex_digit(number / 4096))?;
     text.push(hex_digit(number / 256))?;
     text.push(hex_digit(number / 16))?;

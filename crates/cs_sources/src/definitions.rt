@@ -18,20 +18,6 @@ pub struct Declared<'s, 'a> {
 
 /// The definitions that sources declare, outside of all brackets. Only memory can run out.
 pub fn declared_in<'s, 'a>(alloc: Global, sources: &'s [Source<'a>]) -> Made<Declared<'s, 'a>> {
-    let by_name = declarations_by_name(alloc, sources)?;
-    let firsts = firsts_of(alloc, &by_name)?;
-    Ok(Declared {
-        sources,
-        firsts,
-        by_name,
-    })
-}
-
-/// All declarations of definitions by their names, and those of one name in their order.
-fn declarations_by_name<'s, 'a>(
-    alloc: Global,
-    sources: &'s [Source<'a>],
-) -> Made<Vec<Near<'s, 'a>>> {
     let mut by_name = Vec::new(alloc);
     for source in sources {
         for place in 0..source.tokens.len() {
@@ -43,20 +29,14 @@ fn declarations_by_name<'s, 'a>(
         }
     }
     by_name.sort_by_key(|declaration| declaration.here().text)?;
-    Ok(by_name)
-}
-
-/// Of declarations by their names the first one of each name, in the order of their places.
-fn firsts_of<'s, 'a>(alloc: Global, by_name: &[Near<'s, 'a>]) -> Made<Vec<Near<'s, 'a>>> {
-    let mut firsts: Vec<Near<'s, 'a>> = Vec::new(alloc);
-    for declaration in by_name {
-        let last = firsts.last().map(|first| first.here().text);
-        if last != Some(declaration.here().text) {
-            firsts.push(*declaration)?;
-        }
-    }
+    let mut firsts = by_name.clone()?;
+    firsts.dedup_by(|other, first| other.here().text == first.here().text);
     firsts.sort_by_key(|declaration| (declaration.source.file, declaration.place))?;
-    Ok(firsts)
+    Ok(Declared {
+        sources,
+        firsts,
+        by_name,
+    })
 }
 
 impl<'s, 'a> Declared<'s, 'a> {
@@ -71,8 +51,7 @@ impl<'s, 'a> Declared<'s, 'a> {
         let before = all.partition_point(|declaration| declaration.here().text < name);
         let (_, behind) = all.split_at(before);
         let times = behind.partition_point(|declaration| declaration.here().text <= name);
-        let (named, _) = behind.split_at(times);
-        named
+        behind.split_at(times).0
     }
 
     /// The first declaration of a name with its `#`.

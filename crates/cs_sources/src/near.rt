@@ -1,10 +1,13 @@
 // A token of a source and what is near it, and a part of a source and its parts.
 use crate::source::Separator::{Amp, Bar, Colon, Comma};
-use crate::source::{Bracket, Inside, MOST_AROUND, Separation, Separator, Source};
+use crate::source::{Bracket, Inside, Separation, Separator, Source};
 use crate::tokens::{end_of, follows_label, is_mark, precedes_declaration};
 use cs_grammar::{Profile, Sort, Token};
 use std::iter::successors;
 use std::mem;
+
+/// The words that begin clauses of a struct.
+const CLAUSES: [&str; 2] = ["if", "let"];
 
 /// The names that refer to nothing, unless they are declared: those of kinds (CUE, predeclared identifiers), and of literals.
 const PREDECLARED: [&str; 15] = [
@@ -104,11 +107,9 @@ impl<'s, 'a> Near<'s, 'a> {
     /// Whether an expression that a struct embeds begins with the token, or an `if`, which stands for one: a declaration without a colon of its own.
     pub fn begins_embedding(self) -> bool {
         let here = self.here();
-        let may_begin = here.sort == Sort::Definition
-            || is_mark(here, "{")
-            || is_mark(here, "(")
-            || self.begins_conditional();
-        may_begin && self.begins_declaration() && self.part().count(Colon) == 0
+        let is_value = here.sort == Sort::Definition || ["{", "("].contains(&here.text);
+        (self.begins_conditional() || is_value && self.begins_declaration())
+            && self.part().count(Colon) == 0
     }
 
     /// Whether a label ends with the token: a colon is behind it, or a mark and a colon.
@@ -116,22 +117,24 @@ impl<'s, 'a> Near<'s, 'a> {
         self.source.ends_label(self.place.saturating_add(1))
     }
 
+    /// Whether a declaration begins with the token that is this word, and no field of this label.
+    fn begins_clause(self, word: &str) -> bool {
+        let here = self.here();
+        let is_word = here.sort == Sort::Name && here.text == word;
+        is_word && self.begins_declaration() && !self.is_label()
+    }
+
     /// Whether a declaration of a struct begins with the token that is an `if`, and no field of this label.
     pub fn begins_conditional(self) -> bool {
-        let here = self.here();
-        let is_if = here.sort == Sort::Name && here.text == "if";
-        is_if && self.begins_declaration() && self.inside() == Inside::Struct && !self.is_label()
+        self.begins_clause("if") && self.inside() == Inside::Struct
     }
 
     /// Whether a declaration begins with the token that is a `let`, and no field of this label.
     pub fn begins_let(self) -> bool {
-        let here = self.here();
-        let is_let = here.sort == Sort::Name && here.text == "let";
-        is_let && self.begins_declaration() && !self.is_label()
+        self.begins_clause("let")
     }
 
-    /// Whether the declaration that begins with the token gives a name that is none of the data, and no definition of a file: by a `let`, with `#` or
-    /// `_`, or at the top of a file.
+    /// Whether the declaration that begins with the token gives a name that is none of the data, and no definition of a file.
     pub fn declares_name(self) -> bool {
         let sort = self.here().sort;
         let may_be = match self.inside() {
@@ -156,56 +159,48 @@ impl<'s, 'a> Near<'s, 'a> {
 
     /// The selector that begins with the token: a name, and then each `.` with its label; none where that is something else.
     pub fn selector(self) -> Option<Part<'s, 'a>> {
-        let is_name = matches!(
-            self.here().sort,
-            Sort::Name | Sort::Definition | Sort::Hidden
-        );
+        let sort = self.here().sort;
+        let is_name = matches!(sort, Sort::Name | Sort::Definition | Sort::Hidden);
         let behind = self.place.checked_add(1)?;
-        let is_dot = |label: &usize| {
-            let place = behind.saturating_add(label.saturating_mul(2));
-            self.source.token(place).text == "."
-        };
-        let labels = (0..self.source.tokens.len()).take_while(is_dot).count();
-        let to = behind.saturating_add(labels.saturating_mul(2));
-        let is_selector = is_name && labels > 0;
+        let mut ends = (behind..=self.source.tokens.len()).step_by(2);
+        let to = ends.find(|place| self.source.token(*place).text != ".")?;
+        let is_selector = is_name && to > behind;
         is_selector.then_some(self.source.whole().between(self.place, to))
     }
 
-    /// Whether the token refers to a definition, or to another name that a struct or a file declares: in sources that spell a package each name
-    /// does that is no label and not predeclared.
+    /// The word before the token, or before its `!`.
+    fn word_before(self) -> &'a str {
+        let negations = usize::from(is_mark(self.before(1), "!"));
+        self.before(negations.saturating_add(1)).text
+    }
+
+    /// Whether the token refers to a definition, or in sources that spell a package to another name that a struct or a file declares.
     pub fn is_reference(self) -> bool {
         let here = self.here();
-        match here.sort {
-            Sort::Definition | Sort::Hidden => !self.is_label(),
-            Sort::Name => {
-                let negations = usize::from(is_mark(self.before(1), "!"));
-                let word = self.before(negations.saturating_add(1)).text;
-                // A field that an `if` asks about, what a `let` binds, and these words themselves.
-                let is_of_clause = ["if", "let"].contains(&word)
-                    || ["if", "let"].contains(&here.text);
-                self.source.profile == Profile::Wide
-                    && !self.is_label()
-                    && !is_of_clause
-                    && !PREDECLARED.contains(&here.text)
-            }
+        let is_one = match here.sort {
+            Sort::Definition | Sort::Hidden => true,
+            // No field that an `if` asks about, nor what a `let` binds, nor these words themselves.
+            Sort::Name => self.source.profile == Profile::Wide
+                && !CLAUSES.contains(&self.word_before())
+                && !CLAUSES.contains(&here.text)
+                && !PREDECLARED.contains(&here.text),
             _ => false,
-        }
+        };
+        is_one && !self.is_label()
     }
 
     /// Whether the token is in the conditions of an `if` of a struct, or the first one that opens a struct there.
     pub fn is_in_condition(self) -> bool {
-        let source = self.source;
-        let declaration = source.declaration_at(self.place);
+        let declaration = self.source.declaration_at(self.place);
+        let before = declaration.between(declaration.from, self.place);
         let first = declaration.first();
         first.is_some_and(|first| first.begins_conditional())
-            && (declaration.from..self.place).all(|place| !is_mark(source.token(place), "{"))
+            && !before.any(|token| is_mark(token.here(), "{"))
     }
 
     /// Whether the token names a field that an `if` of a struct asks about: it is the name behind that, or behind its `!`.
     pub fn is_asked(self) -> bool {
-        let negations = usize::from(is_mark(self.before(1), "!"));
-        let word = self.before(negations.saturating_add(1)).text;
-        self.here().sort == Sort::Name && word == "if" && self.is_in_condition()
+        self.here().sort == Sort::Name && self.word_before() == "if" && self.is_in_condition()
     }
 
     /// The operands of `&` that the token is in, in the same bracket.
@@ -228,12 +223,6 @@ impl<'s, 'a> Near<'s, 'a> {
         is_embedded.then_some(declaration)
     }
 
-    /// The label of the same text as the token, in the innermost struct around it that has one.
-    pub fn label_around(self) -> Option<Near<'s, 'a>> {
-        let mut around = successors(self.bracket(), |inner| inner.bracket()).take(MOST_AROUND);
-        around.find_map(|bracket| bracket.held()?.label(self.here().text))
-    }
-
     /// The token that opens the struct with the declaration that the token is in.
     pub fn struct_around(self) -> Option<Near<'s, 'a>> {
         self.source.declaration_at(self.place).first()?.bracket()
@@ -241,15 +230,11 @@ impl<'s, 'a> Near<'s, 'a> {
 
     /// Whether the declaration that the token is in stands in a struct that embeds an expression, or that is embedded.
     pub fn stands_beside_embeddings(self) -> bool {
-        let opening = self.struct_around();
-        let Some(held) = opening.and_then(|opening| opening.held()) else {
-            return false;
-        };
-        opening.and_then(|opening| opening.embedding()).is_some()
-            || (0..=held.count(Comma)).any(|place| {
-                let first = held.first_of(Comma, place);
-                first.is_some_and(|first| first.begins_embedding())
-            })
+        self.struct_around().is_some_and(|opening| {
+            let held = self.source.held(self.source.own(opening.place));
+            let beside = held.find_first(Comma, |first| first.begins_embedding());
+            opening.embedding().is_some() || beside.is_some()
+        })
     }
 
     /// What is between commas around the token: a declaration, or an element of a list.
@@ -260,9 +245,10 @@ impl<'s, 'a> Near<'s, 'a> {
 
     /// The colon of the label whose value the token is in, in the same bracket.
     pub fn colon(self) -> Option<Near<'s, 'a>> {
-        let colon = self.source.last_separator(Colon, self.place)?;
-        let colon = self.source.near(colon)?;
-        (self.part().from < colon.place).then_some(colon)
+        let (source, part) = (self.source, self.part());
+        let before = part.between(part.from, self.place);
+        let place = before.separations(Colon).last()?.2;
+        (part.from < place).then_some(Near { source, place })
     }
 }
 
@@ -303,7 +289,10 @@ impl<'s, 'a> Part<'s, 'a> {
 
     /// Its separators of a sort.
     fn separations(self, separator: Separator) -> &'s [Separation] {
-        self.source.separations(separator, self.from, self.to)
+        let bracket = self.source.around(self.from);
+        let all = self.source.separations.as_slice();
+        let rank = |place: usize| all.partition_point(|other| *other < (bracket, separator, place));
+        all.get(rank(self.from)..rank(self.to)).unwrap_or(&[])
     }
 
     /// Its part at a place, where separators are between the parts.
@@ -317,30 +306,48 @@ impl<'s, 'a> Part<'s, 'a> {
         Some(self.between(from, to))
     }
 
-    /// The first token of its part at a place, where separators are between the parts.
-    pub fn first_of(self, separator: Separator, place: usize) -> Option<Near<'s, 'a>> {
-        self.part(separator, place)?.first()
-    }
-
-    /// The label of its first declaration whose label is this text: one token, which the colon or its mark follows.
-    pub fn label(self, text: &str) -> Option<Near<'s, 'a>> {
-        for place in 0..=self.count(Comma) {
-            let first = self.first_of(Comma, place);
-            let is_one = |first: &Near<'_, '_>| first.here().text == text
-                && follows_label(first.behind(1));
-            if first.as_ref().is_some_and(is_one) {
-                return first;
+    /// Of the first tokens of its parts, where separators are between these, the first one that is so.
+    pub fn find_first<F: Fn(Near<'_, '_>) -> bool>(
+        self,
+        separator: Separator,
+        is_one: F,
+    ) -> Option<Near<'s, 'a>>
+        requires { F.IsAlwaysCallable is_one }
+    {
+        for at in 0..=self.count(separator) {
+            if let Some(first) = self.part(separator, at)?.first()
+                && is_one(first)
+            {
+                return Some(first);
             }
         }
         None
     }
 
+    /// Whether one of its tokens is so.
+    pub fn any<F: Fn(Near<'_, '_>) -> bool>(self, is_one: F) -> bool
+        requires { F.IsAlwaysCallable is_one }
+    {
+        let source = self.source;
+        (self.from..self.to).any(|place| is_one(Near { source, place }))
+    }
+
+    /// The label of its first declaration whose label is this text: one token, which the colon or its mark follows.
+    pub fn label(self, text: &str) -> Option<Near<'s, 'a>> {
+        self.find_first(
+            Comma,
+            |first| first.here().text == text && follows_label(first.behind(1)),
+        )
+    }
+
     /// Its part that the token at a place is directly in, where separators are between the parts.
     pub fn part_around(self, separator: Separator, place: usize) -> Part<'s, 'a> {
-        let before = self.source.last_separator(separator, place);
-        let from = before.map_or(0, |before| before.saturating_add(1));
-        let to = self.source.separator(separator, place, self.to, 0);
-        self.between(from.max(self.from), to.unwrap_or(self.to))
+        let before = self.between(self.from, place).separations(separator);
+        let next = self.between(place, self.to).separations(separator);
+        let from = before
+            .last()
+            .map_or(self.from, |before| before.2.saturating_add(1));
+        self.between(from, next.first().map_or(self.to, |next| next.2))
     }
 
     /// The struct under the conditions of the `if` that it is; none where it is something else.
@@ -361,32 +368,21 @@ impl<'s, 'a> Part<'s, 'a> {
 
     /// It without the parentheses around, and without a word before them: they say nothing.
     pub fn without(self, word: &str) -> Part<'s, 'a> {
-        let mut left = self;
-        for _ in 0..self.to {
-            let Some(inside) = left.inside_parentheses(word) else {
-                break;
-            };
-            left = inside;
-        }
-        left
-    }
-
-    /// What the parentheses around it have inside, also where a word is before them.
-    fn inside_parentheses(self, word: &str) -> Option<Part<'s, 'a>> {
-        let is_called = self.first()?.here().text == word;
-        let from = self.from.saturating_add(usize::from(is_called));
-        // The end of a line may have inserted a comma before the parenthesis that closes.
-        self.between(from, self.to).inside("(")?.part(Comma, 0)
+        let inner = successors(Some(self), |outer| {
+            let is_called = outer.first()?.here().text == word;
+            let from = outer.from.saturating_add(usize::from(is_called));
+            // The end of a line may have inserted a comma before the parenthesis that closes.
+            outer.between(from, outer.to).inside("(")?.part(Comma, 0)
+        });
+        inner.take(self.to.saturating_add(1)).last().unwrap_or(self)
     }
 
     /// Whether nothing in it is a struct literal or a reference, so that it stays beside what is put together.
     pub fn is_plain(self) -> bool {
-        (self.from..self.to).all(|place| {
-            let token = self.source.token(place);
-            // A colon is that of a short form, which is a struct.
-            let is_struct = is_mark(token, "{") || is_mark(token, ":");
-            let source = self.source;
-            !Near { source, place }.is_reference() && !is_struct
+        // A colon is that of a short form, which is a struct.
+        !self.any(|token| {
+            let here = token.here();
+            token.is_reference() || is_mark(here, "{") || is_mark(here, ":")
         })
     }
 
@@ -422,16 +418,11 @@ impl<'s, 'a> Part<'s, 'a> {
     /// Its operand of `&` at a place, where those that aren't plain are one operand, which stands where the first of them does.
     pub fn standing_operand(self, place: usize) -> Option<Part<'s, 'a>> {
         let mut is_met = false;
-        let mut standing = 0usize;
-        for at in 0..self.operands(Amp) {
-            let operand = self.operand(Amp, at)?;
-            let stands = operand.is_plain() || !mem::replace(&mut is_met, true);
-            if stands && standing == place {
-                return Some(operand);
-            }
-            standing = standing.saturating_add(usize::from(stands));
-        }
-        None
+        let operands = (0..self.operands(Amp)).filter_map(|at| self.operand(Amp, at));
+        let mut standing = operands.filter(|operand| {
+            operand.is_plain() || !mem::replace(&mut is_met, true)
+        });
+        standing.nth(place)
     }
 
     /// What is declared by this declaration: what is behind its first colon, or behind the `=` of a `let`.

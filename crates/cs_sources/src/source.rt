@@ -1,6 +1,6 @@
 // Sources with their tokens, the brackets that these are in, and what separates the parts inside of each.
 use crate::near::{Near, Part};
-use crate::tokens::{is_behind_label, is_mark, precedes_declaration, tokens_of};
+use crate::tokens::{is_mark, precedes_declaration, tokens_of};
 use cs_grammar::{Profile, Sort, Token};
 use cs_place::{Made, Named};
 use std::alloc::Global;
@@ -10,8 +10,9 @@ use std::str;
 pub const MOST_AROUND: usize = 32;
 
 /// What tokens are directly inside of.
-#[derive(Clone, Copy, PartialEq, Eq)]
+#[derive(Clone, Copy, Default, PartialEq, Eq)]
 pub enum Inside {
+    #[default]
     File,
     Struct,
     List,
@@ -20,8 +21,8 @@ pub enum Inside {
     Label,
 }
 
-/// A bracket of a source, or the file as a whole.
-#[derive(Clone, Copy, Drop)]
+/// A bracket of a source, or the file as a whole: by default one without tokens.
+#[derive(Clone, Copy, Default)]
 pub struct Bracket {
     pub inside: Inside,
     /// The number of the bracket around it. The file has the number 0, and is around itself.
@@ -34,16 +35,6 @@ pub struct Bracket {
     pub end: usize,
     pub is_closed: bool,
 }
-
-/// A file without tokens.
-const FILE: Bracket = Bracket {
-    inside: Inside::File,
-    around: 0,
-    depth: 0,
-    first: 0,
-    end: 0,
-    is_closed: false,
-};
 
 /// What parts of an expression are between.
 #[derive(Clone, Copy, PartialEq, Eq, PartialOrd, Ord)]
@@ -78,12 +69,11 @@ pub struct Source<'a> {
     /// For each token the number of the bracket that it opens or closes, or else 0, and that of the innermost one that is open before it.
     of_tokens: Vec<(usize, usize)>,
     /// In their order, which is by their brackets, then by what they are.
-    separations: Vec<Separation>,
+    pub(crate) separations: Vec<Separation>,
 }
 
 impl<'a> Source<'a> {
-    /// A source, cut into tokens as in a profile; what the default one accepts has the same ones in either. Whatever it is, that takes no
-    /// more than sorting its commas, colons and operators. Only memory can run out.
+    /// A source, cut into tokens as in a profile; whatever it is, that takes no more than sorting its separators. Only memory can run out.
     pub fn new(alloc: Global, profile: Profile, named: Named<'a>, file: usize) -> Made<Source<'a>> {
         let tokens = match str::from_utf8(named.text) {
             Ok(text) => tokens_of(alloc, profile, text)?,
@@ -99,7 +89,10 @@ impl<'a> Source<'a> {
             brackets: Vec::new(alloc),
             separations: Vec::new(alloc),
         };
-        source.brackets.push(Bracket { end, ..FILE })?;
+        source.brackets.push(Bracket {
+            end,
+            ..Bracket::default()
+        })?;
         let mut innermost = 0;
         for place in 0..source.tokens.len() {
             innermost = source.put(place, innermost)?;
@@ -123,15 +116,13 @@ impl<'a> Source<'a> {
         if let Some(separator) = separator {
             self.separations.push((innermost, separator, place))?;
         }
-        let is_first = precedes_declaration(self.token(place.wrapping_sub(1)));
-        let holds_labels = matches!(
-            self.bracket(innermost).inside,
-            Inside::File | Inside::Struct
-        );
+        let inside = self.bracket(innermost).inside;
+        let is_label = matches!(inside, Inside::File | Inside::Struct)
+            && precedes_declaration(self.token(place.wrapping_sub(1)));
         let (own, behind) = match token.text.as_bytes() {
             [b'{'] => self.open(Inside::Struct, innermost, place)?,
             [b'('] => self.open(Inside::Parentheses, innermost, place)?,
-            [b'['] if is_first && holds_labels => self.open(Inside::Label, innermost, place)?,
+            [b'['] if is_label => self.open(Inside::Label, innermost, place)?,
             [b'['] => self.open(Inside::List, innermost, place)?,
             [b'}' | b']' | b')'] => self.close(token, innermost, place),
             _ => (0, innermost),
@@ -149,7 +140,7 @@ impl<'a> Source<'a> {
             around,
             depth,
             first: place.saturating_add(1),
-            ..FILE
+            ..Bracket::default()
         })?;
         Ok((number, number))
     }
@@ -158,16 +149,16 @@ impl<'a> Source<'a> {
     fn close(&mut self, token: Token<'_>, innermost: usize, place: usize) -> (usize, usize) {
         let mut number = innermost;
         for _ in 0..MOST_AROUND {
-            let bracket = self.bracket(number);
+            let Some(bracket) = self.brackets.get_mut(number) else {
+                break;
+            };
             let is_closed = match token.text.as_bytes() {
                 [b'}'] => bracket.inside == Inside::Struct,
                 [b']'] => matches!(bracket.inside, Inside::List | Inside::Label),
                 _ => bracket.inside == Inside::Parentheses,
             };
             if is_closed {
-                if let Some(closed) = self.brackets.get_mut(number) {
-                    (closed.end, closed.is_closed) = (place, true);
-                }
+                (bracket.end, bracket.is_closed) = (place, true);
                 return (number, bracket.around);
             }
             number = bracket.around;
@@ -212,7 +203,7 @@ impl<'a> Source<'a> {
 
     /// The bracket of a number.
     pub fn bracket(&self, number: usize) -> Bracket {
-        self.brackets.get(number).copied().unwrap_or(FILE)
+        self.brackets.get(number).copied().unwrap_or_default()
     }
 
     /// The token that opens a bracket; none opens the file.
@@ -245,38 +236,19 @@ impl<'a> Source<'a> {
 
     /// Whether a label ends before a place: a colon is there, or a mark and a colon.
     pub fn ends_label(&self, place: usize) -> bool {
-        let marks = usize::from(is_behind_label(self.token(place)));
+        let marks = usize::from(["?", "!"].contains(&self.token(place).text));
         is_mark(self.token(place.saturating_add(marks)), ":")
     }
 
     /// The place of the first token of the label before a colon: that of `[` in `[string]: T`.
     pub fn label_before(&self, colon: usize) -> Option<usize> {
         let last = colon.checked_sub(1)?;
-        let marks = usize::from(is_behind_label(self.token(last)));
+        let marks = usize::from(["?", "!"].contains(&self.token(last).text));
         let place = last.checked_sub(marks)?;
         match self.own(place) {
             0 => Some(place),
             number => self.bracket(number).first.checked_sub(1),
         }
-    }
-
-    /// The separators of a sort from one place up to another, in the bracket around the first one.
-    pub(crate) fn separations(&self, sort: Separator, from: usize, to: usize) -> &[Separation] {
-        let bracket = self.around(from);
-        let all = self.separations.as_slice();
-        let rank = |place: usize| all.partition_point(|other| *other < (bracket, sort, place));
-        all.get(rank(from)..rank(to)).unwrap_or(&[])
-    }
-
-    /// The place of a separator of a sort from one place up to another, in the bracket around the first one, behind so many of its sort.
-    pub fn separator(&self, sort: Separator, from: usize, to: usize, nth: usize) -> Option<usize> {
-        Some(self.separations(sort, from, to).get(nth)?.2)
-    }
-
-    /// The place of the last separator of a sort before a place, in the same bracket.
-    pub fn last_separator(&self, separator: Separator, place: usize) -> Option<usize> {
-        let first = self.bracket(self.around(place)).first;
-        Some(self.separations(separator, first, place).last()?.2)
     }
 
     /// All tokens but the end.
@@ -297,7 +269,7 @@ impl<'a> Source<'a> {
         for _ in 0..self.tokens.len() {
             let bracket = self.bracket(self.around(held));
             if matches!(bracket.inside, Inside::File | Inside::Struct) {
-                return held;
+                break;
             }
             held = bracket.first.saturating_sub(1);
         }

@@ -4,8 +4,7 @@ use cs_lexer::lex_in;
 use cs_place::Made;
 use std::alloc::{AllocError, Global};
 
-/// The tokens of a text in a profile, and its end. What no token begins with is one too: an integer, a text, or a mark that is left
-/// out. Each byte is read three times at most, however often the text is stuck.
+/// The tokens of a text in a profile, and its end, as [`crate::Source`] has them. However often it is stuck, each byte is read three times at most.
 pub(crate) fn tokens_of(alloc: Global, mut profile: Profile, text: &str) -> Made<Vec<Token<'_>>> {
     let mut tokens = Vec::new(alloc);
     let mut from = 0usize;
@@ -65,8 +64,7 @@ fn add_stuck<'a>(tokens: &mut Vec<Token<'a>>, whole: &'a str, start: usize) -> M
     Ok(end)
 }
 
-/// The sort of the token in place of what no token begins with, and how many bytes it has: a number is an integer there, a text
-/// or bytes are a text, and another character is a mark that is left out.
+/// The sort of the token in place of what no token begins with, and how many bytes it has.
 fn stuck_piece(bytes: &[u8]) -> (Sort, usize) {
     let past_ascii = bytes.iter().take_while(|byte| **byte >= 128);
     match bytes {
@@ -153,11 +151,6 @@ pub fn begins_value(token: Token<'_>) -> bool {
 /// Whether a token is behind a label: its colon, or the mark before that.
 pub fn follows_label(token: Token<'_>) -> bool {
     matches!(token.text.as_bytes(), [b':' | b'?' | b'!'])
-}
-
-/// Whether a token is a mark between a label and its colon.
-pub(crate) fn is_behind_label(token: Token<'_>) -> bool {
-    is_mark(token, "?") || is_mark(token, "!")
 }
 
 /// Whether a token is between two declarations, or two elements; also the end is.

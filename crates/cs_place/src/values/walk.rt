@@ -63,30 +63,27 @@ pub fn pointer_at(alloc: Global, text: &[u8], offset: usize) -> Made<String> {
     let mut scratch = Scratch::new(alloc);
     let mut walk = Walk::new(alloc);
     walk.go(text, &mut scratch, offset)?;
-    pointer_of(alloc, &walk.open)
-}
-
-/// The pointer of the steps into maps and lists.
-fn pointer_of(alloc: Global, open: &[Level<'_>]) -> Made<String> {
     let mut pointer = String::new(alloc);
-    for level in open {
-        put_step(alloc, &mut pointer, level.step)?;
-    }
+    put_steps(&mut pointer, &walk.open)?;
     Ok(pointer)
 }
 
-/// Puts a step behind a pointer.
-fn put_step(alloc: Global, pointer: &mut String, step: Option<Step<'_>>) -> Written {
-    pointer.push('/')?;
-    match step {
-        Some(Step::Key(key)) => put_key(alloc, pointer, key),
-        Some(Step::Element(place)) => pointer.push_str(Buffer::new().format(place)),
-        None => Ok(()),
+/// Puts the pointer of the steps into maps and lists.
+fn put_steps(pointer: &mut String, open: &[Level<'_>]) -> Written {
+    for level in open {
+        pointer.push('/')?;
+        match level.step {
+            Some(Step::Key(key)) => put_key(pointer, key)?,
+            Some(Step::Element(place)) => pointer.push_str(Buffer::new().format(place))?,
+            None => {}
+        }
     }
+    Ok(())
 }
 
 /// Puts a key with the escapes of pointers (RFC 6901, section 3).
-fn put_key(alloc: Global, pointer: &mut String, key: &str) -> Written {
+fn put_key(pointer: &mut String, key: &str) -> Written {
+    let alloc = *pointer.allocator();
     let key = key.replace(alloc, "~", "~0")?;
     let key = key.replace(alloc, "/", "~1")?;
     pointer.push_str(key.as_str())
@@ -144,27 +141,25 @@ impl<'a> Walk<'a> {
     /// Goes behind a token that begins at an offset.
     fn pass(&mut self, token: Token<'a>, offset: usize) -> Written {
         match token {
-            Token::BeginObject => self.enter(offset, None),
-            Token::BeginArray => self.enter(offset, Some(Step::Element(0))),
+            Token::BeginObject => return self.enter(offset, None),
+            Token::BeginArray => return self.enter(offset, Some(Step::Element(0))),
             Token::EndObject | Token::EndArray => {
                 let _ = self.open.pop();
                 self.leave();
-                Ok(())
             }
             Token::Key(key) => {
                 if let Some(level) = self.open.last_mut() {
                     level.step = Some(Step::Key(key));
                     level.key = Some(offset);
                 }
-                Ok(())
             }
             Token::String(_) | Token::Number(_) | Token::Bool(_) | Token::Null => {
                 let _ = self.note(offset);
                 self.leave();
-                Ok(())
             }
-            Token::Bad => Ok(()),
+            Token::Bad => {}
         }
+        Ok(())
     }
 
     /// Goes into the map or list that begins at an offset.
@@ -189,17 +184,14 @@ impl<'a> Walk<'a> {
         }
     }
 
-    /// The number of the value that the walk comes to next in a map or a list, where it is looked for.
-    fn number_in(&self, level: Level<'a>) -> Option<usize> {
-        let step = (level.number?, level.step?);
-        self.steps.get(&step).copied()
-    }
-
     /// Notes where a value begins that is looked for, and gives its number.
     fn note(&mut self, value: usize) -> Option<usize> {
         let (number, inside, key) = match self.open.last().copied() {
             None => (DOCUMENT, value, None),
-            Some(level) => (self.number_in(level)?, level.start, level.key),
+            Some(level) => {
+                let step = (level.number?, level.step?);
+                (*self.steps.get(&step)?, level.start, level.key)
+            }
         };
         if let Some(last) = self.found.get_mut(number) {
             *last = Some(Found {

@@ -1,6 +1,6 @@
 use Rattle.std.proofs.Common.{arith}
 use Rattle.cs_place.proofs.Lines.{onward}
-use Rattle.cs_place.proofs.positions.Positions.at.Goals as goal
+use Rattle.cs_place.proofs.position.Positions.at.Goals as goal
 
 pub invariant_of-self : goal.invariant_of-self
 invariant_of-self c = record {
