@@ -3,7 +3,7 @@
 
 mod texts;
 
-use crate::texts::{FieldTexts, Texts, add_lines, texts_of};
+use crate::texts::{Texts, add_lines, texts_of};
 use cs_describe::Notes;
 use cs_document::Doc;
 use cs_grammar::{Declaration, Expr, Field, FieldMark, ListEnd, Profile, Wide, atom, bound};
@@ -46,7 +46,7 @@ struct Comments<'a> {
     alloc: Global,
     /// Where the offsets in the trees are.
     placed: &'a Placed,
-    texts: &'a FieldTexts,
+    texts: &'a Texts,
     /// How many bytes may still be put into notes.
     room: usize,
     /// How many expressions and comments were met, as `cs_embeddings` counts nodes.
@@ -62,17 +62,11 @@ impl<'a> Comments<'a> {
     }
 
     /// Meets the declaration whose label is at an offset: its comment, if notes have room for it.
-    fn read(&mut self, at: usize, label: &str) -> Made<Option<String>> {
+    fn read(&mut self, at: usize, label: &str) -> Option<&'a str> {
         let texts = self.texts;
-        let Some(text) = texts.get(&self.placed.place(at)) else {
-            return Ok(None);
-        };
+        let text = texts.fields.get(&self.placed.place(at))?.as_str();
         self.nodes = self.nodes.saturating_add(1);
-        if self.has_room(text.len()) && self.has_room(label.len()) {
-            Ok(Some(text.clone()?))
-        } else {
-            Ok(None)
-        }
+        (self.has_room(text.len()) && self.has_room(label.len())).then_some(text)
     }
 
     /// The notes of a value, as its translation to a schema has places for them.
@@ -94,9 +88,8 @@ impl<'a> Comments<'a> {
             // It is met only where nothing is put together: its own fields.
             Expr::Wide(Wide::Merged { declarations, .. }) => {
                 for declaration in declarations {
-                    match declaration {
-                        Declaration::Field(field) => self.add_field(field, &mut notes)?,
-                        Declaration::Embedded { .. } | Declaration::Conditional { .. } => {}
+                    if let Declaration::Field(field) = declaration {
+                        self.add_field(field, &mut notes)?;
                     }
                 }
             }
@@ -147,14 +140,17 @@ impl<'a> Comments<'a> {
         let label = field.label.as_str();
         let all = field.site.all.split_first();
         let (first, others) = all.unwrap_or((&field.site.at, &[]));
-        let text = self.read(*first, label)?;
         if matches!(field.mark, FieldMark::Every { .. }) {
-            let value = self.notes_of(&field.value)?;
+            let text = self.read(*first, label);
+            let mut value = self.notes_of(&field.value)?;
+            if let Some(text) = text {
+                value.text = Some(String::from_str(self.alloc, text)?);
+            }
             let mut every = Notes::new(self.alloc);
-            every.additional = Some(Box::new(self.alloc, Notes { text, ..value })?);
+            every.additional = Some(Box::new(self.alloc, value)?);
             return Ok(to.all_of.push(every)?);
         }
-        self.add_text(label, text, to)?;
+        self.add_text(*first, label, to)?;
         let room = self.room;
         if self.has_room(label.len()) {
             let value = self.notes_of(&field.value)?;
@@ -167,20 +163,18 @@ impl<'a> Comments<'a> {
             self.room = room;
         }
         for at in others {
-            let text = self.read(*at, label)?;
-            self.add_text(label, text, to)?;
+            self.add_text(*at, label, to)?;
         }
         Ok(())
     }
 
-    /// Adds the comment on a declaration of a label, if there is one.
-    fn add_text(&self, label: &str, text: Option<String>, to: &mut Notes) -> Made<()> {
-        let Some(text) = text else {
+    /// Adds the comment on the declaration whose label is at an offset, if there is one.
+    fn add_text(&mut self, at: usize, label: &str, to: &mut Notes) -> Made<()> {
+        let Some(text) = self.read(at, label) else {
             return Ok(());
         };
         let declared = under(self.alloc, &mut to.properties, label)?;
-        let before = declared.text.get_or_insert(String::new(self.alloc));
-        add_lines(before, &text)
+        add_lines(declared.text.get_or_insert(String::new(self.alloc)), text)
     }
 
     /// The value of the mark among the operands of a disjunction, if one of them has one and notes have room for it.
@@ -234,7 +228,7 @@ fn notes_in(alloc: Global, placed: &Placed, texts: &Texts) -> Made<(ByName, usiz
     let mut comments = Comments {
         alloc,
         placed,
-        texts: &texts.fields,
+        texts,
         room: MOST_BYTES,
         nodes: 0,
     };
@@ -245,11 +239,8 @@ fn notes_in(alloc: Global, placed: &Placed, texts: &Texts) -> Made<(ByName, usiz
         let declared = under(alloc, &mut notes, name)?;
         declared.all_of.push(value)?;
         // One that stands for a name of a scope has the comment on the declaration of that.
-        let text = match texts.definitions.get(name) {
-            Some(text) => Some(text),
-            None => texts.fields.get(&placed.place(definition.at)),
-        };
-        if let Some(text) = text {
+        let scoped = texts.fields.get(&placed.place(definition.at));
+        if let Some(text) = texts.definitions.get(name).or(scoped) {
             declared.text = Some(text.clone()?);
         }
     }

@@ -54,11 +54,10 @@ fn line_of<'a>(text: &'a str, start: usize, tokens: &[Token<'_>]) -> Line<'a> {
 /// The text of the comment in what a line has behind its tokens, without the one blank at its front.
 fn comment_of(rest: &str) -> Option<&str> {
     let comment = rest
-        .trim_start_matches(|c| matches!(c, ' ' | '\t' | '\r'))
+        .trim_start_matches([' ', '\t', '\r'])
         .strip_prefix("//")?;
     let comment = comment.strip_suffix('\r').unwrap_or(comment);
-    let behind_blank = comment.strip_prefix(|c| matches!(c, ' ' | '\t'));
-    Some(behind_blank.unwrap_or(comment))
+    Some(comment.strip_prefix([' ', '\t']).unwrap_or(comment))
 }
 
 /// The comments of the lines that are alone right above a place, which are the last ones.
@@ -91,16 +90,12 @@ fn comments_at<'a>(alloc: Global, lines: &[Line<'a>], at: usize) -> Made<Vec<&'a
     ensures { IfOk result (λ v. texts_of v.items ≡ comments_at lines.now at) }
 {
     let mut comments = above(alloc, &lines[..at.min(lines.len())])?;
-    if !comments.is_empty() {
-        return Ok(comments);
+    if comments.is_empty()
+        && let Some(comment) = comment_on(lines.get(at))
+    {
+        comments.push(comment)?;
     }
-    match comment_on(lines.get(at)) {
-        Some(comment) => {
-            comments.push(comment)?;
-            Ok(comments)
-        },
-        None => Ok(comments),
-    }
+    Ok(comments)
 }
 
 /// Whether a text has no character but newlines.
@@ -127,16 +122,13 @@ pub fn text_at(alloc: Global, lines: &[Line<'_>], line: usize) -> Made<Option<St
     Ok(some_text(comments.join(alloc, "\n")?))
 }
 
-/// The texts of fields, by the number of the source and the offset of the label.
-pub(crate) type FieldTexts = BTreeMap<(usize, usize), String>;
-
 /// The texts of what sources declare.
 #[derive(Drop)]
 pub(crate) struct Texts {
     /// Those of all declarations of a definition that a file declares, by its name without `#`.
     pub(crate) definitions: BTreeMap<String, String>,
-    /// Also those of other names.
-    pub(crate) fields: FieldTexts,
+    /// Those of fields and of other names, by the number of the source and the offset of the label.
+    pub(crate) fields: BTreeMap<(usize, usize), String>,
 }
 
 /// The place of the first token of a declaration of which the token at a place ends the label: before a colon, or the `let` before a `=`.

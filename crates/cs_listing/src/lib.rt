@@ -73,13 +73,8 @@ fn words_of(alloc: Global, kinds: ByKind) -> Made<Vec<&'static str>> {
         (kinds.list, "list"),
         (kinds.object, "struct"),
     ];
-    let mut told = Vec::new(alloc);
-    for (verdict, word) in &words {
-        if *verdict != Some(false) {
-            told.push(*word)?;
-        }
-    }
-    Ok(told)
+    let told = words.iter().filter(|(verdict, _)| *verdict != Some(false));
+    told.map(|(_, word)| *word).collect(alloc)
 }
 
 /// An entry for each definition of the package that these sources spell.
@@ -146,8 +141,7 @@ pub fn put_listing_json(
     package: &Guarded,
     text: &mut Vec<u8>,
 ) -> Made<()> {
-    let entries = entries_of(alloc, sources, package)?;
-    let Ok(definitions) = to_vec(alloc, &entries) else {
+    let Ok(definitions) = to_vec(alloc, &entries_of(alloc, sources, package)?) else {
         return Err(AllocError);
     };
     text.extend_from_slice(b"{\"definitions\":")?;
