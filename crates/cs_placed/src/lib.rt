@@ -58,8 +58,14 @@ fn named_files(alloc: Global, files: Vec<File>) -> Result<Vec<File>, AllocError>
         return Ok(files);
     }
     match without_names(alloc, &files) {
+        Ok(named) => Ok(named),
         Err(NameFault::OutOfMemory) => Err(AllocError),
-        named => Ok(named.unwrap_or(files)),
+        Err(
+            NameFault::LeftOut { .. }
+            | NameFault::UnknownName { .. }
+            | NameFault::NamesField { .. }
+            | NameFault::Redeclared { .. },
+        ) => Ok(files),
     }
 }
 
@@ -69,8 +75,14 @@ fn unselected_files(alloc: Global, files: Vec<File>) -> Result<Vec<File>, AllocE
         return Ok(files);
     }
     match without_selectors(alloc, &files) {
+        Ok(unselected) => Ok(unselected),
         Err(SelectorFault::OutOfMemory) => Err(AllocError),
-        unselected => Ok(unselected.unwrap_or(files)),
+        Err(
+            SelectorFault::LeftOut { .. }
+            | SelectorFault::UnknownName { .. }
+            | SelectorFault::NotRegular { .. }
+            | SelectorFault::TooLarge,
+        ) => Ok(files),
     }
 }
 
@@ -80,16 +92,24 @@ fn chosen_files(alloc: Global, files: Vec<File>) -> Result<Vec<File>, AllocError
         return Ok(files);
     }
     match without_conditions(alloc, &files) {
+        Ok(chosen) => Ok(chosen),
         Err(ConditionFault::OutOfMemory) => Err(AllocError),
-        chosen => Ok(chosen.unwrap_or(files)),
+        Err(ConditionFault::LeftOut { .. } | ConditionFault::MayBeAbsent { .. }) => Ok(files),
     }
 }
 
 /// Files without embeddings. Where they stand for none they are themselves, in which each literal has its own fields alone.
 fn joined_files(alloc: Global, files: Vec<File>) -> Result<Vec<File>, AllocError> {
     match without_embeddings(alloc, &files) {
+        Ok(joined) => Ok(joined),
         Err(EmbeddingFault::OutOfMemory) => Err(AllocError),
-        joined => Ok(joined.unwrap_or(files)),
+        Err(
+            EmbeddingFault::UnknownName { .. }
+            | EmbeddingFault::NoStruct { .. }
+            | EmbeddingFault::Reopened { .. }
+            | EmbeddingFault::TooHigh { .. }
+            | EmbeddingFault::TooLarge,
+        ) => Ok(files),
     }
 }
 
