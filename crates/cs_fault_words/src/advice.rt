@@ -1,5 +1,5 @@
 // What is said of a form at its place, with the names that the source has there.
-use crate::lines::{put_filled, put_tokens};
+use crate::lines::{put_around, put_filled, put_tokens};
 use crate::packages::Names;
 use cs_forms::{Form, Found, kind_meant, said_of_form, said_of_shown};
 use cs_grammar::{Sort, Token};
@@ -37,7 +37,7 @@ pub fn put_advice(text: &mut String, declared: &Declared<'_, '_>, found: Found<'
             text.push_str(said)?;
             let more = "; a document may leave the field out, so write `{}?: {}{}`";
             match field_without(near) {
-                Some(parts) => put_filled(text, more, &parts),
+                Some((label, before, behind)) => put_filled(text, more, &[label, before, behind]),
                 None => text.push_str("; take it out"),
             }
         }
@@ -55,12 +55,12 @@ pub fn put_advice(text: &mut String, declared: &Declared<'_, '_>, found: Found<'
         }
         Form::ExcludedDefault | Form::AbsentField => put_filled(text, said, &[shown; 3]),
         Form::StrayCharacter => text.push_str(said_of_shown(found.form, shown)),
-        form => put_filled(text, said, &[shown, said_of_shown(form, shown), shown]),
+        form => put_around(text, said, shown, said_of_shown(form, shown)),
     }
 }
 
 /// The label of the field that a mark is in, if it can be left out, and what of its value is before the mark and behind it; `..` where that is long.
-fn field_without<'a>(mark: Near<'_, 'a>) -> Option<[&'a str; 3]> {
+fn field_without<'a>(mark: Near<'_, 'a>) -> Option<(&'a str, &'a str, &'a str)> {
     let (source, here, colon) = (mark.source, mark.here(), mark.colon()?);
     let name = source.token(source.label_before(colon.place)?);
     let is_field = ends_value(name) && !matches!(name.sort, Sort::Mark | Sort::Definition);
@@ -72,11 +72,11 @@ fn field_without<'a>(mark: Near<'_, 'a>) -> Option<[&'a str; 3]> {
     let behind = source.text(end_of(here), mark.part().end());
     let is_long = before.len().saturating_add(behind.len()) > MOST_OF_VALUE;
     if is_long || before.contains('\n') || behind.contains('\n') {
-        return Some([name.text, "", ".."]);
+        return Some((name.text, "", ".."));
     }
     Some(match before.trim_ascii_start() {
-        "" => [name.text, "", behind.trim_ascii_start()],
-        before => [name.text, before, behind],
+        "" => (name.text, "", behind.trim_ascii_start()),
+        before => (name.text, before, behind),
     })
 }
 
@@ -116,8 +116,7 @@ fn put_embedded(text: &mut String, said: &str, found: Found<'_, '_>) -> Written 
         put_all(text, &[front, ": "])?;
     }
     if matches!(found.form, Form::EmbeddedDefinition) {
-        let others = other_fields(near).unwrap_or("..");
-        return put_filled(text, remedy, &[shown, others, shown]);
+        return put_around(text, remedy, shown, other_fields(near).unwrap_or(".."));
     }
     let labels = labels_around(*text.allocator(), near, "")?;
     if labels.is_empty() || labels.len() > MOST_NAMED {
@@ -189,7 +188,8 @@ fn put_field_reference(text: &mut String, said: &str, near: Near<'_, '_>) -> Wri
     }
     put_filled(text, said, &[name])?;
     if let Some(label) = field_named(near) {
-        let line = position_of(near.source.named.text, label.here().start).line;
+        let source = near.source;
+        let line = position_of(source.named.text, label.here().start).line;
         put_filled(text, " (line {})", &[Buffer::new().format(line)])?;
     }
     text.push_str(if KINDS.contains(&name) {
@@ -379,7 +379,9 @@ fn put_one<'a>(text: &mut String, name: &'a str, labels: &[Near<'_, 'a>]) -> Wri
         let parts = [front, label.behind(2).text, next.text.trim_matches(':')];
         put_filled(&mut keys, "{}{}{}: ..", &parts)?;
     }
-    let inside = if are_short { keys.as_str() } else { ".." };
-    let parts = [name, mark.trim_matches(':'), inside];
-    put_filled(text, "join to `{}{}: {{}}`", &parts)
+    put_filled(text, "join to `{}{}: {", &[name, mark.trim_matches(':')])?;
+    if !are_short {
+        return text.push_str("..}`");
+    }
+    put_all(text, &[keys.as_str(), "}`"])
 }

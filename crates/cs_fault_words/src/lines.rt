@@ -26,6 +26,11 @@ pub fn put_filled(text: &mut String, words: &str, parts: &[&str]) -> Written {
     Ok(())
 }
 
+/// Puts words with these two parts and the first one again in place of the `{}`, of which there are three at most.
+pub fn put_around<'x>(text: &mut String, words: &str, part: &'x str, other: &'x str) -> Written {
+    put_filled(text, words, &[part, other, part])
+}
+
 /// Puts tokens in backquotes: before the last one of several these words, and before the others a comma.
 pub fn put_tokens(text: &mut String, tokens: &[Near<'_, '_>], last: &str) -> Written {
     for (at, token) in tokens.iter().enumerate() {
@@ -125,7 +130,7 @@ pub fn why_refused(alloc: Global, fault: &Fault, about: About<'_>) -> Made<Strin
     let sources = sources_of(alloc, about.profile, about.sources)?;
     let told = Told::of(alloc, fault, about, &sources)?;
     let mut text = String::new(alloc);
-    put_told(&mut text, &told, told.start, &[])?;
+    put_told(&mut text, &told, told.start, "")?;
     if let (Some(named), Some(start)) = (told.named, told.start) {
         put_excerpt(&mut text, named.text, start, told.end)?;
     }
@@ -151,19 +156,18 @@ pub fn put_finding<'a>(
         Some(Form::Close) => "`--profile wide` takes `close`; without it ",
         Some(_) | None => "",
     };
-    let mut buffer = Buffer::new();
-    let words = ["error ", buffer.format(fault.number()), ": ", taken];
+    let words = format!(in *text.allocator(); "error {}: {taken}", fault.number())?;
     put_told(text, &told, fault.offset().or(told.start), &words)
 }
 
 /// Puts the line of a refusal: the place as far as it is known, these words, the pointer of the value at fault, and what to do.
-fn put_told(text: &mut String, told: &Told<'_>, start: Option<usize>, words: &[&str]) -> Written {
+fn put_told(text: &mut String, told: &Told<'_>, start: Option<usize>, words: &str) -> Written {
     match (told.named, start) {
         (Some(named), Some(start)) => put_offset(text, named, start)?,
         (Some(named), None) => put_line(text, &[named.name, ": "])?,
         (None, _) => {}
     }
-    put_all(text, words)?;
+    text.push_str(words)?;
     match &told.pointer {
         Some(pointer) if pointer.is_empty() => text.push_str("(root): ")?,
         Some(pointer) => put_line(text, &[pointer.as_str(), ": "])?,
