@@ -100,10 +100,16 @@ fn put_hidden(text: &mut String, said: &str, near: Near<'_, '_>) -> Written {
             "a hidden field at the top of a file: a root is a definition, so write `#{}: ..`",
         Some(_) | None => said,
     };
-    // Behind a `#` a letter has to follow.
+    put_filled(text, said, &[shown_name(name)])
+}
+
+/// A hidden name without the `_` before it, unless no letter follows, as it has to behind a `#`.
+fn shown_name(name: &str) -> &str {
     let bare = name.trim_start_matches('_');
-    let has_letter = matches!(bare.as_bytes(), [b'A'..=b'Z' | b'a'..=b'z', ..]);
-    put_filled(text, said, &[if has_letter { bare } else { name }])
+    match bare.as_bytes() {
+        [b'A'..=b'Z' | b'a'..=b'z', ..] => bare,
+        _ => name,
+    }
 }
 
 /// Puts what something is that a struct embeds, or that the wide profile takes it, and what to write in its place, with what is beside it.
@@ -367,21 +373,20 @@ fn put_twice(text: &mut String, declared: &Declared<'_, '_>, found: Found<'_, '_
 
 /// Puts what to write in place of labels of one name: the struct of the keys behind them, where each has one and they are few.
 fn put_one<'a>(text: &mut String, name: &'a str, labels: &[Near<'_, 'a>]) -> Written {
-    let mut keys = String::new(*text.allocator());
     // `?` where all have it, or else the mark of the first one which has another or none.
-    let mut mark = "?";
-    let mut are_short = labels.len() <= MOST_NAMED;
-    for label in labels {
-        let (own, next) = (label.behind(1).text, label.behind(3));
-        mark = if mark == "?" { own } else { mark };
-        are_short = are_short && own == ":" && follows_label(next);
-        let front = if keys.is_empty() { "" } else { ", " };
-        let parts = [front, label.behind(2).text, next.text.trim_matches(':')];
-        put_filled(&mut keys, "{}{}{}: ..", &parts)?;
-    }
+    let mut marks = labels.iter().map(|label| label.behind(1).text);
+    let mark = marks.find(|mark| *mark != "?").unwrap_or("?");
     put_filled(text, "join to `{}{}: {", &[name, mark.trim_matches(':')])?;
-    if !are_short {
+    let is_short = |label: &Near<'_, '_>| label.behind(1).text == ":"
+        && follows_label(label.behind(3));
+    if labels.len() > MOST_NAMED || !labels.iter().all(is_short) {
         return text.push_str("..}`");
     }
-    put_all(text, &[keys.as_str(), "}`"])
+    let mut front = "";
+    for label in labels {
+        let mark = label.behind(3).text.trim_matches(':');
+        put_filled(text, "{}{}{}: ..", &[front, label.behind(2).text, mark])?;
+        front = ", ";
+    }
+    text.push_str("}`")
 }

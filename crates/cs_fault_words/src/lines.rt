@@ -17,11 +17,13 @@ const MOST_BESIDE: usize = 70;
 
 /// Puts words as they are shown, with these parts in place of each `{}` in them, in their order.
 pub fn put_filled(text: &mut String, words: &str, parts: &[&str]) -> Written {
-    let mut parts = parts.iter();
-    let mut front = "";
-    for piece in words.split("{}") {
-        put_line(text, &[front, piece])?;
-        front = parts.next().copied().unwrap_or("");
+    for (at, piece) in words.split("{}").enumerate() {
+        if let Some(before) = at.checked_sub(1)
+            && let Some(part) = parts.get(before)
+        {
+            put_line(text, &[*part])?;
+        }
+        put_line(text, &[piece])?;
     }
     Ok(())
 }
