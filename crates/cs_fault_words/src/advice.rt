@@ -1,10 +1,13 @@
 // What is said of a form at its place, with the names that the source has there.
 use crate::lines::{put_around, put_filled, put_tokens};
+use crate::packages::Names;
 use cs_forms::{Form, Found, kind_meant, said_of_form, said_of_shown};
 use cs_grammar::{Sort, Token};
 use cs_place::position_of;
 use cs_sources::Separator::{Amp, Comma};
-use cs_sources::{Declared, MOST_AROUND, Made, Near, end_of, ends_value, follows_label, separates};
+use cs_sources::{
+    Declared, MOST_AROUND, Made, Near, Part, end_of, ends_value, follows_label, separates,
+};
 use cs_text::{Written, few_edits, put_all};
 use itoa::Buffer;
 use std::alloc::Global;
@@ -30,7 +33,14 @@ pub fn put_advice(text: &mut String, declared: &Declared<'_, '_>, found: Found<'
     let Found { near, shown, .. } = found;
     let said = said_of_form(found.form);
     match found.form {
-        Form::DefaultMark => put_default(text, said, near),
+        Form::DefaultMark => {
+            text.push_str(said)?;
+            let more = "; a document may leave the field out, so write `{}?: {}{}`";
+            match field_without(near) {
+                Some((label, before, behind)) => put_filled(text, more, &[label, before, behind]),
+                None => text.push_str("; take it out"),
+            }
+        }
         Form::Let => {
             let more = "; write `#{}: ..` at the top of a file, and `#{}` for `{}`";
             put_with_name(text, said, near.behind(1), more)
@@ -46,16 +56,6 @@ pub fn put_advice(text: &mut String, declared: &Declared<'_, '_>, found: Found<'
         Form::ExcludedDefault | Form::AbsentField => put_filled(text, said, &[shown; 3]),
         Form::StrayCharacter => text.push_str(said_of_shown(found.form, shown)),
         form => put_around(text, said, shown, said_of_shown(form, shown)),
-    }
-}
-
-/// Puts that a default mark is left out, and what to write: that its field may be left out, with the rest of its value.
-fn put_default(text: &mut String, said: &str, mark: Near<'_, '_>) -> Written {
-    text.push_str(said)?;
-    let more = "; a document may leave the field out, so write `{}?: {}{}`";
-    match field_without(mark) {
-        Some((label, before, behind)) => put_filled(text, more, &[label, before, behind]),
-        None => text.push_str("; take it out"),
     }
 }
 
@@ -124,14 +124,12 @@ fn put_embedded(text: &mut String, said: &str, found: Found<'_, '_>) -> Written 
     if matches!(found.form, Form::EmbeddedDefinition) {
         return put_around(text, remedy, shown, other_fields(near).unwrap_or(".."));
     }
-    let alloc = *text.allocator();
-    let labels = labels_inside(alloc, near.bracket())?;
-    let mut named = String::new(alloc);
+    let labels = labels_around(*text.allocator(), near, "")?;
     if labels.is_empty() || labels.len() > MOST_NAMED {
-        named.push_str("the fields around it")?;
-    } else {
-        put_tokens(&mut named, &labels, " and ")?;
+        return put_filled(text, remedy, &["the fields around it"]);
     }
+    let mut named = String::new(*text.allocator());
+    put_tokens(&mut named, &labels, " and ")?;
     put_filled(text, remedy, &[named.as_str()])
 }
 
@@ -141,10 +139,10 @@ fn is_taken(near: Near<'_, '_>) -> bool {
         return false;
     };
     let mut has_definition = false;
-    let tokens = successors(Some(near), |token| token.next()).take(embedded.to);
-    for token in tokens.take_while(|token| token.place < embedded.to) {
+    for token in successors(Some(near), |token| token.next()).take(embedded.to) {
         let here = token.here();
         match here.text.as_bytes() {
+            _ if token.place >= embedded.to => break,
             [b'{' | b'(' | b'&'] => {}
             [b'|'] => has_definition = false,
             _ if here.sort == Sort::Definition && !has_definition => has_definition = true,
@@ -169,16 +167,18 @@ fn other_fields<'a>(near: Near<'_, 'a>) -> Option<&'a str> {
     is_shown.then_some(fields)
 }
 
-/// The labels of the struct that a bracket opens, in their order; one that it has twice is there twice. None without a bracket.
-fn labels_inside<'s, 'a>(alloc: Global, bracket: Option<Near<'s, 'a>>) -> Made<Vec<Near<'s, 'a>>> {
-    let Some(held) = bracket.and_then(|bracket| bracket.held()) else {
-        return Ok(Vec::new(alloc));
-    };
+/// The labels of this text in the struct around a token, or with an empty one all, in their order, also again; none outside of all brackets.
+fn labels_around<'s, 'a>(alloc: Global, near: Near<'s, 'a>, text: &str) -> Made<Vec<Near<'s, 'a>>> {
     let mut labels = Vec::new(alloc);
+    let Some(held) = near.bracket().and_then(Near::held) else {
+        return Ok(labels);
+    };
     for place in 0..=held.count(Comma) {
-        let first = held.part(Comma, place).and_then(|part| part.first());
         // A label is one token here.
-        if let Some(label) = first.filter(|label| follows_label(label.behind(1))) {
+        if let Some(label) = held.first_of(Comma, place)
+            && follows_label(label.behind(1))
+            && (text.is_empty() || label.here().text == text)
+        {
             labels.push(label)?;
         }
     }
@@ -193,7 +193,7 @@ fn put_field_reference(text: &mut String, said: &str, near: Near<'_, '_>) -> Wri
         return put_filled(text, "a name in `{}` is a field there", &[name]);
     }
     put_filled(text, said, &[name])?;
-    if let Some(label) = field_named(*text.allocator(), near)? {
+    if let Some(label) = field_named(near) {
         let source = near.source;
         let line = position_of(source.named.text, label.here().start).line;
         put_filled(text, " (line {})", &[Buffer::new().format(line)])?;
@@ -206,16 +206,16 @@ fn put_field_reference(text: &mut String, said: &str, near: Near<'_, '_>) -> Wri
 }
 
 /// The label of the same text as a name that it names, in a struct around it.
-fn field_named<'s, 'a>(alloc: Global, near: Near<'s, 'a>) -> Made<Option<Near<'s, 'a>>> {
-    let name = near.here().text;
-    let around = successors(near.bracket(), |inner| inner.bracket()).take(MOST_AROUND);
-    for bracket in around.filter(|bracket| bracket.here().text == "{") {
-        let labels = labels_inside(alloc, Some(bracket))?;
-        if let Some(label) = labels.iter().find(|label| label.here().text == name) {
-            return Ok(Some(*label));
+fn field_named<'s, 'a>(near: Near<'s, 'a>) -> Option<Near<'s, 'a>> {
+    let mut inner = near;
+    for _ in 0..MOST_AROUND {
+        inner = inner.bracket()?;
+        let label = inner.held()?.label(near.here().text);
+        if inner.here().text == "{" && label.is_some() {
+            return label;
         }
     }
-    Ok(None)
+    None
 }
 
 /// Puts that a name isn't declared, and what may have been meant by it; what is said of it where nothing is near.
@@ -241,7 +241,8 @@ pub fn nearest<'a>(declared: &Declared<'_, 'a>, name: &str) -> Made<Option<&'a s
     for declaration in &declared.firsts {
         let other = declaration.here().text;
         let edits = few_edits(declared.alloc(), bare, other.trim_start_matches('#'))?;
-        if let Some(edits) = edits.filter(|edits| *edits < fewest) {
+        let edits = edits.unwrap_or(fewest);
+        if edits < fewest {
             (fewest, best) = (edits, Some(other));
         }
     }
@@ -265,42 +266,53 @@ fn put_not_opened(text: &mut String, declared: &Declared<'_, '_>, found: Found<'
         put_tokens(text, &bases, " and ")?;
         text.push_str(" with `...`; or write ")?;
     }
-    if others.is_empty() {
-        put_filled(text, "`{}`'s fields here", &[base.here().text])
-    } else {
-        text.push_str("their fields here")
+    match others {
+        [] => put_filled(text, "`{}`'s fields here", &[base.here().text]),
+        _ => text.push_str("their fields here"),
     }
 }
 
 /// Whether a definition is one struct literal that ends with `...`, where it is declared first.
 fn is_opened(declared: &Declared<'_, '_>, base: Near<'_, '_>) -> bool {
-    let first = declared.of(base.here().text);
-    let literal = first.and_then(|label| literal_of(label));
-    let closing = literal.and_then(|opening| opening.closing());
+    let Some(closing) = declared.of(base.here().text).and_then(literal_end) else {
+        return false;
+    };
     // A comma may be behind the `...`.
-    closing.is_some_and(|closing| [closing.before(1).text, closing.before(2).text].contains(&"..."))
+    [closing.before(1).text, closing.before(2).text].contains(&"...")
+}
+
+/// The token that closes the struct literal at the front of a definition.
+fn literal_end<'s, 'a>(definition: Near<'s, 'a>) -> Option<Near<'s, 'a>> {
+    let opening = definition.moved(2)?;
+    (opening.here().text == "{").then_some(opening.closing()?)
+}
+
+/// The label of a field that has to be there, and whose value is a reference, in a definition that is one struct literal.
+pub fn field_with<'a>(names: &Names<'_, 'a>, definition: &str, value: &str) -> Option<&'a str> {
+    let closing = literal_end(names.first(definition)?.name_declared())?;
+    if !separates(closing.behind(1)) {
+        return None;
+    }
+    let held = closing.source.held(closing.source.own(closing.place));
+    for place in 0..=held.count(Comma) {
+        if let Some(label) = held.first_of(Comma, place)
+            && matches!(label.here().sort, Sort::Name | Sort::Text)
+            && label.behind(1).text == ":"
+            && label.behind(2).text == value
+            && (separates(label.behind(3)) || label.behind(3).text == "}")
+        {
+            return Some(label.here().text);
+        }
+    }
+    None
 }
 
 /// The definitions that the struct at a token is joined with, in the innermost conjunction that has any, the nearest one before it first.
 fn bases_of<'s, 'a>(alloc: Global, near: Near<'s, 'a>) -> Made<Vec<Near<'s, 'a>>> {
-    let mut bases: Vec<Near<'s, 'a>> = Vec::new(alloc);
+    let mut bases = Vec::new(alloc);
     for inner in successors(Some(near), |inner| inner.bracket()).take(MOST_AROUND) {
-        let Some(operands) = inner.conjunction() else {
-            continue;
-        };
-        let own = operands.between(operands.from, inner.place).count(Amp);
-        let before = (0..own).rev().take(MOST_OPERANDS);
-        let behind = (own..=operands.count(Amp)).skip(1).take(MOST_OPERANDS);
-        for place in before.chain(behind) {
-            let operand = operands.part(Amp, place);
-            let Some(base) = operand.and_then(|operand| operand.first()) else {
-                continue;
-            };
-            let token = base.here();
-            let is_old = bases.iter().any(|old| old.here().text == token.text);
-            if token.sort == Sort::Definition && !is_old && bases.len() < MOST_NAMED {
-                bases.push(base)?;
-            }
+        if let Some(operands) = inner.conjunction() {
+            add_bases(&mut bases, operands, inner.place)?;
         }
         if !bases.is_empty() {
             break;
@@ -309,34 +321,51 @@ fn bases_of<'s, 'a>(alloc: Global, near: Near<'s, 'a>) -> Made<Vec<Near<'s, 'a>>
     Ok(bases)
 }
 
+/// Adds the first definitions among operands beside the one at a place, the nearest one before it first.
+fn add_bases<'s, 'a>(bases: &mut Vec<Near<'s, 'a>>, operands: Part<'s, 'a>, at: usize) -> Written {
+    let own = operands.between(operands.from, at).count(Amp);
+    let before = (0..own).rev().take(MOST_OPERANDS);
+    let behind = (own..=operands.count(Amp)).skip(1).take(MOST_OPERANDS);
+    for place in before.chain(behind) {
+        if let Some(base) = operands.first_of(Amp, place)
+            && base.here().sort == Sort::Definition
+            && bases.len() < MOST_NAMED
+            && !bases.iter().any(|old| old.here().text == base.here().text)
+        {
+            bases.push(base)?;
+        }
+    }
+    Ok(())
+}
+
 /// Puts that what a token is the value of is declared several times, or that the wide profile puts that together; whether it is.
 fn put_twice(text: &mut String, declared: &Declared<'_, '_>, found: Found<'_, '_>) -> Made<bool> {
     let (near, is_joined) = (found.near, matches!(found.form, Form::Joined));
-    let label = near.source.label_before(near.place.saturating_sub(1));
-    let label = label.filter(|_| near.before(1).text == ":");
-    let name = label.map_or("", |label| near.source.token(label).text);
-    let mut labels = labels_inside(declared.alloc(), near.bracket())?;
-    labels.retain(|label| label.here().text == name);
+    let name = match near.source.label_before(near.place.saturating_sub(1)) {
+        Some(label) if near.before(1).text == ":" => near.source.token(label).text,
+        Some(_) | None => return Ok(false),
+    };
+    let labels = labels_around(declared.alloc(), near, name)?;
     // Outside of all brackets it is a definition.
     let is_definition = labels.is_empty();
     let times = labels.len().max(declared.named(name).len());
-    let (often, all) = match times {
-        0 | 1 => return Ok(false),
-        2 => ("twice", "both"),
-        _ => ("several times", "all"),
+    let parts = match (times, is_joined) {
+        (0 | 1, _) => return Ok(false),
+        (2, true) => ["both", name],
+        (2, false) => [name, "twice"],
+        (_, true) => ["all", name],
+        (_, false) => [name, "several times"],
     };
-    if is_joined {
-        let parts = if is_definition { "bodies" } else { "values" };
-        let said = "`--profile wide` puts {} {} of `{}` together; without it ";
-        put_filled(text, said, &[all, parts, name])?;
-    } else {
-        put_filled(text, "`{}` is declared {}: ", &[name, often])?;
-    }
-    if is_definition {
-        let bodies = if is_joined { "them" } else { "its bodies" };
-        let said = "join {} to one, or end each of their structs with `...`";
-        put_filled(text, said, &[bodies])?;
-    } else {
+    let said = match (is_joined, is_definition) {
+        (true, true) =>
+            "`--profile wide` puts {} bodies of `{}` together; without it join them to one, or end each of their structs with `...`",
+        (true, false) => "`--profile wide` puts {} values of `{}` together; without it ",
+        (false, true) =>
+            "`{}` is declared {}: join its bodies to one, or end each of their structs with `...`",
+        (false, false) => "`{}` is declared {}: ",
+    };
+    put_filled(text, said, &parts)?;
+    if !is_definition {
         put_one(text, name, &labels)?;
     }
     Ok(true)
@@ -360,27 +389,4 @@ fn put_one<'a>(text: &mut String, name: &'a str, labels: &[Near<'_, 'a>]) -> Wri
         front = ", ";
     }
     text.push_str("}`")
-}
-
-/// The label of a field that has to be there, and whose value is a reference, in the definition at a token, if that is one struct literal.
-pub fn field_with<'a>(alloc: Global, near: Near<'_, 'a>, name: &str) -> Made<Option<&'a str>> {
-    let literal = literal_of(near).filter(|opening| {
-        let closing = opening.closing();
-        closing.is_some_and(|closing| separates(closing.behind(1)))
-    });
-    let labels = labels_inside(alloc, literal)?;
-    let label = labels.iter().find(|label| {
-        let (sort, next) = (label.here().sort, label.behind(3));
-        matches!(sort, Sort::Name | Sort::Text)
-            && label.behind(1).text == ":"
-            && label.behind(2).text == name
-            && (separates(next) || next.text == "}")
-    });
-    Ok(label.map(|label| label.here().text))
-}
-
-/// The token that opens the struct literal at the front of a definition.
-fn literal_of<'s, 'a>(definition: Near<'s, 'a>) -> Option<Near<'s, 'a>> {
-    let opening = definition.moved(2)?;
-    (opening.here().text == "{").then_some(opening)
 }

@@ -3,11 +3,10 @@
 
 mod advice;
 mod lines;
-mod names;
 mod packages;
 mod told;
 
 pub use cs_grammar::Profile;
 pub use lines::{explained, put_finding, put_offset, put_quoted, why_refused, write_refusal_json};
-pub use names::Names;
+pub use packages::Names;
 pub use told::About;

@@ -18,7 +18,9 @@ const MOST_BESIDE: usize = 70;
 /// Puts words as they are shown, with these parts in place of each `{}` in them, in their order.
 pub fn put_filled(text: &mut String, words: &str, parts: &[&str]) -> Written {
     for (at, piece) in words.split("{}").enumerate() {
-        if let Some(part) = at.checked_sub(1).and_then(|before| parts.get(before)) {
+        if let Some(before) = at.checked_sub(1)
+            && let Some(part) = parts.get(before)
+        {
             put_line(text, &[*part])?;
         }
         put_line(text, &[piece])?;
@@ -89,38 +91,37 @@ fn put_excerpt(text: &mut String, source: &[u8], start: usize, end: usize) -> Wr
     if before.is_empty() && behind.is_empty() {
         return Ok(());
     }
-    let column = before.chars().count();
-    let left = column.saturating_sub(MOST_BESIDE);
-    let most = column.saturating_add(MOST_BESIDE);
-    let alloc = *text.allocator();
-    let mut marks = String::new(alloc);
-    if left > 0 {
-        text.push_str("..")?;
-        marks.push_str("  ")?;
-    }
-    let line = before.chars().chain(behind.chars()).enumerate();
-    for (place, character) in line.skip(left).take(most.saturating_sub(left)) {
-        // What isn't shown as it is is a blank, so that the mark stays below what it marks. A tab stays.
-        let is_left = character == '\t' || !is_hidden(character);
-        text.push(if is_left { character } else { ' ' })?;
-        if place < column {
-            marks.push(if character == '\t' { '\t' } else { ' ' })?;
-        }
-    }
+    let left = before.chars().count().saturating_sub(MOST_BESIDE);
+    let (cut, blanks) = if left > 0 { ("..", "  ") } else { ("", "") };
     let is_cut = behind.chars().count() > MOST_BESIDE;
-    text.push_str(if is_cut { "..\n" } else { "\n" })?;
+    text.push_str(cut)?;
+    put_characters(text, before, left, true)?;
+    put_characters(text, behind, 0, true)?;
+    put_all(text, &[if is_cut { "..\n" } else { "\n" }, blanks])?;
+    put_characters(text, before, left, false)?;
     let marked = behind.get(..end.saturating_sub(start)).unwrap_or(behind);
     let count = marked.chars().count().min(MOST_BESIDE).max(1);
-    let mark = "^".repeat(alloc, count)?;
-    put_all(text, &[marks.as_str(), mark.as_str(), "\n"])
+    let mark = "^".repeat(*text.allocator(), count)?;
+    put_all(text, &[mark.as_str(), "\n"])
 }
 
-/// What docs/REFUSALS.md says of a number: for each of its rows a line with the number and the meaning, and one with what to
-/// do. `None` for a number that no refusal has. Only memory can run out.
+/// Puts the characters of a line behind so many, or blanks as wide: also for what isn't shown as it is, so that the mark stays below what it marks.
+fn put_characters(text: &mut String, line: &str, left: usize, are_shown: bool) -> Written {
+    for character in line.chars().skip(left).take(MOST_BESIDE) {
+        let blank = if character == '\t' { '\t' } else { ' ' };
+        let is_shown = are_shown && !is_hidden(character);
+        text.push(if is_shown { character } else { blank })?;
+    }
+    Ok(())
+}
+
+/// What docs/REFUSALS.md says of a number: for each of its rows two lines, with the meaning and with what to do. Only memory can run out.
 pub fn explained(alloc: Global, number: u32) -> Made<Option<String>> {
     let mut text = String::new(alloc);
-    for row in EXPLANATIONS.iter().filter(|row| row.number == number) {
-        write!(text, "{number}: {}\n{}\n", row.meaning, row.remedy)?;
+    for row in EXPLANATIONS {
+        if row.number == number {
+            write!(text, "{number}: {}\n{}\n", row.meaning, row.remedy)?;
+        }
     }
     Ok(if text.is_empty() { None } else { Some(text) })
 }
@@ -131,7 +132,7 @@ pub fn why_refused(alloc: Global, fault: &Fault, about: About<'_>) -> Made<Strin
     let sources = sources_of(alloc, about.profile, about.sources)?;
     let told = Told::of(alloc, fault, about, &sources)?;
     let mut text = String::new(alloc);
-    put_told(&mut text, &told, told.start, &[])?;
+    put_told(&mut text, &told, told.start, "")?;
     if let (Some(named), Some(start)) = (told.named, told.start) {
         put_excerpt(&mut text, named.text, start, told.end)?;
     }
@@ -151,30 +152,24 @@ pub fn put_finding<'a>(
     sources: &[Source<'a>],
 ) -> Written {
     let told = Told::of(*text.allocator(), fault, about, sources)?;
-    let mut buffer = Buffer::new();
-    let (number, taken) = (buffer.format(fault.number()), taken_by(told.form));
-    let words = ["error ", number, ": ", taken];
-    put_told(text, &told, fault.offset().or(told.start), &words)
-}
-
-/// What is said before anything else of a form that another profile takes.
-fn taken_by(form: Option<Form>) -> &'static str {
-    match form {
+    let taken = match told.form {
         Some(Form::DefaultMark) => "`--profile wide` takes defaults; without it ",
         Some(Form::Attribute) => "`--profile wide` takes attributes; without it ",
         Some(Form::Close) => "`--profile wide` takes `close`; without it ",
         Some(_) | None => "",
-    }
+    };
+    let words = format!(in *text.allocator(); "error {}: {taken}", fault.number())?;
+    put_told(text, &told, fault.offset().or(told.start), &words)
 }
 
 /// Puts the line of a refusal: the place as far as it is known, these words, the pointer of the value at fault, and what to do.
-fn put_told(text: &mut String, told: &Told<'_>, start: Option<usize>, words: &[&str]) -> Written {
+fn put_told(text: &mut String, told: &Told<'_>, start: Option<usize>, words: &str) -> Written {
     match (told.named, start) {
         (Some(named), Some(start)) => put_offset(text, named, start)?,
         (Some(named), None) => put_line(text, &[named.name, ": "])?,
         (None, _) => {}
     }
-    put_all(text, words)?;
+    text.push_str(words)?;
     match &told.pointer {
         Some(pointer) if pointer.is_empty() => text.push_str("(root): ")?,
         Some(pointer) => put_line(text, &[pointer.as_str(), ": "])?,
@@ -183,11 +178,9 @@ fn put_told(text: &mut String, told: &Told<'_>, start: Option<usize>, words: &[&
     put_all(text, &[told.hint.as_str(), "\n"])
 }
 
-/// Writes the object that tells the fault, and a newline: the members that [`write_fault_json`] writes, and behind them as far as
-/// it is known `file` for a fault of a schema or a document, `path` for one of a file that wasn't read, `line`, `column`, `form`,
-/// `pointer`, `hint`, and `files` with the bytes of each. Where memory runs out it is the object without these.
-///
-/// `WriteFailed` alone.
+/// Writes the object that tells the fault, and a newline: the members that [`write_fault_json`] writes, and behind them as far as it is known `file` for a
+/// fault of a schema or a document, `path` for one of a file that wasn't read, `line`, `column`, `form`, `pointer`, `hint`, and `files` with the bytes of
+/// each. Where memory runs out it is the object without these. `WriteFailed` alone.
 pub fn write_refusal_json<W: Write>(
     alloc: Global,
     fault: &Fault,
@@ -209,8 +202,7 @@ fn refusal_object(alloc: Global, fault: &Fault, names: &[&str], about: About<'_>
     put_members(&mut members, fault, &told)?;
     put_sizes(&mut members, about.sizes)?;
     let mut object = Vec::new(alloc);
-    let written = write_fault_json(alloc, fault, names, &mut object);
-    written.or(Err(AllocError))?;
+    write_fault_json(alloc, fault, names, &mut object).or(Err(AllocError))?;
     // Without its closing bracket and newline.
     let end = object.len().saturating_sub(2);
     object.truncate(end);

@@ -1,17 +1,17 @@
 // What is told of faults of whole files and packages: how deep brackets nest and how high expressions are, cycles of definitions (12, 24), and
-// chains of references that are too long (16).
+// chains of references that are too long (16); and where the definitions of a package are declared.
 use crate::advice::{field_with, nearest};
 use crate::lines::{put_filled, put_left, put_offset, put_tokens};
-use crate::names::Names;
 use crate::told::Told;
 use cs_grammar::Sort;
 use cs_place::{Named, position_of};
+use cs_placed::{Placed, placed_files};
 use cs_sources::Separator::{Amp, Bar, Colon, Comma};
-use cs_sources::{
-    Declared, Inside, Made, Near, Part, Source, declared_in, ends_value, follows_label,
-};
-use cs_text::{Written, put_all, put_grouped, put_line};
+use cs_sources::{Declared, Inside, Made, Near, Part, Source, ends_value, follows_label};
+use cs_text::{Written, put_grouped};
+use cs_tool::Fault;
 use itoa::Buffer;
+use std::alloc::Global;
 use std::iter::successors;
 
 /// How many definitions a package may have, and how many of them are listed.
@@ -30,69 +30,36 @@ impl<'a> Told<'a> {
     pub fn tell_too_high(&mut self, source: Option<&Source<'a>>) -> Written {
         let Some(source) = source else { return Ok(()) };
         self.named = Some(source.named);
-        let mut brackets = source.brackets.iter();
-        let deep = brackets.position(|bracket| bracket.depth > MOST_LEVELS);
-        if let Some(bracket) = deep.and_then(|number| source.opening(number)) {
-            self.place_at(bracket);
-            let said =
-                "this is the 29th bracket that is open; 28 may be: give an inner part a definition";
-            return self.hint.push_str(said);
-        }
-        let Some(near) = self.first_too_high(source)? else {
-            let mut tokens = (0..source.tokens.len()).map(|place| Near { source, place });
-            let embeds = tokens.any(|token| token.begins_embedding());
+        let Some(near) = first_too_high(*self.hint.allocator(), source)? else {
+            let mut places = 0..source.tokens.len();
+            let embeds = places.any(|place| Near { source, place }.begins_embedding());
             let said =
                 "with what is embedded brackets, short fields, `&`, `|` and the value inside make more than 28 levels: give an inner part a definition";
             return self.hint.push_str(if embeds { said } else { "" });
         };
         self.place_at(near);
-        let is_bracket = near.held().is_some();
-        let part = if is_bracket { "bracket" } else { "definition" };
-        let said =
-            "level 29 is in this {}: brackets, short fields, `&`, `|` and the value inside make 28 at most; give an inner part a definition";
+        let depth = source.bracket(source.own(near.place)).depth;
+        let said = if depth > MOST_LEVELS {
+            "this is the 29th bracket that is open; 28 may be: give an inner part a definition"
+        } else {
+            "level 29 is in this {}: brackets, short fields, `&`, `|` and the value inside make 28 at most; give an inner part a definition"
+        };
+        let part = if depth > 0 { "bracket" } else { "definition" };
         put_filled(&mut self.hint, said, &[part])
-    }
-
-    /// Of the first part between commas, by its beginning, that is too high, the token that opens its bracket, or outside of all its own first one.
-    fn first_too_high<'s>(&self, source: &'s Source<'a>) -> Made<Option<Near<'s, 'a>>> {
-        // Of what is around each bracket.
-        let mut heights: Vec<usize> = Vec::new(self.alloc());
-        let mut found: Option<(usize, Near<'s, 'a>)> = None;
-        for (number, bracket) in source.brackets.iter().enumerate() {
-            let opening = source.opening(number);
-            let around = heights.get(bracket.around).copied().unwrap_or(0);
-            let own = opening.map_or(0, |near| own_height(near.part(), near.inside()));
-            let outer = around.saturating_add(own);
-            heights.push(outer)?;
-            let held = source.held(number);
-            let part = (0..=held.count(Comma))
-                .filter_map(|place| held.part(Comma, place))
-                .find(|part| {
-                    let leaf = usize::from(has_leaf(*part));
-                    let height = own_height(*part, bracket.inside).saturating_add(leaf);
-                    outer.saturating_add(height) > MOST_LEVELS
-                });
-            if let Some(part) = part
-                && found.is_none_or(|(first, _)| part.from < first)
-                && let Some(near) = opening.or(part.first())
-            {
-                found = Some((part.from, near));
-            }
-        }
-        Ok(found.map(|(_, near)| near))
     }
 
     /// Tells the package clause of a source and the first one of all sources, where they name different packages (8), at the name in this one.
     pub fn tell_clause(&mut self, source: Option<&Source<'a>>, all: &[Source<'a>]) -> Written {
-        self.named = source.map(|source| source.named);
-        let Some(name) = source.and_then(|source| clause_of(source)) else {
+        let Some(source) = source else { return Ok(()) };
+        self.named = Some(source.named);
+        let Some(name) = clause_of(source) else {
             return Ok(());
         };
         self.place_at(name);
         let text = &mut self.hint;
         let said = "this file is of the package `{}`";
         put_filled(text, said, &[name.here().text])?;
-        if let Some(first) = all.iter().find_map(|other| clause_of(other)) {
+        if let Some(first) = all.iter().find_map(clause_of) {
             text.push_str(", and ")?;
             put_offset(text, first.source.named, first.here().start)?;
             put_filled(text, "`{}`", &[first.here().text])?;
@@ -118,120 +85,117 @@ impl<'a> Told<'a> {
 
     /// Tells how many definitions the sources have, or nodes, which are counted here, where these are too many (14).
     pub fn tell_too_large(&mut self, definitions: usize, sources: &[Source<'_>]) -> Written {
-        // No definitions are counted where the source that is meant is too large.
-        if definitions == 0 {
-            let said =
-                "what the sources stand for has more than 50,000 nodes of expressions, or 1,048,576 bytes: split the package by roots";
-            return self.hint.push_str(said);
-        }
-        let remedy = " may be: split the package by roots";
+        let text = &mut self.hint;
         if definitions > MOST_DEFINITIONS {
-            let said = [" definitions, and 1,000", remedy];
-            return put_grouped(&mut self.hint, definitions, &said);
+            put_grouped(text, definitions, &[" definitions, and 1,000 may be"])?;
+        } else if definitions > 0 {
+            let mut nodes = 0usize;
+            for source in sources {
+                let places = (0..source.tokens.len()).filter(|place| is_node(source, *place));
+                nodes = nodes.saturating_add(places.count());
+            }
+            put_grouped(text, nodes, &[" nodes of expressions, and 50,000 may be"])?;
+        } else {
+            // No definitions are counted where the source that is meant is too large.
+            let said =
+                "what the sources stand for has more than 50,000 nodes of expressions, or 1,048,576 bytes";
+            text.push_str(said)?;
         }
-        let mut nodes = 0usize;
-        for source in sources {
-            let tokens = (0..source.tokens.len()).map(|place| Near { source, place });
-            nodes = nodes.saturating_add(tokens.filter(|token| is_node(*token)).count());
-        }
-        let said = [" nodes of expressions, and 50,000", remedy];
-        put_grouped(&mut self.hint, nodes, &said)
+        text.push_str(": split the package by roots")
     }
 
-    /// Tells a chain of definitions by their names, each of which refers to the next (16), at the first one, if the sources declare that.
-    pub fn tell_chain(&mut self, declared: &Declared<'_, 'a>, chain: &[String]) -> Written {
-        let names = Names::of(self.alloc(), declared)?;
-        let (Some(first), [front @ .., last]) = (first_of(&names, chain), chain) else {
+    /// Tells a cycle of definitions (12), which a field of the last one may end, or a chain that is too long (16), at the first one, if sources declare that.
+    pub fn tell_way(&mut self, fault: &Fault, declared: &Declared<'_, 'a>) -> Written {
+        let (Fault::Cycle { names: way } | Fault::ChainTooLong { names: way }) = fault else {
+            return Ok(());
+        };
+        let names = Names::of(*self.hint.allocator(), declared)?;
+        let ([first, ..], [front @ .., last]) = (way.as_slice(), way.as_slice()) else {
+            return Ok(());
+        };
+        let Some(first) = names.first(first) else {
             return Ok(());
         };
         self.place_at(first);
-        let said = "{} references in a chain, and 64 may be: ";
-        put_filled(&mut self.hint, said, &[Buffer::new().format(front.len())])?;
-        self.put_way(&names, front, MOST_IN_CHAIN)?;
-        self.put_named(&names, last.as_str())?;
-        let said = ": nest less deeply, or write one of the references as an alternative to `_|_`";
-        self.hint.push_str(said)
-    }
-
-    /// Tells a cycle of definitions by their names, each with its place (12), at the first one, and what ends it: a field of the last one, if any.
-    pub fn tell_cycle(&mut self, declared: &Declared<'_, 'a>, cycle: &[String]) -> Written {
-        let names = Names::of(self.alloc(), declared)?;
-        let (Some(first), [.., last]) = (first_of(&names, cycle), cycle) else {
-            return Ok(());
-        };
-        self.place_at(first);
-        self.put_way(&names, cycle, MOST_IN_CYCLE)?;
+        let text = &mut self.hint;
+        if matches!(fault, Fault::ChainTooLong { .. }) {
+            let said = "{} references in a chain, and 64 may be: ";
+            put_filled(text, said, &[Buffer::new().format(front.len())])?;
+            names.put_way(text, front, MOST_IN_CHAIN)?;
+            names.put_placed(text, last)?;
+            let said =
+                ": nest less deeply, or write one of the references as an alternative to `_|_`";
+            return text.push_str(said);
+        }
+        names.put_way(text, way, MOST_IN_CYCLE)?;
         let first = first.name_declared().here().text;
-        let field = match names.first(last.as_str()) {
-            Some(last) => field_with(self.alloc(), last.name_declared(), first)?,
-            None => None,
-        };
+        let field = field_with(&names, last, first);
         let said = match field {
             Some(_) => "`{}`: write `{}: {} | _|_`, which keeps the meaning",
             None =>
                 "`{}`: to keep the meaning, add `| _|_` to one of these references in a field or an element, as `{} | _|_`; where none is in one, take it out",
         };
-        let parts = [first, field.unwrap_or(first), first];
-        put_filled(&mut self.hint, said, &parts)
+        put_filled(text, said, &[first, field.unwrap_or(first), first])
     }
 
     /// Tells a loop of definitions of a schema by their names, and what ends it (24), at the first one.
     pub fn tell_loop(&mut self, schema: Option<Named<'a>>, names: &[String]) -> Written {
-        // A schema's definitions have no places in sources.
-        let declared = declared_in(self.alloc(), &[])?;
-        self.put_loop(&declared, names)?;
-        let first = names.first().map_or("", |first| first.as_str());
+        let [first, ..] = names else { return Ok(()) };
+        for name in names.iter().take(MOST_IN_CYCLE) {
+            put_filled(&mut self.hint, "`{}` -> ", &[name.as_str()])?;
+        }
+        put_left(&mut self.hint, "{} more -> ", names.len(), MOST_IN_CYCLE)?;
         let said =
             "`{}`: put a reference under `properties`, `additionalProperties`, `prefixItems` or `items`, or take it out";
-        put_filled(&mut self.hint, said, &[first])?;
+        put_filled(&mut self.hint, said, &[first.as_str()])?;
         self.place_key(schema, "/$defs", first)
-    }
-
-    /// Puts names of definitions as they are declared, with an arrow behind each.
-    fn put_loop(&mut self, declared: &Declared<'_, '_>, names: &[String]) -> Written {
-        self.put_way(&Names::written(declared), names, MOST_IN_CYCLE)
-    }
-
-    /// Puts names of definitions, the first ones of many, with an arrow behind each.
-    fn put_way(&mut self, names: &Names<'_, '_>, way: &[String], most: usize) -> Written {
-        for name in way.iter().take(most) {
-            self.put_named(names, name.as_str())?;
-            self.hint.push_str(" -> ")?;
-        }
-        put_left(&mut self.hint, "{} more -> ", way.len(), most)
-    }
-
-    /// Puts the name of a definition as it is declared, with its place where the sources declare it: the line that declares it, and of several files which.
-    fn put_named(&mut self, names: &Names<'_, '_>, name: &str) -> Written {
-        let Some(declaration) = names.first(name) else {
-            return put_filled(&mut self.hint, "`{}`", &[name]);
-        };
-        put_filled(
-            &mut self.hint,
-            "`{}`",
-            &[declaration.name_declared().here().text],
-        )?;
-        let named = declaration.source.named;
-        let is_one = names.is_of_one_source();
-        let (file, colon) = if is_one { ("", "") } else { (named.name, ":") };
-        let line = position_of(named.text, declaration.here().start).line;
-        put_line(&mut self.hint, &[" (", file, colon])?;
-        put_all(&mut self.hint, &[Buffer::new().format(line), ")"])
     }
 }
 
-/// Where the first of some definitions is declared.
-fn first_of<'s, 'a>(names: &Names<'s, 'a>, way: &[String]) -> Option<Near<'s, 'a>> {
-    names.first(way.first()?.as_str())
+/// The token that opens a bracket which is too deep, or else the one of the first part between commas that is too high, or outside of all its first token.
+fn first_too_high<'s, 'a>(alloc: Global, source: &'s Source<'a>) -> Made<Option<Near<'s, 'a>>> {
+    // Of what is around each bracket.
+    let mut heights: Vec<usize> = Vec::new(alloc);
+    let (mut first, mut found) = (usize::MAX, None);
+    for (number, bracket) in source.brackets.iter().enumerate() {
+        let opening = source.opening(number);
+        if bracket.depth > MOST_LEVELS {
+            return Ok(opening);
+        }
+        let mut outer = heights.get(bracket.around).copied().unwrap_or(0);
+        if let Some(near) = opening {
+            outer = outer.saturating_add(own_height(near.part(), near.inside()));
+        }
+        heights.push(outer)?;
+        if let Some(part) = part_too_high(source.held(number), bracket.inside, outer)
+            && part.from < first
+            && let Some(near) = opening.or(part.first())
+        {
+            (first, found) = (part.from, Some(near));
+        }
+    }
+    Ok(found)
+}
+
+/// The first part between commas of what a bracket holds that is too high, with so many levels around it.
+fn part_too_high<'s, 'a>(held: Part<'s, 'a>, inside: Inside, outer: usize) -> Option<Part<'s, 'a>> {
+    for place in 0..=held.count(Comma) {
+        let part = held.part(Comma, place)?;
+        // Those directly in it.
+        let tokens = successors(part.first(), |near| near.next()).take(part.to);
+        let has_leaf = tokens.take_while(|near| near.place < part.to).any(is_leaf);
+        let height = own_height(part, inside).saturating_add(usize::from(has_leaf));
+        if outer.saturating_add(height) > MOST_LEVELS {
+            return Some(part);
+        }
+    }
+    None
 }
 
 /// The name in the package clause of a source.
 fn clause_of<'s, 'a>(source: &'s Source<'a>) -> Option<Near<'s, 'a>> {
     let first = Near::at(source, 0)?;
-    match first.here().text {
-        "package" => first.moved(1),
-        _ => None,
-    }
+    (first.here().text == "package").then_some(first.moved(1)?)
 }
 
 /// How many levels are on the way through a part to a value directly in it, from its bracket on.
@@ -244,14 +208,6 @@ fn own_height(part: Part<'_, '_>, inside: Inside) -> usize {
         .saturating_add(part.count(Bar).min(1))
 }
 
-/// Whether a token directly in a part is an expression without parts, or the literal of a limit.
-fn has_leaf(part: Part<'_, '_>) -> bool {
-    successors(part.first(), |near| near.next())
-        .take(part.to)
-        .take_while(|near| near.place < part.to)
-        .any(|near| is_leaf(near))
-}
-
 /// Whether a token is an expression without parts, or the literal of a limit: in a struct or a file behind a colon.
 fn is_leaf(near: Near<'_, '_>) -> bool {
     let token = near.here();
@@ -262,8 +218,9 @@ fn is_leaf(near: Near<'_, '_>) -> bool {
 }
 
 /// Whether a node shows at a token: at the bracket of a struct or a list, a colon, the first operator of its operands, or any other one at itself.
-fn is_node(near: Near<'_, '_>) -> bool {
-    let (source, place, part) = (near.source, near.place, near.part());
+fn is_node(source: &Source<'_>, place: usize) -> bool {
+    let near = Near { source, place };
+    let part = near.part();
     match near.here().text.as_bytes() {
         [b'{'] => true,
         [b'['] => source.bracket(source.own(place)).inside == Inside::List,
@@ -271,5 +228,66 @@ fn is_node(near: Near<'_, '_>) -> bool {
         [b'&'] => part.part_around(Amp, place).from <= part.part_around(Bar, place).from,
         [b':'] => near.colon().is_some(),
         _ => is_leaf(near),
+    }
+}
+
+/// Where the definitions of a package are declared, also those that stand for other names in the wide profile.
+#[derive(Drop)]
+pub struct Names<'s, 'a> {
+    declared: &'s Declared<'s, 'a>,
+    /// Nothing where one of the sources spells no file.
+    placed: Option<Placed>,
+}
+
+impl<'s, 'a> Names<'s, 'a> {
+    /// Those of the package that the sources stand for. Only memory can run out.
+    pub fn of(alloc: Global, declared: &'s Declared<'s, 'a>) -> Made<Names<'s, 'a>> {
+        let mut texts = Vec::with_capacity(alloc, declared.sources.len())?;
+        for source in declared.sources {
+            texts.push(source.named.text)?;
+        }
+        let placed = placed_files(alloc, &texts)?;
+        Ok(Names { declared, placed })
+    }
+
+    /// The token with which the first declaration of a definition begins, of a name with its `#`.
+    pub fn first(&self, name: &str) -> Option<Near<'s, 'a>> {
+        let first = self.declared.of(name);
+        if first.is_some() {
+            return first;
+        }
+        let placed = self.placed.as_ref()?;
+        let (file, offset) = placed.definition(name.strip_prefix('#')?)?;
+        Near::at(self.declared.sources.get(file)?, offset)
+    }
+
+    /// Puts the name of a definition as its author declared it, or the selector that it stands for.
+    pub fn put(&self, text: &mut String, name: &str) -> Made<()> {
+        match self.first(name) {
+            Some(first) => text.push_str(first.name_written()),
+            None => text.push_str(name),
+        }
+    }
+
+    /// Puts names of definitions with their places, the first ones of many, with an arrow behind each.
+    fn put_way(&self, text: &mut String, way: &[String], most: usize) -> Written {
+        for name in way.iter().take(most) {
+            self.put_placed(text, name.as_str())?;
+            text.push_str(" -> ")?;
+        }
+        put_left(text, "{} more -> ", way.len(), most)
+    }
+
+    /// Puts the name of a definition as it is declared, with its place where the sources declare it: the line that declares it, and of several files which.
+    fn put_placed(&self, text: &mut String, name: &str) -> Written {
+        let Some(declaration) = self.first(name) else {
+            return put_filled(text, "`{}`", &[name]);
+        };
+        let (declared, named) = (declaration.name_declared(), declaration.source.named);
+        let is_one = self.declared.sources.len() == 1;
+        let (file, colon) = if is_one { ("", "") } else { (named.name, ":") };
+        let line = position_of(named.text, declaration.here().start).line;
+        put_filled(text, "`{}` ({}{}", &[declared.here().text, file, colon])?;
+        put_filled(text, "{})", &[Buffer::new().format(line)])
     }
 }

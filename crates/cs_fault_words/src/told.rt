@@ -95,11 +95,6 @@ impl<'a> Told<'a> {
         Ok(told)
     }
 
-    /// What its words grow by.
-    pub fn alloc(&self) -> Global {
-        *self.hint.allocator()
-    }
-
     /// Places it at a part of a file.
     fn place(&mut self, named: Named<'a>, start: usize, end: usize) {
         self.named = Some(named);
@@ -115,7 +110,7 @@ impl<'a> Told<'a> {
 
     /// Tells what is known of a fault.
     fn tell(&mut self, fault: &Fault, about: About<'a>, declared: &Declared<'_, 'a>) -> Written {
-        let source = fault.file().and_then(|file| declared.sources.get(file));
+        let source = declared.sources.get(fault.file().unwrap_or(usize::MAX));
         let (schema, document) = (about.schema, about.document);
         match fault {
             Fault::NotUtf8 { .. } => self.tell_not_utf8(source),
@@ -128,20 +123,18 @@ impl<'a> Told<'a> {
             | Fault::NotOpened { .. } => self.put_form(fault, about.is_joined, declared),
             Fault::TooHigh { .. } => self.tell_too_high(source),
             Fault::PackageName { .. } => self.tell_clause(source, declared.sources),
-            Fault::Cycle { names } => self.tell_cycle(declared, names),
-            Fault::ChainTooLong { names } => self.tell_chain(declared, names),
+            Fault::Cycle { .. } | Fault::ChainTooLong { .. } => self.tell_way(fault, declared),
             Fault::UnknownRoot => self.tell_no_root(declared, about.root),
             Fault::TooLarge { definitions } => self.tell_too_large(*definitions, declared.sources),
-            Fault::TooManyPairs { by_schema, .. } => self.tell_too_many_pairs(
-                fault, about, *by_schema,
-            ),
+            Fault::TooManyPairs { by_schema, .. } => self.tell_pairs(fault, about, *by_schema),
             Fault::SchemaNotJson { offset, is_cut } => self.tell_not_json(schema, *offset, *is_cut),
             Fault::NotJson { offset, is_cut } => self.tell_not_json(document, *offset, *is_cut),
             Fault::NotInteger { offset, in_schema } => {
                 self.tell_not_integer(if *in_schema { schema } else { document }, *offset)
             }
-            Fault::Keyword { .. } | Fault::Shape { .. } | Fault::Reference { .. } =>
-                self.tell_keyword(fault, schema),
+            Fault::Keyword { place, name }
+            | Fault::Shape { place, name }
+            | Fault::Reference { place, name } => self.tell_keyword(fault, schema, place, name),
             Fault::Loop { names } => self.tell_loop(schema, names),
             // These have no place in a text.
             Fault::SourcesTooLong
@@ -156,23 +149,20 @@ impl<'a> Told<'a> {
     /// Tells where a source isn't UTF-8 (2).
     fn tell_not_utf8(&mut self, source: Option<&Source<'a>>) -> Written {
         let Some(source) = source else { return Ok(()) };
-        let place = from_utf8(source.named.text).map_or_else(|error| error.valid_up_to(), |_| 0);
-        self.place(source.named, place, place);
-        let said = "no UTF-8 from here: save the file as UTF-8, without a byte order mark";
-        self.hint.push_str(said)
+        if let Err(error) = from_utf8(source.named.text) {
+            let place = error.valid_up_to();
+            self.place(source.named, place, place);
+        }
+        self.hint.push_str("no UTF-8 from here: save the file as UTF-8, without a byte order mark")
     }
 
     /// Puts what is said of the form of CUE at the place of a fault; nothing where its source has no token there or behind.
     fn put_form(&mut self, fault: &Fault, is_joined: bool, declared: &Declared<'_, 'a>) -> Written {
-        let source = fault.file().and_then(|file| declared.sources.get(file));
-        let (Some(source), Some(offset)) = (source, fault.offset()) else {
-            return Ok(());
-        };
-        let Some(near) = Near::at(source, offset) else {
+        let Some(near) = near_of(fault, declared) else {
             return Ok(());
         };
         let found = match fault {
-            Fault::NoToken { .. } => form_stuck(near, offset),
+            Fault::NoToken { offset, .. } => form_stuck(near, *offset),
             Fault::IntegerRange { .. } => Found::at(near, Form::LargeInteger),
             Fault::Syntax { .. } => form_out_of_place(near),
             Fault::LeftOut { .. } => form_left_out_in(near, declared)?,
@@ -182,7 +172,7 @@ impl<'a> Told<'a> {
             Fault::NotOpened { .. } => form_closed(near, declared)?,
             _ => return Ok(()),
         };
-        self.place(source.named, found.start, found.end);
+        self.place(near.source.named, found.start, found.end);
         self.form = Some(found.form);
         put_advice(&mut self.hint, declared, found)
     }
@@ -203,7 +193,7 @@ impl<'a> Told<'a> {
     /// Tells that the number at an offset isn't an integer of 64 signed bits (26), with its pointer.
     fn tell_not_integer(&mut self, named: Option<Named<'a>>, offset: usize) -> Written {
         let Some(named) = named else { return Ok(()) };
-        self.pointer = Some(pointer_at(self.alloc(), named.text, offset)?);
+        self.pointer = Some(pointer_at(*self.hint.allocator(), named.text, offset)?);
         let is_of_number = |byte: &&u8| b"+-.0123456789Ee".contains(*byte);
         let rest = named.text.get(offset..).unwrap_or(&[]);
         let len = rest.iter().take_while(is_of_number).count();
@@ -215,7 +205,7 @@ impl<'a> Told<'a> {
     }
 
     /// Tells how many values the document has and how many rules judge it, which make too many pairs (27). A schema's rules are those in it.
-    fn tell_too_many_pairs(&mut self, fault: &Fault, about: About<'a>, by_schema: bool) -> Written {
+    fn tell_pairs(&mut self, fault: &Fault, about: About<'a>, by_schema: bool) -> Written {
         self.named = about.document;
         let (Fault::TooManyPairs { items, rules, .. }, Some(_)) = (fault, self.named) else {
             return Ok(());
@@ -234,14 +224,13 @@ impl<'a> Told<'a> {
     }
 
     /// Tells of a keyword of a schema, its value or a reference (21 to 23), at the keyword.
-    fn tell_keyword(&mut self, fault: &Fault, schema: Option<Named<'a>>) -> Written {
-        let (Fault::Keyword { place, name }
-        | Fault::Shape { place, name }
-        | Fault::Reference { place, name }) = fault
-        else {
-            return Ok(());
-        };
-        let (place, name) = (place.as_str(), name.as_str());
+    fn tell_keyword(
+        &mut self,
+        fault: &Fault,
+        schema: Option<Named<'a>>,
+        place: &str,
+        name: &str,
+    ) -> Written {
         let said = match fault {
             Fault::Keyword { .. } if name == "default" =>
                 "`--profile wide` takes `{}` as a note; without it take it out, since it says nothing of what is valid",
@@ -258,7 +247,7 @@ impl<'a> Told<'a> {
 
     /// Places it at a key behind a pointer into a schema; an empty one is none.
     pub fn place_key(&mut self, schema: Option<Named<'a>>, pointer: &str, key: &str) -> Written {
-        let alloc = self.alloc();
+        let alloc = *self.hint.allocator();
         self.pointer = Some(String::from_str(alloc, pointer)?);
         self.named = schema;
         let Some(schema) = schema else { return Ok(()) };
@@ -271,21 +260,9 @@ impl<'a> Told<'a> {
     }
 }
 
-/// What a step of a pointer into a schema leads to.
-#[derive(Clone, Copy)]
-enum Part {
-    Schema,
-    Names,
-    Elements,
-}
-
-/// What is under a keyword.
-fn part_under(keyword: &str) -> Part {
-    match keyword {
-        "properties" | "$defs" => Part::Names,
-        "allOf" | "anyOf" | "prefixItems" => Part::Elements,
-        _ => Part::Schema,
-    }
+/// The token at the place of a fault, or the next one behind it.
+fn near_of<'s, 'a>(fault: &Fault, declared: &Declared<'s, 'a>) -> Option<Near<'s, 'a>> {
+    Near::at(declared.sources.get(fault.file()?)?, fault.offset()?)
 }
 
 /// The keys of a pointer with their escapes undone (RFC 6901, section 3), and behind them a keyword that isn't empty.
@@ -304,20 +281,22 @@ fn keys_of(alloc: Global, pointer: &str, keyword: &str) -> Made<Vec<String>> {
 /// Where a value of a schema is in its text, by its keys: the offset of its key, or of the value where it has none.
 fn offset_of(alloc: Global, text: &[u8], keys: &[String]) -> Made<Option<usize>> {
     let mut paths = Vec::with_capacity(alloc, keys.len())?;
-    let mut part = Part::Schema;
+    // The keyword around names or places; none where a keyword comes next.
+    let mut around = "";
     for (at, key) in keys.iter().enumerate() {
-        let key = key.as_str();
-        let (step, next) = match part {
-            Part::Schema => (Step::Key(key), part_under(key)),
-            Part::Names => (Step::Key(key), Part::Schema),
-            Part::Elements => (Step::Element(key.parse().unwrap_or(0)), Part::Schema),
+        let (parent, key) = (at.checked_sub(1), key.as_str());
+        let (step, next) = match around {
+            "allOf" | "anyOf" | "prefixItems" => (Step::Element(key.parse().unwrap_or(0)), ""),
+            "properties" | "$defs" => (Step::Key(key), ""),
+            _ => (Step::Key(key), key),
         };
-        let parent = at.checked_sub(1);
         paths.push(ValuePath { parent, step })?;
-        part = next;
+        around = next;
     }
-    let found = places(alloc, text, &paths)?.last().copied().flatten();
-    Ok(found.map(|place| place.key.unwrap_or(place.value)))
+    match places(alloc, text, &paths)?.last() {
+        Some(Some(place)) => Ok(Some(place.key.unwrap_or(place.value))),
+        Some(None) | None => Ok(None),
+    }
 }
 
 /// The place behind the text of JSON that begins at an offset; the offset itself where none does.
