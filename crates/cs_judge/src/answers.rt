@@ -36,13 +36,10 @@ impl LinesOutcome {
     pub fn with(self, other: LinesOutcome) -> LinesOutcome
         ensures { result ≡ worse self other }
     {
-        match self {
-            LinesOutcome::AllValid => other,
-            LinesOutcome::SomeRefused => LinesOutcome::SomeRefused,
-            LinesOutcome::SomeInvalid => match other {
-                LinesOutcome::SomeRefused => LinesOutcome::SomeRefused,
-                _ => LinesOutcome::SomeInvalid,
-            },
+        match (self, other) {
+            (LinesOutcome::AllValid, _) => other,
+            (LinesOutcome::SomeInvalid, LinesOutcome::SomeRefused) => other,
+            (LinesOutcome::SomeInvalid | LinesOutcome::SomeRefused, _) => self,
         }
     }
 }
@@ -59,7 +56,7 @@ pub(crate) fn outcome_of(answer: &Judged) -> LinesOutcome
 }
 
 /// The line of an answer. That of a refusal is put in the room.
-fn line_of<'a>(answer: &Judged, room: &'a mut [u8]) -> &'a [u8]
+pub(crate) fn line_of<'a>(answer: &Judged, room: &'a mut [u8]) -> &'a [u8]
     requires { ANSWER_ROOM ≤ length room.old }
     ensures { result.now ≡ answer_line answer.now }
 {
@@ -266,27 +263,6 @@ impl HeldAnswers {
     {
         let bytes = vec![in alloc; 0u8; HELD]?;
         Ok(HeldAnswers { bytes, end: 0 })
-    }
-
-    /// Holds the line of one more answer.
-    pub(crate) fn hold<W: Write>(&mut self, answer: &Judged, output: &mut W) -> Done
-        ensures { Holds result (W.contents output.old) (W.contents output.new) (self.old ++ answer_line answer.now) self.new }
-    {
-        let mut room = [0u8; ANSWER_ROOM];
-        self.hold_text(line_of(answer, &mut room), output)
-    }
-
-    /// Holds one more text, of two parts.
-    pub(crate) fn hold_both<W: Write>(
-        &mut self,
-        first: &[u8],
-        second: &[u8],
-        output: &mut W,
-    ) -> Done
-        ensures { Holds result (W.contents output.old) (W.contents output.new) (self.old ++ first.now ++ second.now) self.new }
-    {
-        self.hold_text(first, output)?;
-        self.hold_text(second, output)
     }
 
     /// Holds one more text. Writes what is held where there is no room, and the text too where it is longer than what may be held.

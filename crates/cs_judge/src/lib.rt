@@ -8,8 +8,5 @@ mod verdict;
 
 pub use answers::{LinesOutcome, run_document, write_document, write_unread};
 pub use cs_instance_report::Written;
-pub use cs_place::Named;
-pub use cs_reason_words::{Form, Format};
-pub use cs_reasons::Telling;
 pub use lines::run_lines;
 pub use text_judge::{Prepared, TextJudge, Why, prepare};

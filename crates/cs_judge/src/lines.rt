@@ -7,7 +7,7 @@ ghost use Rattle.cs_judge.specs.Lines.{IsLineAnswer};
 ghost use Rattle.cs_judge.specs.Runs.{IsDone, LeavesLines, IsOfRules};
 ghost use Rattle.cs_judge.specs.Writing.{HoldsSome};
 
-use crate::answers::{HeldAnswers, LinesOutcome, members_of, outcome_of};
+use crate::answers::{HeldAnswers, LinesOutcome, line_of, members_of, outcome_of};
 use crate::text_judge::{Done, Judged, TextJudge, Why, form_of, verdict_line};
 use cs_place::Named;
 use cs_reason_words::Form;
@@ -62,30 +62,9 @@ pub fn run_lines<R: Read, W: Write, E: Write>(
     ensures unread { IfErr result (λ e. IsOfRules e → (input.new ≡ input.old) × (output.new ≡ output.old)) }
     ensures only { IfErr result (λ e. (e ≡ Fault.OutOfMemory) ⊎ (e ≡ Fault.ReadFailed) ⊎ (e ≡ Fault.WriteFailed)) }
 {
-    // What makes the buffers borrows the judge, which is large, so that it is let go at one place.
-    answer_lines(alloc, &mut judge, name, why, input, output, notes)
-}
-
-/// Answers the lines of the input.
-fn answer_lines<R: Read, W: Write, E: Write>(
-    alloc: Global,
-    judge: &mut TextJudge<'_>,
-    name: &str,
-    why: Option<Why<'_>>,
-    input: &mut R,
-    output: &mut W,
-    notes: &mut E,
-) -> Result<LinesOutcome, Fault>
-    ensures done { IfOk result (IsDone (asked_form why.entry) judge.old
-        (R.remaining input.old) (W.contents output.old) (W.contents output.new)) }
-    ensures refused { IfErr result (λ e. LeavesLines (asked_form why.entry) judge.old e
-        (R.remaining input.old) (R.remaining input.new) (W.contents output.old) (W.contents output.new)) }
-    ensures unread { IfErr result (λ e. IsOfRules e → (input.new ≡ input.old) × (output.new ≡ output.old)) }
-    ensures only { IfErr result (λ e. (e ≡ Fault.OutOfMemory) ⊎ (e ≡ Fault.ReadFailed) ⊎ (e ≡ Fault.WriteFailed)) }
-{
     let mut run = LineRun::new(alloc, name)?;
     let mut chunk = vec![in alloc; 0u8; CHUNK]?;
-    answer_chunks(judge, &mut run, why, &mut chunk, input, output, notes)
+    answer_chunks(&mut judge, &mut run, why, &mut chunk, input, output, notes)
 }
 
 /// Answers the lines of the input, as many bytes at a time as the chunk has.
@@ -235,14 +214,13 @@ fn hold_told<W: Write>(
     ensures { IfOk answer.now (λ b. IsTold form b told.now) → HoldsSome result (W.contents output.old) (W.contents output.new)
         held.old held.new (IsWritten form number answer.now) }
 {
+    let mut room = [0u8; MEMBER_ROOM];
     match form {
-        None => held.hold(answer, output),
-        Some(Form::Lines) => held.hold(answer, output),
+        None => held.hold_text(line_of(answer, &mut room), output),
+        Some(Form::Lines) => held.hold_text(line_of(answer, &mut room), output),
         Some(Form::Object(_)) => {
-            let mut front = [0u8; MEMBER_ROOM];
-            let mut room = [0u8; MEMBER_ROOM];
-            let members = members_of(answer, told, &mut room);
-            held.hold_both(front_of(number, &mut front), members, output)
+            held.hold_text(front_of(number, &mut room), output)?;
+            held.hold_text(members_of(answer, told, &mut room), output)
         }
     }
 }
@@ -320,29 +298,14 @@ impl BegunLine {
             return judge.explain(with_text(line, piece), why, told);
         }
         self.add(piece);
-        let answer = self.answered(judge, line, why, told);
-        self.bytes.clear();
-        self.kept = Kept::All;
-        answer
-    }
-
-    /// The answer to the line, with what is told of it.
-    fn answered(
-        &self,
-        judge: &mut TextJudge<'_>,
-        line: Named<'_>,
-        why: Option<Why<'_>>,
-        told: &mut Vec<u8>,
-    ) -> Result<bool, Fault>
-        ensures answer { (line : List ℕ) → HoldsFront self.now line → IsLineAnswer judge.old line result }
-        ensures told { IfOk result (λ b. Tells (asked_form why.entry) b told.old.items told.new.items) }
-        ensures same { judge.new ≡ judge.old }
-    {
-        match self.kept {
+        let answer = match self.kept {
             Kept::All => judge.explain(with_text(line, &self.bytes), why, told),
             Kept::TooLong => Err(Fault::InputTooLong),
             Kept::OutOfMemory => Err(Fault::OutOfMemory),
-        }
+        };
+        self.bytes.clear();
+        self.kept = Kept::All;
+        answer
     }
 }
 

@@ -1,5 +1,5 @@
 // Judging texts one after another by the same rules, and what is told of the verdicts.
-use crate::verdict::{Case, NumberedRules, verdict};
+use crate::verdict::{NumberedRules, verdict};
 use cs_flat::flatten;
 use cs_guard::Guarded;
 use cs_instance_report::Written;
@@ -109,28 +109,20 @@ pub fn prepare<'a>(alloc: Global, rules: &'a Rules) -> Result<Prepared<'a>, Faul
     ensures refused { (text : List ℕ) → IfErr result (IsCallRefusal (call_on rules.now text)) }
     ensures only { AreReadable rules.now → IsOkUnless result Fault.OutOfMemory }
 {
-    let read = read_rules(alloc, rules)?;
-    Ok(Prepared { rules, read })
-}
-
-fn read_rules<'a>(alloc: Global, rules: &'a Rules) -> Result<ReadRules<'a>, Fault>
-    ensures found { IfOk result (λ r. IsReadOf rules.now r) }
-    ensures refused { (text : List ℕ) → IfErr result (IsCallRefusal (call_on rules.now text)) }
-    ensures only { AreReadable rules.now → IsOkUnless result Fault.OutOfMemory }
-{
-    match rules {
+    let read = match rules {
         Rules::Root { sources, root } => {
             let sources = slices_of(alloc, sources)?;
             let guarded = read_root(alloc, &sources, root)?;
-            Ok(ReadRules::Root(guarded, root))
+            ReadRules::Root(guarded, root)
         }
-        Rules::Schema { schema } => Ok(ReadRules::Schema(read_schema_text(alloc, schema)?)),
+        Rules::Schema { schema } => ReadRules::Schema(read_schema_text(alloc, schema)?),
         Rules::Both { sources, root } => {
             let sources = slices_of(alloc, sources)?;
             let (guarded, schema) = read_both(alloc, &sources, root)?;
-            Ok(ReadRules::Both(guarded, root, schema))
+            ReadRules::Both(guarded, root, schema)
         }
-    }
+    };
+    Ok(Prepared { rules, read })
 }
 
 impl Prepared<'_> {
@@ -207,33 +199,10 @@ impl TextJudge<'_> {
     {
         let (alloc, rules, table) = (self.alloc, &self.numbered, &mut self.table);
         match read_document(alloc, document.text, &mut self.scratch)? {
-            Document::Listed(flat) => {
-                let flat = &flat;
-                verdict(
-                    rules,
-                    Case {
-                        alloc,
-                        document,
-                        flat,
-                        why,
-                    },
-                    table,
-                    report,
-                )
-            }
+            Document::Listed(flat) => verdict(alloc, rules, document, &flat, why, table, report),
             Document::Tree(doc) => {
-                let flat = &flatten(alloc, &doc)?;
-                verdict(
-                    rules,
-                    Case {
-                        alloc,
-                        document,
-                        flat,
-                        why,
-                    },
-                    table,
-                    report,
-                )
+                let flat = flatten(alloc, &doc)?;
+                verdict(alloc, rules, document, &flat, why, table, report)
             }
         }
     }

@@ -10,7 +10,7 @@ ghost use Rattle.cs_tool.specs.Runs.{agree};
 ghost use Rattle.cs_tool.specs.Sides.{AreSidesOf};
 ghost use Rattle.cs_tool.specs.declared.rules.Rules.{Rules};
 
-use crate::text_judge::Why;
+use crate::text_judge::{Judged, Why};
 use cs_flat::{Flat, Item};
 use cs_instance::RootRules;
 use cs_instance_reasons::{InstanceCause, explain_instance};
@@ -22,7 +22,7 @@ use cs_tool::Fault;
 use cs_validate::SchemaRules;
 use cs_validity_reasons::{Explanation, explain_validity};
 use cs_validity_report::report_validity;
-use std::alloc::{AllocError, Global};
+use std::alloc::Global;
 
 /// Where there are more reasons than so many, none is looked at but those that are asked for.
 const MOST_COUNTED: usize = 1_000_000;
@@ -43,11 +43,11 @@ pub(crate) enum NumberedRules<'a> {
 
 /// A document as the list of its values, and what is asked about it.
 #[derive(Clone, Copy)]
-pub(crate) struct Case<'a> {
-    pub(crate) alloc: Global,
-    pub(crate) document: Named<'a>,
-    pub(crate) flat: &'a Flat<'a>,
-    pub(crate) why: Option<Why<'a>>,
+struct Case<'a> {
+    alloc: Global,
+    document: Named<'a>,
+    flat: &'a Flat<'a>,
+    why: Option<Why<'a>>,
 }
 
 /// A side on which documents are judged: the definition, or the schema.
@@ -75,14 +75,23 @@ impl Drop for Told<'_> {
 
 /// The verdict by the rules, as the call that judges by them answers. The reasons that are asked for are added to the report.
 pub(crate) fn verdict(
+    alloc: Global,
     rules: &NumberedRules<'_>,
-    case: Case<'_>,
+    document: Named<'_>,
+    flat: &Flat<'_>,
+    why: Option<Why<'_>>,
     table: &mut Verdicts,
     report: &mut Vec<u8>,
-) -> Result<bool, Fault>
-    ensures { (R : Rules) (text : List ℕ) → AreNumbersOf R rules.now → IsReadAs text (document_in case.entry.flat.now)
-        → IsCallVerdict (call_on R text) (asked_form case.entry.why) report.old.items report.new.items result }
+) -> Judged
+    ensures { (R : Rules) (text : List ℕ) → AreNumbersOf R rules.now → IsReadAs text (document_in flat.now)
+        → IsCallVerdict (call_on R text) (asked_form why.entry) report.old.items report.new.items result }
 {
+    let case = Case {
+        alloc,
+        document,
+        flat,
+        why,
+    };
     match rules {
         NumberedRules::Root(rules) => Side::Root(rules).verdict(case, table, report),
         NumberedRules::Schema(rules) => Side::Schema(rules).verdict(case, table, report),
@@ -99,39 +108,32 @@ fn both_verdicts(
     case: Case<'_>,
     table: &mut Verdicts,
     report: &mut Vec<u8>,
-) -> Result<bool, Fault>
+) -> Judged
     ensures { (sources : List (List ℕ)) (root text : List ℕ) → AreSidesOf sources root root_side.now.0 root_side.now.1 schema_side.now
         → IsReadAs text (document_in case.entry.flat.now)
         → IsCallVerdict (agree sources root text) (asked_form case.entry.why) report.old.items report.new.items result }
 {
-    let why = asked_of_root(case.why);
+    let (why, of_schema) = asked_of_sides(case.why);
     let is_instance = Side::Root(root_side).verdict(Case { why, ..case }, table, report)?;
-    let why = asked_of_schema(case.why);
+    let why = of_schema;
     let is_valid = Side::Schema(schema_side).verdict(Case { why, ..case }, table, report)?;
     Ok(is_instance && is_valid)
 }
 
-/// What is asked of the definition, where a document is judged by a schema too.
-fn asked_of_root<'a>(why: Option<Why<'a>>) -> Option<Why<'a>>
-    ensures { asked_form result ≡ root_form (asked_form why.entry) }
+/// What is asked of the definition and of the schema, where a document is judged by both: in the output formats of JSON Schema the schema.
+fn asked_of_sides<'a>(why: Option<Why<'a>>) -> (Option<Why<'a>>, Option<Why<'a>>)
+    ensures root { asked_form result.0 ≡ root_form (asked_form why.entry) }
+    ensures schema { asked_form result.1 ≡ schema_form (asked_form why.entry) }
 {
-    let why = why?;
-    let is_standard = why.form.is_standard();
-    if is_standard { None } else { Some(why) }
-}
-
-/// What is asked of the schema, where a document is judged by a definition too: the reasons in the output formats of JSON Schema.
-fn asked_of_schema<'a>(why: Option<Why<'a>>) -> Option<Why<'a>>
-    ensures { asked_form result ≡ schema_form (asked_form why.entry) }
-{
-    let why = why?;
-    let is_standard = why.form.is_standard();
-    if is_standard { Some(why) } else { None }
+    match why {
+        Some(asked) if asked.form.is_standard() => (None, why),
+        _ => (why, None),
+    }
 }
 
 impl<'a> Side<'a> {
     /// The verdict by the side. The reasons that are asked for are added to the report.
-    fn verdict(self, case: Case<'_>, table: &mut Verdicts, out: &mut Vec<u8>) -> Result<bool, Fault>
+    fn verdict(self, case: Case<'_>, table: &mut Verdicts, out: &mut Vec<u8>) -> Judged
         ensures verdict { IsVerdict self.entry (document_in case.entry.flat.now) result (λ b. b) }
         ensures says { IfOk result (λ b. ReportsAsked (asked_form case.entry.why) b out.old.items out.new.items) }
     {
@@ -144,7 +146,7 @@ impl<'a> Side<'a> {
     }
 
     /// The verdict alone.
-    fn truth(self, flat: &Flat<'_>, table: &mut Verdicts) -> Result<bool, Fault>
+    fn truth(self, flat: &Flat<'_>, table: &mut Verdicts) -> Judged
         ensures { IsVerdict self.entry (document_in flat.now) result (λ b. b) }
     {
         match self {
@@ -203,7 +205,7 @@ impl Told<'_> {
     }
 
     /// Adds the reasons to the report, or in the forms of JSON that there are none.
-    fn report(&self, case: Case<'_>, why: Why<'_>, out: &mut Vec<u8>) -> Result<(), AllocError>
+    fn report(&self, case: Case<'_>, why: Why<'_>, out: &mut Vec<u8>) -> Made<()>
         ensures { OnOk result (Reports why.entry.form (accepts self.now) out.old.items out.new.items) }
     {
         let (alloc, document, flat) = (case.alloc, case.document, case.flat);
@@ -224,10 +226,10 @@ impl Told<'_> {
     /// What is asked again by so many rules: more reasons than are told, where these are looked at.
     fn further(&self, case: Case<'_>, why: Why<'_>, rules: usize) -> Made<Option<Telling>> {
         let (count, told) = self.counts();
-        if !why.form.has_reasons() || count <= told {
+        if !why.form.has_reasons() || count <= told || count > MOST_COUNTED {
             return Ok(None);
         }
-        let most = looked_at(case, rules, count)?;
+        let most = looked_at(case, rules)?.min(count);
         let all = why.telling.all;
         Ok((most > told).then_some(Telling { most, all }))
     }
@@ -243,22 +245,18 @@ impl Told<'_> {
     }
 }
 
-/// How many of so many reasons are looked at. A chain has a step for each value on its way and each rule at most, and all chains
-/// together have one for each value and each rule.
-fn looked_at(case: Case<'_>, rules: usize, count: usize) -> Result<usize, AllocError> {
-    if count > MOST_COUNTED {
-        return Ok(0);
-    }
-    let most = count.min(MOST_REASONS);
+/// How many reasons are looked at. A chain has a step for each value on its way and each rule at most, and all chains together have one
+/// for each value and each rule.
+fn looked_at(case: Case<'_>, rules: usize) -> Made<usize> {
     if case.flat.len().saturating_mul(rules) <= MOST_STEPS {
-        return Ok(most);
+        return Ok(MOST_REASONS);
     }
     let steps = levels_of(case.alloc, case.flat)?.saturating_mul(rules);
-    Ok(MOST_STEPS.checked_div(steps).unwrap_or(0).min(most))
+    Ok(MOST_STEPS.checked_div(steps).unwrap_or(0).min(MOST_REASONS))
 }
 
 /// How many levels a document has: 1 where it is no list and no map.
-fn levels_of(alloc: Global, flat: &Flat<'_>) -> Result<usize, AllocError> {
+fn levels_of(alloc: Global, flat: &Flat<'_>) -> Made<usize> {
     let mut levels: Vec<u8> = Vec::with_capacity(alloc, flat.len())?;
     for item in 0..flat.len() {
         let level_at = |place: usize| levels.get(place).copied().unwrap_or(0);

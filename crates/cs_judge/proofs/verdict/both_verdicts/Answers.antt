@@ -20,8 +20,8 @@ returns c = λ ss r t is read.
     let root = c.in_ok-is_instance.ensures in
     let schema = c.in_ok-is_valid.ensures in
     let same = same_truth ss r t c.args.root_side c.args.schema_side is _ read _ _ root.verdict.found schema.verdict.found in
-    let from_root = rw c.asked_of_root-why.ensures at root.says in
-    let from_schema = rw c.asked_of_schema-why.ensures at schema.says in
+    let from_root = rw c.asked_of_sides.ensures.root at root.says in
+    let from_schema = rw c.asked_of_sides.ensures.schema at schema.says in
     elim c.if-is_instance.branch [
       | then-is_instance w ↦ agreed ss r t c.args.root_side c.args.schema_side is _ read (asked_form c.args.case.why) _ _ _ _ _ _ root.verdict.found schema.verdict.found from_root from_schema (w.result-is ∙ sym same)
       | else-is_instance w ↦ agreed ss r t c.args.root_side c.args.schema_side is _ read (asked_form c.args.case.why) _ _ _ _ _ _ root.verdict.found schema.verdict.found from_root from_schema w.result-is

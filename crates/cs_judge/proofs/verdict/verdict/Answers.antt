@@ -17,4 +17,4 @@ returns-in-Schema c = λ R text is read. record {
 }
 
 pub returns-in-Both : goal.returns-in-Both
-returns-in-Both c = λ R text is read. by_both text _ read c.both_verdicts.result (asked_form c.args.case.why) _ _ R _ _ (subst (AreNumbersOf R) c.in-Both.is is) c.both_verdicts.ensures
+returns-in-Both c = λ R text is read. by_both text _ read c.both_verdicts.result (asked_form c.args.why) _ _ R _ _ (subst (AreNumbersOf R) c.in-Both.is is) c.both_verdicts.ensures

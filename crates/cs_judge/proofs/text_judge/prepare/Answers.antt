@@ -1,7 +1,7 @@
 use Rattle.std.proofs.Common.{subst}
 use Rattle.std.proofs.lemmas.Result.{err_from_is_err_and}
 use Rattle.cs_tool.specs.CallRefusals.{ValidateRefusal}
-use Rattle.cs_judge.proofs.text_judge.read_rules.Goals as goal
+use Rattle.cs_judge.proofs.text_judge.prepare.Goals as goal
 
 pub returns-in_err-read_schema_text-in-Schema-clause-refused : goal.returns-in_err-read_schema_text-in-Schema-clause-refused
 returns-in_err-read_schema_text-in-Schema-clause-refused c = λ text.

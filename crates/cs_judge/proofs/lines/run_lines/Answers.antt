@@ -2,7 +2,7 @@ use Rattle.std.proofs.Common.{inr}
 use Rattle.cs_judge.proofs.LineLists.{if_err}
 use Rattle.cs_judge.proofs.LineRuns.{nothing_read}
 use Rattle.cs_judge.proofs.RulesRefused.{not_of_rules}
-use Rattle.cs_judge.proofs.lines.answer_lines.Goals as goal
+use Rattle.cs_judge.proofs.lines.run_lines.Goals as goal
 
 pub answer_chunks-requires-clause-start : goal.answer_chunks-requires-clause-start
 answer_chunks-requires-clause-start g c =
