@@ -21,17 +21,13 @@ pub fn read_sources(rt: &HostRuntime, paths: &[&str]) -> Result<Vec<Vec<u8>>, Fa
     Ok(sources)
 }
 
-/// The bytes of standard input, as the one source.
-pub fn read_source(rt: &HostRuntime) -> Result<Vec<u8>, Fault> {
-    read_all(rt, None, MOST_BYTES)?.ok_or(Fault::SourcesTooLong)
-}
-
 /// The bytes of the sources that the words name, or of standard input as the one source where they name none.
 pub fn given_sources(call: Call<'_, '_>) -> Result<Vec<Vec<u8>>, Fault> {
-    match call.words.get_strs("FILE") {
-        Some(paths) => read_sources(call.rt, paths),
-        None => Ok(vec![in call.alloc(); read_source(call.rt)?]?),
+    if let Some(paths) = call.words.get_strs("FILE") {
+        return read_sources(call.rt, paths);
     }
+    let source = read_all(call.rt, None, MOST_BYTES)?.ok_or(Fault::SourcesTooLong)?;
+    Ok(vec![in call.alloc(); source]?)
 }
 
 /// The bytes of a schema or a document: of a file, or of standard input where none is named.
@@ -76,18 +72,14 @@ pub fn sources_of(rules: &Rules) -> &[Vec<u8>] {
     }
 }
 
-/// The path of a file that isn't read, and why, in words that are empty where that isn't known.
-type Unread<'m> = Option<(&'m str, &'m str)>;
-
-/// The file that a fault of reading is about: the first one of those that these words of the call name, in the order in which they are read, that
-/// can't be read or is too long. `None` for other faults, and where it isn't found again. A pipe isn't opened again, since that may wait.
-pub(crate) fn unread_file<'m>(call: Call<'m, '_>, fault: &Fault, words: &[&str]) -> Unread<'m> {
-    let mut words = words.iter();
-    words.find_map(|word| first_unread(call, fault, word))
-}
-
-/// The same among the files of one word.
-fn first_unread<'m>(call: Call<'m, '_>, fault: &Fault, word: &str) -> Unread<'m> {
+/// The path of the file that a fault of reading is about, and why it isn't read, in words that are empty where that isn't known: the first one of those that
+/// a word of the call names that can't be read or is too long. `None` for other faults, and where it isn't found again. A pipe isn't opened again, since that
+/// may wait.
+pub(crate) fn unread_file<'m>(
+    call: Call<'m, '_>,
+    fault: &Fault,
+    word: &str,
+) -> Option<(&'m str, &'m str)> {
     for path in call.paths(word) {
         if let Some(cause) = cause_of(call.rt, fault, path) {
             return Some((*path, cause));

@@ -12,11 +12,10 @@ use cs_reasons::Telling;
 use cs_tool::{Fault, Rules, slices_of, write_text};
 use cs_widen::{Profile, schema_stands_for_in, stands_for_in};
 pub use files::{
-    STANDARD_INPUT, given_sources, named_sources, named_text, read_input, read_source,
-    read_sources, sources_of,
+    STANDARD_INPUT, given_sources, named_sources, named_text, read_input, read_sources, sources_of,
 };
 use std::alloc::Global;
-pub use told::{Teller, about_unread, or_told, over_meant, over_sources};
+pub use told::{about_unread, or_told, over_meant, over_sources, tell_refusal};
 
 /// How many reasons are told at most where the words don't say.
 const MOST_REASONS: usize = 20;
@@ -69,15 +68,8 @@ impl<'m, 'w> Call<'m, 'w> {
         };
         let most = self.words.get_one("most").unwrap_or(MOST_REASONS);
         let all = self.words.get_str("why") == Some("all");
-        Some(Reasons {
-            form,
-            telling: Telling { most, all },
-        })
-    }
-
-    /// Whether the words ask for reasons in two ways: in lines, of the closest alternatives, and in a format.
-    pub fn is_at_odds(self) -> bool {
-        self.words.contains_id("format") && self.words.get_str("why") == Some("closest")
+        let telling = Telling { most, all };
+        Some(Reasons { form, telling })
     }
 
     /// The form in which the words ask for refusals to be told; `None` where they don't.

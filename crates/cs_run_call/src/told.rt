@@ -9,6 +9,8 @@ use cs_widen::stands_for_in;
 use std::alloc::{AllocError, Global};
 use std::io::Write;
 
+/// The words that name files, in the order in which these are read.
+const READ: &[&str] = &["schema", "FILE", "doc"];
 /// The names of the sources where none is given.
 const UNNAMED: &[&str] = &[STANDARD_INPUT];
 
@@ -43,10 +45,27 @@ pub fn over_meant<A: FnOnce(&[&[u8]], &[Named<'_>]) -> Status>(
 
 /// The status of an answer; a refusal is told where a form is asked for.
 pub fn or_told(call: Call<'_, '_>, about: About<'_>, answer: Status) -> Status {
+    let side = None;
     match (&answer, call.told_form()) {
-        (Err(fault), Some(form)) => Teller::of(call, form).tell(fault, about),
+        (Err(fault), Some(form)) => Teller { call, form, side }.tell(fault, about),
         _ => answer,
     }
+}
+
+/// The status of a refusal, of the side of a comparison with that word where there is one. It is told where a form is asked for, and which
+/// file can't be read is told in any case.
+pub fn tell_refusal(
+    call: Call<'_, '_>,
+    side: Option<&'static str>,
+    fault: Fault,
+    about: About<'_>,
+) -> Status {
+    let form = match call.told_form() {
+        Some(form) => form,
+        None if matches!(fault, Fault::ReadFailed) => Form::Lines,
+        None => return Err(fault),
+    };
+    Teller { call, form, side }.tell(&fault, about)
 }
 
 /// What is known of a call by the file at fault and why it is, and by files with their bytes.
@@ -65,22 +84,16 @@ pub fn about_unread<'a>(
 
 /// Who tells the refusals of a call.
 #[derive(Clone, Copy)]
-pub struct Teller<'m, 'w> {
-    pub call: Call<'m, 'w>,
-    pub form: Form,
+struct Teller<'m, 'w> {
+    call: Call<'m, 'w>,
+    form: Form,
     /// The word of the side of a comparison that is refused.
-    pub side: Option<&'static str>,
+    side: Option<&'static str>,
 }
 
-impl<'m, 'w> Teller<'m, 'w> {
-    /// Who tells the refusals of a call that compares nothing.
-    pub fn of(call: Call<'m, 'w>, form: Form) -> Teller<'m, 'w> {
-        let side = None;
-        Teller { call, form, side }
-    }
-
+impl<'m> Teller<'m, '_> {
     /// Tells a refusal of what was read in the profile that the words ask for, or of what couldn't be read, and gives its status.
-    pub fn tell(self, fault: &Fault, about: About<'_>) -> Status {
+    fn tell(self, fault: &Fault, about: About<'_>) -> Status {
         if matches!(
             fault,
             Fault::SourcesTooLong | Fault::ReadFailed | Fault::InputTooLong
@@ -96,17 +109,18 @@ impl<'m, 'w> Teller<'m, 'w> {
     /// The same of a call whose input wasn't read, with the file at fault.
     fn tell_unread(self, fault: &Fault) -> Status {
         let found = match self.side {
-            Some(side) => unread_file(self.call, fault, &[side]),
-            None => unread_file(self.call, fault, &["schema", "FILE", "doc"]),
+            Some(side) => unread_file(self.call, fault, side),
+            None => READ
+                .iter()
+                .find_map(|word| unread_file(self.call, fault, word)),
         };
-        let cause = found.map_or("", |(_, cause)| cause);
-        let path = found.map(|(path, _)| path);
+        let (path, cause) = found.unzip();
         let sizes = match (fault, path) {
             (Fault::SourcesTooLong, _) => sizes_of(self.call, self.paths())?,
             (Fault::InputTooLong, Some(path)) => sizes_of(self.call, &[path])?,
             _ => Vec::new(self.call.alloc()),
         };
-        self.tell_known(fault, about_unread(path, cause, &sizes))
+        self.tell_known(fault, about_unread(path, cause.unwrap_or(""), &sizes))
     }
 
     /// Tells a refusal in the form, as that of the side where there is one, and gives its status. Want of memory is told by its number
@@ -182,16 +196,8 @@ fn is_joined(alloc: Global, fault: &Fault, about: About<'_>) -> Result<bool, All
     for source in about.sources {
         texts.push(source.text)?;
     }
-    let meant = stands_for_in(alloc, Profile::Wide, &texts);
-    is_behind(&meant, (*file, *offset))
-}
-
-/// Whether what sources stand for is taken, or refused behind a place.
-fn is_behind(
-    meant: &Result<Option<String>, Fault>,
-    place: (usize, usize),
-) -> Result<bool, AllocError> {
-    match meant {
+    let place = (*file, *offset);
+    match &stands_for_in(alloc, Profile::Wide, &texts) {
         Err(Fault::OutOfMemory) => Err(AllocError),
         Err(Fault::NotOpened { file, offset }) => Ok(place < (*file, *offset)),
         Ok(_) | Err(Fault::Cycle { .. } | Fault::ChainTooLong { .. }) => Ok(true),

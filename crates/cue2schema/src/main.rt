@@ -3,11 +3,9 @@
 
 use clap::ArgMatches;
 use cs_fault_words::About;
+use cs_run_ask::{check, compare, explain, judge, list, write_samples, write_widened};
 use cs_run_call::{COMMAND_LINE, Call, Status, or_told, process_words, show};
-use cs_run_compare::compare;
 use cs_run_export::export;
-use cs_run_judge::judge;
-use cs_run_questions::{check, explain, list, write_samples, write_widened};
 use cs_tool::{command, write_fault};
 use std::process::ExitCode;
 
@@ -39,13 +37,13 @@ fn answered<'m>(rt: &'m HostRuntime, matches: &'m ArgMatches<'_>) -> Status {
     let Some((command, words)) = matches.subcommand() else {
         return Ok(COMMAND_LINE);
     };
-    let call = Call { rt, words };
-    if call.is_at_odds() {
+    if words.contains_id("format") && words.get_str("why") == Some("closest") {
         let _ = eprintln!(rt;
             "error: '--format' tells reasons by itself; beside it only '--why=all' can be given"
         );
         return Ok(COMMAND_LINE);
     }
+    let call = Call { rt, words };
     let answer = match command {
         "export" => export(call),
         "vet" | "validate" | "agree" => judge(call, command),

@@ -1,16 +1,14 @@
 // The command that compares two editions of a definition.
-#![tactic(auto)]
-
 use cs_compare::{
     CompareRefusal, Comparison, Side, Told, compare as compare_sources, write_both,
     write_comparison,
 };
 use cs_fault_words::About;
-use cs_judge::{Prepared, TextJudge, Why, Written, prepare};
+use cs_judge::{Why, Written, prepare};
 use cs_place::Named;
 use cs_reason_words::Form;
 use cs_run_call::{
-    Call, Reasons, Status, Teller, named_sources, named_text, read_sources, sources_of,
+    Call, Reasons, Status, named_sources, named_text, read_sources, sources_of, tell_refusal,
 };
 use cs_tool::{Fault, Rules, slices_of};
 use std::alloc::Global;
@@ -25,45 +23,47 @@ type Compared<T> = Result<T, CompareRefusal>;
 struct Edition<'a> {
     /// What is judged by: the sources, or what they stand for.
     rules: &'a Rules,
-    /// The sources as they were given.
-    sources: &'a [Named<'a>],
+    /// The sources as they were given, with their names.
+    named: &'a [Named<'a>],
     root: &'a str,
 }
 
 impl<'a> Edition<'a> {
-    fn of(rules: &'a Rules, sources: &'a [Named<'a>], root: &'a str) -> Edition<'a> {
-        Edition {
-            rules,
-            sources,
-            root,
-        }
+    fn of(rules: &'a Rules, named: &'a [Named<'a>], root: &'a str) -> Edition<'a> {
+        Edition { rules, named, root }
     }
 
     /// The same by other rules, where there are some.
     fn by(self, meant: Option<&'a Rules>) -> Edition<'a> {
-        Edition::of(meant.unwrap_or(self.rules), self.sources, self.root)
+        let rules = meant.unwrap_or(self.rules);
+        Edition { rules, ..self }
     }
 }
 
 /// The status of `compare`: 0, or 1 where an answer is `breaking`. A refusal is told as the answer would be.
 pub fn compare(call: Call<'_, '_>) -> Status {
-    compared(call).or_else(|refusal| tell_refusal(call, refusal, About::of(&[], "")))
+    match rules_of_both(call) {
+        Ok((old, new)) => compare_rules(call, &old, &new),
+        Err(CompareRefusal { side, fault }) => {
+            tell_refusal(call, side.map(word_of), fault, About::of(&[], ""))
+        }
+    }
 }
 
-/// The same, where the refusals of the input aren't told.
-fn compared(call: Call<'_, '_>) -> Compared<u8> {
+/// The rules of both sides.
+fn rules_of_both(call: Call<'_, '_>) -> Compared<(Rules, Rules)> {
     let old = rules_of(call, Side::Old)?;
     let new = rules_of(call, Side::New)?;
-    Ok(compare_rules(call, &old, &new)?)
+    Ok((old, new))
 }
 
-/// The status of `compare` by the rules of both sides.
-fn compare_rules(call: Call<'_, '_>, old: &Rules, new: &Rules) -> Status {
-    let old_sources = named_sources(call.alloc(), call.paths("old"), sources_of(old))?;
-    let new_sources = named_sources(call.alloc(), call.paths("new"), sources_of(new))?;
-    let before = Edition::of(old, &old_sources, root_of(call, Side::Old));
-    let after = Edition::of(new, &new_sources, root_of(call, Side::New));
-    compare_editions(call, before, after)
+/// The rules of a side, read from its files.
+fn rules_of(call: Call<'_, '_>, side: Side) -> Compared<Rules> {
+    let root = String::from_str(call.alloc(), root_of(call, side))?;
+    let sources = read_sources(call.rt, call.paths(word_of(side))).map_err(
+        |fault| CompareRefusal::of(side, fault),
+    )?;
+    Ok(Rules::Root { sources, root })
 }
 
 /// The word of a side, for its files and before what is told of it.
@@ -82,39 +82,22 @@ fn root_of<'w>(call: Call<'_, 'w>, side: Side) -> &'w str {
     }
 }
 
-/// The rules of a side, read from its files.
-fn rules_of(call: Call<'_, '_>, side: Side) -> Compared<Rules> {
-    let root = String::from_str(call.alloc(), root_of(call, side))?;
-    let sources = read_sources(call.rt, call.paths(word_of(side))).map_err(
-        |fault| CompareRefusal::of(side, fault),
-    )?;
-    Ok(Rules::Root { sources, root })
-}
-
-/// The status of `compare` by the editions of both sides, whose refusals are told by them.
-fn compare_editions<'a>(call: Call<'_, '_>, before: Edition<'a>, after: Edition<'a>) -> Status {
-    let refusal = match write_meant(call, before, after) {
+/// The status of `compare` by the rules of both sides, whose refusals are told by their sources.
+fn compare_rules(call: Call<'_, '_>, old: &Rules, new: &Rules) -> Status {
+    let old_sources = named_sources(call.alloc(), call.paths("old"), sources_of(old))?;
+    let new_sources = named_sources(call.alloc(), call.paths("new"), sources_of(new))?;
+    let before = Edition::of(old, &old_sources, root_of(call, Side::Old));
+    let after = Edition::of(new, &new_sources, root_of(call, Side::New));
+    let CompareRefusal { side, fault } = match write_meant(call, before, after) {
         Ok(is_compatible) => return Ok(if is_compatible { 0 } else { BREAKING }),
         Err(refusal) => refusal,
     };
-    let about = match refusal.side {
-        Some(Side::Old) => About::of(before.sources, before.root),
-        Some(Side::New) => About::of(after.sources, after.root),
+    let about = match side {
+        Some(Side::Old) => About::of(before.named, before.root),
+        Some(Side::New) => About::of(after.named, after.root),
         None => About::of(&[], ""),
     };
-    tell_refusal(call, refusal, about)
-}
-
-/// Tells a refusal as it is asked for, and gives its status. Which file can't be read is told in any case.
-fn tell_refusal(call: Call<'_, '_>, refusal: CompareRefusal, about: About<'_>) -> Status {
-    let CompareRefusal { side, fault } = refusal;
-    let form = match call.told_form() {
-        Some(form) => form,
-        None if matches!(fault, Fault::ReadFailed) => Form::Lines,
-        None => return Err(fault),
-    };
-    let side = side.map(word_of);
-    Teller { call, form, side }.tell(&fault, about)
+    tell_refusal(call, side.map(word_of), fault, about)
 }
 
 /// Writes the answers for what the editions stand for in the profile that the words ask for.
@@ -166,50 +149,18 @@ fn reasons_of(
     to: Edition<'_>,
     reasons: Reasons,
 ) -> Result<Vec<u8>, Fault> {
-    let written = Written::of(alloc, reasons.form, to.sources)?;
-    told_by(alloc, shown, to.rules, &written, reasons)
-}
-
-/// The same from these sources. What is read of rules, and the judge, are large: what makes one hands it on, so that it is let go at one
-/// place.
-fn told_by(
-    alloc: Global,
-    shown: &[u8],
-    rules: &Rules,
-    sources: &Written<'_>,
-    reasons: Reasons,
-) -> Result<Vec<u8>, Fault> {
     let Reasons { form, telling } = reasons;
+    let sources = &Written::of(alloc, form, to.named)?;
     let why = Why {
         sources,
         form,
         telling,
     };
-    let prepared = prepare(alloc, rules)?;
-    told_of(alloc, shown, &prepared, why)
-}
-
-/// The same by rules that were read.
-fn told_of(
-    alloc: Global,
-    shown: &[u8],
-    prepared: &Prepared<'_>,
-    why: Why<'_>,
-) -> Result<Vec<u8>, Fault> {
+    let prepared = prepare(alloc, to.rules)?;
     let mut judge = prepared.judge(alloc)?;
-    told_from(alloc, shown, &mut judge, why)
-}
-
-/// The same from a judge.
-fn told_from(
-    alloc: Global,
-    shown: &[u8],
-    judge: &mut TextJudge<'_>,
-    why: Why<'_>,
-) -> Result<Vec<u8>, Fault> {
     let mut told = Vec::new(alloc);
     judge.explain(named_text("document", shown), Some(why), &mut told)?;
-    let bare = match why.form {
+    let bare = match form {
         Form::Object(_) => told.trim_ascii_end(),
         Form::Lines => told.strip_prefix(b"invalid\n").unwrap_or(&told),
     };

@@ -1,17 +1,14 @@
-// The commands that judge no document, but for `compare`. `check` and `explain` speak of sources and refusals alone.
-#![tactic(auto)]
-
+// The commands that judge no document and compare nothing. `check` and `explain` speak of sources and refusals alone.
 use cs_check::{
     Checked, Findings, schema_findings, source_findings, wide_findings, wide_schema_findings,
 };
 use cs_compare::write_lines;
 use cs_fault_words::{About, explained};
-use cs_guard::Guarded;
 use cs_listing::{put_listing, put_listing_json};
 use cs_place::Named;
 use cs_reason_words::Form;
 use cs_run_call::{
-    COMMAND_LINE, Call, Status, Teller, named_text, over_meant, over_sources, read_input,
+    COMMAND_LINE, Call, Status, named_text, over_meant, over_sources, read_input, tell_refusal,
 };
 use cs_samples::{QuestionFault, SampleTexts, Sampled, samples};
 use cs_tool::{Fault, accepted_package, read_root, write_text};
@@ -21,9 +18,7 @@ use std::io::Write;
 
 /// The numbers that refusals have.
 const NUMBERS: &str = "the numbers are 1 to 17, 20 to 28, 30 and 31";
-/// The status of no sample.
-const INVALID: u8 = 1;
-/// The status of warnings alone, where they count.
+/// The status of warnings alone, and of samples that are left, where they count; and of no sample.
 const WARNED: u8 = 1;
 /// The status of faults.
 const FAULTY: u8 = 2;
@@ -36,13 +31,7 @@ pub fn check(call: Call<'_, '_>) -> Status {
         Some(path) => check_schema(call, path),
         None => over_sources(call, |sources, named| check_sources(call, sources, named)),
     };
-    match answer {
-        Err(Fault::ReadFailed) => Teller::of(call, Form::Lines).tell(
-            &Fault::ReadFailed,
-            About::of(&[], ""),
-        ),
-        answer => answer,
-    }
+    answer.or_else(|fault| tell_refusal(call, None, fault, About::of(&[], "")))
 }
 
 /// The status after all that is found in the sources.
@@ -94,17 +83,12 @@ pub fn list(call: Call<'_, '_>) -> Status {
 
 /// Writes the definitions of the package of these sources, in lines or as an object.
 fn write_listing(call: Call<'_, '_>, sources: &[&[u8]], named: &[Named<'_>]) -> Status {
-    let package = accepted_package(call.alloc(), sources)?;
-    list_package(call, &package, named)
-}
-
-/// Writes the definitions of a package.
-fn list_package(call: Call<'_, '_>, package: &Guarded, named: &[Named<'_>]) -> Status {
     let alloc = call.alloc();
+    let package = accepted_package(alloc, sources)?;
     let mut text = Vec::new(alloc);
     match call.told_form() {
-        Some(Form::Object(_)) => put_listing_json(alloc, named, package, &mut text)?,
-        Some(Form::Lines) | None => put_listing(alloc, named, package, &mut text)?,
+        Some(Form::Object(_)) => put_listing_json(alloc, named, &package, &mut text)?,
+        Some(Form::Lines) | None => put_listing(alloc, named, &package, &mut text)?,
     }
     call.print(&text)
 }
@@ -134,24 +118,16 @@ pub fn write_samples(call: Call<'_, '_>) -> Status {
 
 /// Writes the documents of the root of these sources, and says what is left. What can't be said changes no status.
 fn write_found(call: Call<'_, '_>, sources: &[&[u8]]) -> Status {
+    let alloc = call.alloc();
     let most = call.words.get_one("most").unwrap_or(MOST_SAMPLES);
     let found = found_in(call, sources, most)?;
-    write_texts(call, &found, most)
-}
-
-/// Writes documents that were found, and says what is left.
-fn write_texts(call: Call<'_, '_>, found: &SampleTexts, most: usize) -> Status {
-    let left = left_of(call.alloc(), found, most)?;
-    let has_some = write_lines(call.alloc(), &found.texts, &mut call.rt.stdout())?;
+    let left = left_of(alloc, &found, most)?;
+    let has_some = write_lines(alloc, &found.texts, &mut call.rt.stdout())?;
     if !left.is_empty() {
         let _ = write_text(&mut call.rt.stderr(), left.as_bytes());
     }
     let is_faulty = call.words.get_flag("strict") && !left.is_empty();
-    Ok(match (has_some, is_faulty) {
-        (false, _) => INVALID,
-        (true, true) => WARNED,
-        (true, false) => 0,
-    })
+    Ok(if has_some && !is_faulty { 0 } else { WARNED })
 }
 
 /// The documents of the root of these sources, as many as that at most.
