@@ -306,6 +306,11 @@ impl<'s, 'a> Part<'s, 'a> {
         Some(self.between(from, to))
     }
 
+    /// The first token of its part at a place, where separators are between the parts.
+    pub fn first_of(self, separator: Separator, place: usize) -> Option<Near<'s, 'a>> {
+        self.part(separator, place)?.first()
+    }
+
     /// Of the first tokens of its parts, where separators are between these, the first one that is so.
     pub fn find_first<F: Fn(Near<'_, '_>) -> bool>(
         self,
@@ -315,7 +320,7 @@ impl<'s, 'a> Part<'s, 'a> {
         requires { F.IsAlwaysCallable is_one }
     {
         for at in 0..=self.count(separator) {
-            if let Some(first) = self.part(separator, at)?.first()
+            if let Some(first) = self.first_of(separator, at)
                 && is_one(first)
             {
                 return Some(first);
