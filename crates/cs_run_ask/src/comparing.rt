@@ -4,7 +4,7 @@ use cs_compare::{
     write_comparison,
 };
 use cs_fault_words::About;
-use cs_judge::{Why, Written, prepare};
+use cs_judge::{Prepared, TextJudge, Why, Written, prepare};
 use cs_place::Named;
 use cs_reason_words::Form;
 use cs_run_call::{
@@ -82,12 +82,17 @@ fn root_of<'w>(call: Call<'_, 'w>, side: Side) -> &'w str {
     }
 }
 
-/// The status of `compare` by the rules of both sides, whose refusals are told by their sources.
+/// The status of `compare` by the rules of both sides.
 fn compare_rules(call: Call<'_, '_>, old: &Rules, new: &Rules) -> Status {
     let old_sources = named_sources(call.alloc(), call.paths("old"), sources_of(old))?;
     let new_sources = named_sources(call.alloc(), call.paths("new"), sources_of(new))?;
     let before = Edition::of(old, &old_sources, root_of(call, Side::Old));
     let after = Edition::of(new, &new_sources, root_of(call, Side::New));
+    compare_editions(call, before, after)
+}
+
+/// The status of `compare` by the editions of both sides, whose refusals are told by them.
+fn compare_editions<'a>(call: Call<'_, '_>, before: Edition<'a>, after: Edition<'a>) -> Status {
     let CompareRefusal { side, fault } = match write_meant(call, before, after) {
         Ok(is_compatible) => return Ok(if is_compatible { 0 } else { BREAKING }),
         Err(refusal) => refusal,
@@ -149,18 +154,50 @@ fn reasons_of(
     to: Edition<'_>,
     reasons: Reasons,
 ) -> Result<Vec<u8>, Fault> {
+    let written = Written::of(alloc, reasons.form, to.named)?;
+    told_by(alloc, shown, to.rules, &written, reasons)
+}
+
+/// The same from these sources. What is read of rules, and the judge, are large: what makes one hands it on, so that it is let go at one
+/// place.
+fn told_by(
+    alloc: Global,
+    shown: &[u8],
+    rules: &Rules,
+    sources: &Written<'_>,
+    reasons: Reasons,
+) -> Result<Vec<u8>, Fault> {
     let Reasons { form, telling } = reasons;
-    let sources = &Written::of(alloc, form, to.named)?;
     let why = Why {
         sources,
         form,
         telling,
     };
-    let prepared = prepare(alloc, to.rules)?;
+    let prepared = prepare(alloc, rules)?;
+    told_of(alloc, shown, &prepared, why)
+}
+
+/// The same by rules that were read.
+fn told_of(
+    alloc: Global,
+    shown: &[u8],
+    prepared: &Prepared<'_>,
+    why: Why<'_>,
+) -> Result<Vec<u8>, Fault> {
     let mut judge = prepared.judge(alloc)?;
+    told_from(alloc, shown, &mut judge, why)
+}
+
+/// The same from a judge.
+fn told_from(
+    alloc: Global,
+    shown: &[u8],
+    judge: &mut TextJudge<'_>,
+    why: Why<'_>,
+) -> Result<Vec<u8>, Fault> {
     let mut told = Vec::new(alloc);
     judge.explain(named_text("document", shown), Some(why), &mut told)?;
-    let bare = match form {
+    let bare = match why.form {
         Form::Object(_) => told.trim_ascii_end(),
         Form::Lines => told.strip_prefix(b"invalid\n").unwrap_or(&told),
     };

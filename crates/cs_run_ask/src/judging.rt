@@ -5,6 +5,7 @@ use cs_judge::{
     write_unread,
 };
 use cs_place::{Label, Made, Named};
+use cs_reason_words::Form;
 use cs_run_call::{
     Call, Reasons, STANDARD_INPUT, Status, given_sources, named_sources, named_text, or_told,
     read_input, sources_of,
@@ -93,28 +94,44 @@ fn judge_meant(
     sources: &[Named<'_>],
     document: Option<Named<'_>>,
 ) -> Status {
-    let Some(Reasons { form, telling }) = call.reasons() else {
-        let why = None;
-        return Judging { call, rules, why }.judge(document);
+    let (form, told): (Form, &[Named<'_>]) = match call.reasons() {
+        Some(reasons) => (reasons.form, sources),
+        None => (Form::Lines, &[]),
     };
-    let sources = &Written::of(call.alloc(), form, sources)?;
-    let why = Some(Why {
+    let written = Written::of(call.alloc(), form, told)?;
+    judge_by(call, rules, &written, document)
+}
+
+/// The status of the one document, or where there is none of those that the words name. Reasons are told from these sources.
+fn judge_by(
+    call: Call<'_, '_>,
+    rules: &Rules,
+    sources: &Written<'_>,
+    document: Option<Named<'_>>,
+) -> Status {
+    let why = why_of(call, sources);
+    Judging { call, rules, why }.judge(document)
+}
+
+/// How the words ask for reasons, which are told from these sources.
+fn why_of<'a>(call: Call<'_, '_>, sources: &'a Written<'a>) -> Option<Why<'a>> {
+    let Reasons { form, telling } = call.reasons()?;
+    Some(Why {
         sources,
         form,
         telling,
-    });
-    Judging { call, rules, why }.judge(document)
+    })
 }
 
 /// By what documents are judged, and how they are explained where that is asked for.
 #[derive(Clone, Copy)]
-struct Judging<'m, 'w, 'y> {
+struct Judging<'m, 'w, 'r, 'y> {
     call: Call<'m, 'w>,
-    rules: &'y Rules,
+    rules: &'r Rules,
     why: Option<Why<'y>>,
 }
 
-impl Judging<'_, '_, '_> {
+impl Judging<'_, '_, '_, '_> {
     /// The status of the one document, or where there is none of those that the words name. These are opened before the rules are looked at.
     fn judge(self, document: Option<Named<'_>>) -> Status {
         let Judging { call, .. } = self;

@@ -9,8 +9,6 @@ use cs_widen::stands_for_in;
 use std::alloc::{AllocError, Global};
 use std::io::Write;
 
-/// The words that name files, in the order in which these are read.
-const READ: &[&str] = &["schema", "FILE", "doc"];
 /// The names of the sources where none is given.
 const UNNAMED: &[&str] = &[STANDARD_INPUT];
 
@@ -109,18 +107,17 @@ impl<'m> Teller<'m, '_> {
     /// The same of a call whose input wasn't read, with the file at fault.
     fn tell_unread(self, fault: &Fault) -> Status {
         let found = match self.side {
-            Some(side) => unread_file(self.call, fault, side),
-            None => READ
-                .iter()
-                .find_map(|word| unread_file(self.call, fault, word)),
+            Some(side) => unread_file(self.call, fault, &[side]),
+            None => unread_file(self.call, fault, &["schema", "FILE", "doc"]),
         };
-        let (path, cause) = found.unzip();
+        let cause = found.map_or("", |(_, cause)| cause);
+        let path = found.map(|(path, _)| path);
         let sizes = match (fault, path) {
             (Fault::SourcesTooLong, _) => sizes_of(self.call, self.paths())?,
             (Fault::InputTooLong, Some(path)) => sizes_of(self.call, &[path])?,
             _ => Vec::new(self.call.alloc()),
         };
-        self.tell_known(fault, about_unread(path, cause.unwrap_or(""), &sizes))
+        self.tell_known(fault, about_unread(path, cause, &sizes))
     }
 
     /// Tells a refusal in the form, as that of the side where there is one, and gives its status. Want of memory is told by its number
