@@ -25,21 +25,6 @@ pub struct SampleTexts {
     pub untried: usize,
 }
 
-impl SampleTexts {
-    /// These texts, where no others were looked for.
-    pub(crate) fn alone(texts: Vec<Vec<u8>>) -> SampleTexts
-        ensures texts { result.texts ≡ texts }
-        ensures more { result.more ≡ 0 }
-    {
-        SampleTexts {
-            texts,
-            more: 0,
-            is_complete: true,
-            untried: 0,
-        }
-    }
-}
-
 /// The texts of documents of the root, a definition of the package named with its `#`, or of documents that just fail, no two alike,
 /// and at most as many as are asked for; and how many others were found. Hidden characters stand in them as escapes.
 ///
@@ -95,10 +80,7 @@ pub fn samples(
     if found.tally.is_limited {
         return Err(QuestionFault::TooManyCases);
     }
-    match which {
-        Sampled::Valid if most > 0 => one_instance(&asking, found.budget),
-        Sampled::Valid | Sampled::Invalid => Ok(SampleTexts::alone(Vec::new(alloc))),
-    }
+    one_instance(&asking, most, found.budget)
 }
 
 /// The first ones of those that were found, as many as are asked for, and what is known of the others.
@@ -119,22 +101,37 @@ fn first_of(found: Found, most: usize) -> SampleTexts
     }
 }
 
-/// The instance that the question about the root as it stands finds; none where nothing is an instance of the root.
-fn one_instance(asking: &Asking<'_, '_>, mut budget: Budget) -> Result<SampleTexts, QuestionFault>
-    ensures samples { IfOk result (λ s. AreSamples asking.now.package.now asking.now.root.now Sampled.Valid s.texts.items) }
-    ensures one { IfOk result (λ s. length s.texts.items ≤ 1) }
+/// What is known where the places have no documents: the instance that the question about the root as it stands finds, where one is
+/// asked for, and nothing else; none where nothing is an instance of the root.
+fn one_instance(
+    asking: &Asking<'_, '_>,
+    most: usize,
+    mut budget: Budget,
+) -> Result<SampleTexts, QuestionFault>
+    ensures samples { IfOk result (λ s. AreSamples asking.now.package.now asking.now.root.now asking.now.which s.texts.items) }
+    ensures within { IfOk result (λ s. length s.texts.items ≤ most) }
     ensures distinct { IfOk result (λ s. IsDistinct same_text s.texts.items) }
     ensures more { IfOk result (λ s. s.more ≡ 0) }
-    ensures none { IfOk result (λ s. s.texts.items ≡ [] → HasNoInstance asking.now.package.now asking.now.root.now) }
+    ensures none { asking.now.which ≡ Sampled.Valid → 0 < most → IfOk result (λ s. s.texts.items ≡ [] → HasNoInstance asking.now.package.now asking.now.root.now) }
     ensures unknown { IsErrOf result QuestionFault.UnknownRoot → (n : List ℕ) → ¬ Names asking.now.package.now asking.now.root.now n }
 {
+    let mut one = SampleTexts {
+        texts: Vec::new(asking.alloc),
+        more: 0,
+        is_complete: true,
+        untried: 0,
+    };
+    if most == 0 || !asking.which.is_valid() {
+        return Ok(one);
+    }
     let Some(doc) = instance_of(asking.alloc, asking.package, asking.root, &mut budget)? else {
-        return Ok(SampleTexts::alone(Vec::new(asking.alloc)));
+        return Ok(one);
     };
     let Some(text) = shown_text(asking.alloc, &doc)? else {
         return Err(QuestionFault::TooManyCases);
     };
-    Ok(SampleTexts::alone(vec![in asking.alloc; text]?))
+    one.texts.push(text)?;
+    Ok(one)
 }
 
 /// Asks the questions of all places, in turns, and where no document just fails, for any that the root refuses.

@@ -55,13 +55,15 @@ impl Walk<'_> {
         self.guarded(&[self.root], vec![in self.alloc; anything]?)
     }
 
-    /// The package of copies of these definitions with these bodies, where it is guarded.
+    /// The package of copies of these definitions with these bodies, where it is guarded, each reference is to one of them, and
+    /// each `&` and `|` has two operands or more. This is looked at here, instead of being said of each change.
     fn guarded(&self, definitions: &[usize], bodies: Vec<Vec<Shape>>) -> Made<Option<Guarded>> {
         let names = names_of(self.alloc, self.package, definitions)?;
-        let Some(package) = whole(names, bodies) else {
+        let count = names.len();
+        if count != bodies.len() || !are_all_sound(count, &bodies) {
             return Ok(None);
-        };
-        match guard(self.alloc, package) {
+        }
+        match guard(self.alloc, package_of(names, bodies)) {
             Ok(guarded) => Ok(Some(guarded)),
             Err(GuardFault::OutOfMemory) => Err(AllocError),
             Err(GuardFault::Cycle { .. } | GuardFault::ChainTooLong { .. }) => Ok(None),
@@ -121,31 +123,23 @@ fn names_of(alloc: Global, package: &Package, definitions: &[usize]) -> Made<Nam
     let mut names = IndexMap::new(alloc);
     for definition in definitions {
         if *definition < package.count() {
-            let name = fresh_name(alloc, &names, package.bare_name(*definition))?;
-            put_name(alloc, &mut names, name)?;
+            put_name(alloc, &mut names, package.bare_name(*definition))?;
         }
     }
     Ok(names)
 }
 
-/// Puts a name among these.
-fn put_name(alloc: Global, names: &mut NameTable, name: String) -> Made<()>
+/// Puts a name that is new among these, and beside it the text that it is written as, with `#`.
+fn put_name(alloc: Global, names: &mut NameTable, name: &str) -> Made<()>
     requires table { IsTable names.old.entries }
-    requires spelled { IsDefinitionName (string_bytes name) }
+    requires spelled { IsDefinitionName name.now }
     ensures { OnOk result (IsTable names.new.entries) }
 {
-    let written = written_name(alloc, &name)?;
-    drop(names.insert(name, written)?);
-    Ok(())
-}
-
-/// A name as it is written, with `#`.
-fn written_name(alloc: Global, name: &String) -> Made<String>
-    ensures { IfOk result (λ w. string_bytes w ≡ written (string_bytes name.now)) }
-{
+    let fresh = fresh_name(alloc, names, name)?;
     let mut written = String::from_str(alloc, "#")?;
-    written.push_str(name.as_str())?;
-    Ok(written)
+    written.push_str(fresh.as_str())?;
+    drop(names.insert(fresh, written)?);
+    Ok(())
 }
 
 /// A name with as many `_` behind it as make it a new one.
@@ -161,19 +155,6 @@ fn fresh_name(alloc: Global, names: &NameTable, name: &str) -> Made<String>
         fresh.push_str("_")?;
     }
     Ok(fresh)
-}
-
-/// The package of these names and bodies, where they are as many, each reference is to one of them, and each `&` and `|` has two
-/// operands or more. This is looked at here, instead of being said of each change.
-fn whole(names: NameTable, bodies: Vec<Vec<Shape>>) -> Option<Package>
-    requires { IsTable names.entries }
-{
-    let count = names.len();
-    if count == bodies.len() && are_all_sound(count, &bodies) {
-        Some(package_of(names, bodies))
-    } else {
-        None
-    }
 }
 
 fn are_all_sound(count: usize, bodies: &[Vec<Shape>]) -> bool
@@ -201,40 +182,20 @@ fn is_sound(count: usize, shape: &Shape) -> bool
     match shape.inside() {
         Inside::Simple(_) => true,
         Inside::Definition(number) => number < count,
-        Inside::And(operands) => are_operands(count, operands),
-        Inside::Or(operands) => are_operands(count, operands),
-        Inside::Struct { parts, .. } => are_sound_parts(count, parts),
-        Inside::List { front, end } => are_sound(count, front) && is_sound_end(count, end),
-    }
-}
-
-#[cycle(sound)]
-fn are_sound_parts(count: usize, parts: &[Part]) -> bool
-    ensures { IsTrue result → AllByRecursion (IsSoundPart count) parts.now }
-{
-    for part in parts {
-        if !is_sound(count, &part.value) {
-            return false;
+        Inside::And(operands) | Inside::Or(operands) => {
+            operands.len() >= 2 && are_sound(count, operands)
         }
-    }
-    true
-}
-
-/// Whether there are two or more, and each is sound.
-#[cycle(sound)]
-fn are_operands(count: usize, operands: &[Shape]) -> bool
-    ensures two { IsTrue result → 2 ≤ length operands.now }
-    ensures sound { IsTrue result → AllByRecursion (IsSound count) operands.now }
-{
-    operands.len() >= 2 && are_sound(count, operands)
-}
-
-#[cycle(sound)]
-fn is_sound_end(count: usize, end: &ShapeEnd) -> bool
-    ensures { IsTrue result → IsSoundEnd count end.now }
-{
-    match end {
-        ShapeEnd::Closed | ShapeEnd::Any => true,
-        ShapeEnd::Each(shape) => is_sound(count, shape),
+        Inside::Struct { parts, .. } => {
+            for part in parts {
+                if !is_sound(count, &part.value) {
+                    return false;
+                }
+            }
+            true
+        }
+        Inside::List { front, end } => match end {
+            ShapeEnd::Closed | ShapeEnd::Any => are_sound(count, front),
+            ShapeEnd::Each(shape) => are_sound(count, front) && is_sound(count, shape),
+        },
     }
 }
