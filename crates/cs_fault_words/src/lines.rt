@@ -115,7 +115,8 @@ fn put_characters(text: &mut String, line: &str, left: usize, are_shown: bool) -
     Ok(())
 }
 
-/// What docs/REFUSALS.md says of a number: for each of its rows two lines, with the meaning and with what to do. Only memory can run out.
+/// What docs/REFUSALS.md says of a number: for each of its rows a line with the number and the meaning, and one with what to do. `None` for a number
+/// that no refusal has. Only memory can run out.
 pub fn explained(alloc: Global, number: u32) -> Made<Option<String>> {
     let mut text = String::new(alloc);
     for row in EXPLANATIONS {
