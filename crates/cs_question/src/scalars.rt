@@ -1,14 +1,13 @@
 // What rules say of a document by its outline: its kind, and the value of a scalar; and an integer and a text that are all that is asked.
-ghost use Rattle.std.specs.Prelude.{◌≡◌, ℤ, [], false, FitsSigned, IfOk, IsNone, OnOk, ◌<◌, ◌≤◌, ℕ, List, length, string_bytes, All};
+ghost use Rattle.std.specs.Prelude.{◌≡◌, ℤ, false, FitsSigned, IfOk, IsNone, OnOk, ◌<◌, ℕ, List, length, string_bytes, All};
 ghost use Rattle.std.specs.Int.{w64};
 ghost use Rattle.cs_flat.specs.View.{item_view};
 ghost use Rattle.cs_instance.specs.Constraint.{outline};
 ghost use Rattle.cs_document.specs.Opened.{an_integer, a_text};
 ghost use Rattle.cs_package.specs.Expression.{range};
-ghost use Rattle.cs_package.specs.View.{expression_of};
 ghost use Rattle.cs_instance.specs.Steps.{test_of};
 ghost use Rattle.cs_question.specs.Nodes.{asked_of};
-ghost use Rattle.cs_question.specs.Outlines.{verdict_of, may, may_all, AreMarked, IsToldBy, HasMore, IsNoneBeside, IsOneMarked, AreMarkedTexts, IsToldByText};
+ghost use Rattle.cs_question.specs.Outlines.{verdict_of, may, may_all, AreMarked, IsToldBy, HasMore, IsNoneBeside, IsOneMarked, AreMarkedTexts};
 ghost use Rattle.cs_question.specs.Outlines.{IsOneMarkedText, HasMoreTexts};
 
 use crate::fault::Made;
@@ -38,11 +37,8 @@ fn verdict(node: &Node<'_>, item: &Item<'_>) -> Option<bool>
 fn may_meet(nodes: &Nodes<'_>, literal: Literal, item: &Item<'_>) -> bool
     ensures { result ≡ may nodes.now (outline (item_view item.now)) literal }
 {
-    let Some(node) = nodes.of(literal) else {
-        return true;
-    };
-    match verdict(node, item) {
-        Some(verdict) => verdict == literal.holds,
+    match nodes.of(literal) {
+        Some(node) => verdict(node, item) != Some(!literal.holds),
         None => true,
     }
 }
@@ -65,24 +61,16 @@ fn mark_range(marks: &mut Vec<i64>, least: i64, greatest: Option<i64>) -> Made<(
     }
 }
 
-/// Marks what an expression that looks at no part compares integers with.
-fn mark_shape(marks: &mut Vec<i64>, shape: &Shape) -> Made<()>
-    ensures told { OnOk result (IsToldBy (test_of (expression_of [] shape.now)) marks.new.items) }
-    ensures more { OnOk result (HasMore marks.old.items marks.new.items) }
-{
-    match shape.comparison() {
-        Comparison::Integer(integer) => Ok(marks.push(integer)?),
-        Comparison::Range { least, greatest } => mark_range(marks, least, greatest),
-        Comparison::Nothing | Comparison::Text(_) => Ok(()),
-    }
-}
-
 fn mark(marks: &mut Vec<i64>, nodes: &Nodes<'_>, literal: Literal) -> Made<()>
     ensures told { OnOk result (IsOneMarked nodes.now literal marks.new.items) }
     ensures more { OnOk result (HasMore marks.old.items marks.new.items) }
 {
     match nodes.of(literal) {
-        Some(Node::Simple(shape)) => mark_shape(marks, shape),
+        Some(Node::Simple(shape)) => match shape.comparison() {
+            Comparison::Integer(integer) => Ok(marks.push(integer)?),
+            Comparison::Range { least, greatest } => mark_range(marks, least, greatest),
+            Comparison::Nothing | Comparison::Text(_) => Ok(()),
+        },
         Some(Node::Within { least, greatest }) => mark_range(marks, *least, *greatest),
         _ => Ok(()),
     }
@@ -139,16 +127,6 @@ pub(crate) fn integer_of(nodes: &Nodes<'_>, asked: &[Literal]) -> Made<Option<i6
     Ok(None)
 }
 
-/// The text that an expression that looks at no part compares with.
-fn mark_of<'a>(shape: &'a Shape) -> Option<&'a str>
-    ensures { IsToldByText (test_of (expression_of [] shape.now)) result }
-{
-    match shape.comparison() {
-        Comparison::Text(text) => Some(text),
-        Comparison::Nothing | Comparison::Integer(_) | Comparison::Range { .. } => None,
-    }
-}
-
 /// Marks the text that a rule compares with.
 fn mark_text<'a>(marks: &mut Vec<&'a str>, nodes: &Nodes<'a>, literal: Literal) -> Made<()>
     ensures told { OnOk result (IsOneMarkedText nodes.now literal marks.new.items) }
@@ -157,9 +135,9 @@ fn mark_text<'a>(marks: &mut Vec<&'a str>, nodes: &Nodes<'a>, literal: Literal) 
     let Some(Node::Simple(shape)) = nodes.of(literal) else {
         return Ok(());
     };
-    match mark_of(shape) {
-        Some(text) => Ok(marks.push(text)?),
-        None => Ok(()),
+    match shape.comparison() {
+        Comparison::Text(text) => Ok(marks.push(text)?),
+        Comparison::Nothing | Comparison::Integer(_) | Comparison::Range { .. } => Ok(()),
     }
 }
 
