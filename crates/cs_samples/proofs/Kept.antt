@@ -1,8 +1,8 @@
 -- Texts that are kept, each once.
-use Rattle.std.proofs.Common.{◌≡◌, ◌+◌, ◌≤◌, ℕ, List, [], ◌∷◌, ◌++◌, Bool, true, false, ◌||◌, cond, length, refl, sym, ap, ap₂, ◌∙◌, subst, arith}
+use Rattle.std.proofs.Common.{◌≡◌, ℕ, List, [], ◌∷◌, ◌++◌, Bool, true, false, ◌||◌, cond, refl, sym, ap, ◌∙◌, subst}
 use Rattle.std.specs.Prelude.{Vec}
 use Rattle.std.specs.BTreeSet.{BTreeSet, contains, Updates}
-use Rattle.std.specs.List.{IsDistinct, list_any, AllByRecursion as Each}
+use Rattle.std.specs.List.{IsDistinct, list_any}
 use Rattle.std.specs.Ordering.{is_eq}
 use Rattle.std.specs.Str.{bytes_eq}
 use Rattle.std.specs.Cmp.{IsEquivalence}
@@ -67,12 +67,9 @@ found-more a f g k t more is new puts one h =
       seen = λ q e. put_in f.seen g.seen k t q is puts ∙ still (same_text q t) (list_any (same_text q) ts) (contains text_cmp f.seen q) (h.seen q) (sym (ap (list_any (same_text q)) more ∙ list_any-append (same_text q) ts (t ∷ [])) ∙ e);
     }
 
-pub distinct-none : IsDistinct same_text []
+distinct-none : IsDistinct same_text []
 unfolding IsDistinct
 distinct-none = tt
-
-pub distinct-one : (t : Vec ℕ Global) → IsDistinct same_text (t ∷ [])
-distinct-one t = IsDistinct-push texts_equal [] t distinct-none refl
 
 -- nothing is found yet
 pub found-none : (a : Asking) (f : Found) → f.texts.items ≡ [] → AreFound a f

@@ -1,12 +1,11 @@
 // The questions that places ask, the documents that they find, and how far they come.
-ghost use Rattle.std.specs.Prelude.{IfOk, IfSome, IsTrue};
+ghost use Rattle.std.specs.Prelude.{IfOk, IfSome};
 ghost use Rattle.cs_document.specs.View.{doc_view};
 ghost use Rattle.cs_question.specs.ReadAgain.{IsReadAgain};
-ghost use Rattle.cs_samples.specs.Sample.{IsAsAsked};
 
 use cs_document::Doc;
 use cs_guard::Guarded;
-use cs_instance::{InstanceFault, is_instance};
+use cs_instance::is_instance;
 use cs_json::shown_text;
 use cs_question::{Answered, Budget, QuestionFault, instance_of, separating};
 use cs_variants::{Place, Sampled, Walk, Where};
@@ -82,7 +81,8 @@ impl Asking<'_, '_> {
         let Some(doc) = self.found(variant, budget)? else {
             return Ok(None);
         };
-        if !self.is_sample(&doc)? {
+        let is_valid = is_instance(self.alloc, self.package, self.root, &doc)?;
+        if is_valid != self.which.is_valid() {
             return Ok(None);
         }
         match shown_text(self.alloc, &doc)? {
@@ -107,13 +107,6 @@ impl Asking<'_, '_> {
             }
         }
     }
-
-    fn is_sample(&self, doc: &Doc) -> Result<bool, InstanceFault>
-        ensures { IfOk result (λ b. IsTrue b → IsAsAsked self.now.package.now self.now.root.now self.now.which (doc_view doc.now)) }
-    {
-        let is_valid = is_instance(self.alloc, self.package, self.root, doc)?;
-        Ok(is_valid == self.which.is_valid())
-    }
 }
 
 /// The steps for each byte of a document's text: the document is built, judged and written, some ten microseconds a value.
@@ -122,13 +115,19 @@ const STEPS_OF_BYTE: usize = 10;
 /// The steps that counting the documents beyond those that are asked for may take, even where the documents took fewer.
 const LEAST_FOR_COUNTING: usize = 100_000;
 
+/// The steps that are left for a question about the root as a whole, as long as there is no document.
+const RESERVED: usize = 500_000;
+
 /// The texts of the documents that questions answered, in the order of the questions, no two alike; how far the questions came, and
 /// what is left for them.
 #[derive(Drop)]
 pub(crate) struct Found {
     pub(crate) texts: Vec<Vec<u8>>,
     seen: BTreeSet<Vec<u8>>,
-    pub(crate) tally: Tally,
+    /// For which rules no question was answered.
+    pub(crate) is_open: Vec<bool>,
+    /// Whether a limit was met, or memory ran out.
+    pub(crate) is_limited: bool,
     pub(crate) budget: Budget,
 }
 
@@ -136,41 +135,45 @@ impl Found {
     ghost use Rattle.cs_samples.specs.Answers.{IsAnswer};
     ghost use Rattle.cs_samples.specs.Kept.{AreFound};
 
-    /// Nothing is found yet, and no question is asked.
-    pub(crate) fn new(asking: &Asking<'_, '_>) -> Result<Found, AllocError>
+    /// Asks the questions of all places, and where no document just fails, for any that the root refuses. Where memory runs out, the
+    /// documents so far stay.
+    pub(crate) fn of(asking: &Asking<'_, '_>, most: usize) -> Result<Found, AllocError>
         ensures { IfOk result (AreFound asking.now) }
     {
-        let tally = Tally {
-            is_open: vec![in asking.alloc; true; asking.walk.rules]?,
-            unasked: asking.walk.places.len(),
-            is_unmet: false,
-            is_limited: false,
-        };
-        Ok(Found {
+        let is_open = vec![in asking.alloc; true; asking.walk.rules]?;
+        let mut found = Found {
             texts: Vec::new(asking.alloc),
             seen: BTreeSet::new(asking.alloc),
-            tally,
+            is_open,
+            is_limited: false,
             budget: Budget::new(),
-        })
+        };
+        match found.ask_each(asking, most) {
+            Ok(()) if found.texts.is_empty() && !asking.which.is_valid() => found.ask_any(asking)?,
+            Ok(()) => {}
+            Err(refused) if found.texts.is_empty() => return Err(refused),
+            Err(_) => found.is_limited = true,
+        }
+        Ok(found)
     }
 
-    /// Asks the questions of all places, in turns, as far as the budget lasts. Where memory runs out, the documents so far stay. Those
-    /// beyond the ones that are asked for are counted alone, by as many steps as were taken of these.
-    pub(crate) fn ask_each(&mut self, asking: &Asking<'_, '_>, most: usize) -> Answered<()>
+    /// Asks the questions of all places, in turns, as far as the budget lasts. The documents beyond those that are asked for are counted
+    /// alone, by as many steps as were taken of these.
+    fn ask_each(&mut self, asking: &Asking<'_, '_>, most: usize) -> Result<(), AllocError>
         requires { AreFound asking.now self.old }
         ensures { AreFound asking.now self.new }
     {
-        let walk = asking.walk;
-        let whole = self.budget.steps;
-        for turn in &walk.in_turns()? {
-            let has_none = self.texts.is_empty();
-            if self.tally.is_over(asking.which, has_none, &self.budget) {
+        let (whole, is_valid) = (self.budget.steps, asking.which.is_valid());
+        for place in &asking.walk.places {
+            let is_reserved = !is_valid && self.texts.is_empty();
+            if self.budget.steps == 0 || (is_reserved && self.budget.steps <= RESERVED) {
+                self.is_limited = true;
                 break;
             }
-            if let Some(place) = walk.places.get(turn.2) {
-                let answer = asking.asked(place, &mut self.budget);
-                self.tally.note(place.rule, &answer);
-                self.take(asking, answer)?;
+            self.ask(asking, place)?;
+            // The first question is about the root as it stands: where that has no instance, no place has one.
+            if is_valid && self.texts.is_empty() && !self.is_limited {
+                break;
             }
             if self.texts.len() >= most {
                 let taken = whole.saturating_sub(self.budget.steps);
@@ -180,25 +183,35 @@ impl Found {
         Ok(())
     }
 
-    /// Asks for any document that is no instance of the root, where such documents are asked for.
-    pub(crate) fn ask_any(&mut self, asking: &Asking<'_, '_>) -> Answered<()>
+    /// Asks the question of a place, and notes for its rule whether it is answered.
+    fn ask(&mut self, asking: &Asking<'_, '_>, place: &Place<'_>) -> Result<(), AllocError>
         requires { AreFound asking.now self.old }
         ensures { AreFound asking.now self.new }
     {
-        if asking.which.is_valid() {
-            return Ok(());
+        let answer = asking.asked(place, &mut self.budget);
+        self.is_limited |= answer.is_err();
+        if let Some(is_open) = self.is_open.get_mut(place.rule) {
+            *is_open &= answer.is_err();
         }
-        let walk = asking.walk;
-        let answer = asking.answered(walk.of_everything()?, &mut self.budget);
+        self.take(asking, answer)
+    }
+
+    /// Asks for any document that is no instance of the root.
+    fn ask_any(&mut self, asking: &Asking<'_, '_>) -> Result<(), AllocError>
+        requires { AreFound asking.now self.old }
+        ensures { AreFound asking.now self.new }
+    {
+        let anything = asking.walk.of_everything()?;
+        let answer = asking.answered(anything, &mut self.budget);
         // Where there is no document, no limit kept one from being found.
         if !matches!(answer, Ok(Some(_))) {
-            self.tally.is_limited = answer.is_err();
+            self.is_limited = answer.is_err();
         }
         self.take(asking, answer)
     }
 
     /// Puts the text that is answered, if there is one, behind the others, unless it is one of them, and counts what it took.
-    fn take(&mut self, asking: &Asking<'_, '_>, answer: Answer) -> Answered<()>
+    fn take(&mut self, asking: &Asking<'_, '_>, answer: Answer) -> Result<(), AllocError>
         requires answer { IfOk answer (IsAnswer asking.now) }
         requires found { AreFound asking.now self.old }
         ensures { AreFound asking.now self.new }
@@ -208,7 +221,7 @@ impl Found {
             Ok(None) | Err(QuestionFault::UnknownRoot | QuestionFault::TooManyCases) => {
                 return Ok(());
             }
-            Err(QuestionFault::OutOfMemory) => return Err(QuestionFault::OutOfMemory),
+            Err(QuestionFault::OutOfMemory) => return Err(AllocError),
         };
         self.budget.spend(text.len().saturating_mul(STEPS_OF_BYTE));
         let copy = Vec::from_slice(asking.alloc, &text)?;
@@ -216,44 +229,5 @@ impl Found {
             self.texts.push(text)?;
         }
         Ok(())
-    }
-}
-
-/// The steps that are left for a question about the root as a whole, as long as there is no document.
-const RESERVED: usize = 500_000;
-
-/// For which rules no question was answered, and how far the questions came.
-#[derive(Drop)]
-pub(crate) struct Tally {
-    pub(crate) is_open: Vec<bool>,
-    /// How many places weren't asked about.
-    pub(crate) unasked: usize,
-    /// Whether the question about the root as it stands, which is that of the first rule for instances, has no answer.
-    is_unmet: bool,
-    /// Whether a limit was met, or memory ran out.
-    pub(crate) is_limited: bool,
-}
-
-impl Tally {
-    /// Notes the answer to the question of a place, by the rule of which it is.
-    fn note(&mut self, rule: usize, answer: &Answer) {
-        self.unasked = self.unasked.saturating_sub(1);
-        if answer.is_err() {
-            self.is_limited = true;
-            return;
-        }
-        self.is_unmet = self.is_unmet || (rule == 0 && matches!(answer, Ok(None)));
-        if let Some(is_open) = self.is_open.get_mut(rule) {
-            *is_open = false;
-        }
-    }
-
-    /// Whether no more is to be asked: where nothing is an instance of the root, and where the steps are used up.
-    fn is_over(&self, which: Sampled, has_none: bool, budget: &Budget) -> bool {
-        match which {
-            Sampled::Invalid if has_none => budget.steps <= RESERVED,
-            Sampled::Valid if self.is_unmet => true,
-            Sampled::Valid | Sampled::Invalid => budget.steps == 0,
-        }
     }
 }

@@ -2,13 +2,12 @@
 ghost use Rattle.std.specs.Prelude.{◌≡◌, ◌≤◌, ◌<◌, ℕ, List, [], IfOk, OnOk, IsErrOf, length};
 ghost use Rattle.std.specs.List.{IsDistinct};
 ghost use Rattle.cs_package.specs.Environment.{Names};
-ghost use Rattle.cs_samples.specs.Kept.{AreFound, IsSplit};
+ghost use Rattle.cs_samples.specs.Kept.{IsSplit};
 ghost use Rattle.cs_samples.specs.Sample.{AreSamples, HasMore, HasNoInstance, same_text};
 
 use crate::asking::{Asking, Found};
 use cs_guard::Guarded;
-use cs_json::shown_text;
-use cs_question::{Budget, QuestionFault, instance_of};
+use cs_question::{Answered, QuestionFault, instance_of};
 use cs_variants::{Sampled, walk_of};
 use std::alloc::Global;
 
@@ -23,21 +22,6 @@ pub struct SampleTexts {
     pub is_complete: bool,
     /// For how many rules no document was looked for, or a limit was met.
     pub untried: usize,
-}
-
-impl SampleTexts {
-    /// These texts, where no others were looked for.
-    pub(crate) fn alone(texts: Vec<Vec<u8>>) -> SampleTexts
-        ensures texts { result.texts ≡ texts }
-        ensures more { result.more ≡ 0 }
-    {
-        SampleTexts {
-            texts,
-            more: 0,
-            is_complete: true,
-            untried: 0,
-        }
-    }
 }
 
 /// The texts of documents of the root, a definition of the package named with its `#`, or of documents that just fail, no two alike,
@@ -86,19 +70,11 @@ pub fn samples(
         which,
         walk: &walk,
     };
-    let Ok(found) = gathered(&asking, most) else {
-        return Err(QuestionFault::OutOfMemory);
-    };
-    if !found.texts.is_empty() {
-        return Ok(first_of(found, most));
+    let found = Found::of(&asking, most)?;
+    if found.texts.is_empty() {
+        return none_of(&asking, most, &found);
     }
-    if found.tally.is_limited {
-        return Err(QuestionFault::TooManyCases);
-    }
-    match which {
-        Sampled::Valid if most > 0 => one_instance(&asking, found.budget),
-        Sampled::Valid | Sampled::Invalid => Ok(SampleTexts::alone(Vec::new(alloc))),
-    }
+    Ok(first_of(found, most))
 }
 
 /// The first ones of those that were found, as many as are asked for, and what is known of the others.
@@ -107,46 +83,40 @@ fn first_of(found: Found, most: usize) -> SampleTexts
     ensures within { length result.texts.items ≤ most }
     ensures some { 0 < most → result.texts.items ≡ [] → found.texts.items ≡ [] }
 {
-    let tally = found.tally;
     let mut texts = found.texts;
     let more = texts.len().saturating_sub(most);
     texts.truncate(most);
     SampleTexts {
         texts,
         more,
-        is_complete: !tally.is_limited && tally.unasked == 0,
-        untried: tally.is_open.iter().filter(|is_open| **is_open).count(),
+        is_complete: !found.is_limited,
+        untried: found.is_open.iter().filter(|is_open| **is_open).count(),
     }
 }
 
-/// The instance that the question about the root as it stands finds; none where nothing is an instance of the root.
-fn one_instance(asking: &Asking<'_, '_>, mut budget: Budget) -> Result<SampleTexts, QuestionFault>
-    ensures samples { IfOk result (λ s. AreSamples asking.now.package.now asking.now.root.now Sampled.Valid s.texts.items) }
-    ensures one { IfOk result (λ s. length s.texts.items ≤ 1) }
-    ensures distinct { IfOk result (λ s. IsDistinct same_text s.texts.items) }
+/// What is known where nothing was found: there are none, unless a limit was met.
+fn none_of(asking: &Asking<'_, '_>, most: usize, found: &Found) -> Answered<SampleTexts>
+    ensures none { IfOk result (λ s. s.texts.items ≡ []) }
     ensures more { IfOk result (λ s. s.more ≡ 0) }
-    ensures none { IfOk result (λ s. s.texts.items ≡ [] → HasNoInstance asking.now.package.now asking.now.root.now) }
+    ensures without { asking.now.which ≡ Sampled.Valid → 0 < most → OnOk result (HasNoInstance asking.now.package.now asking.now.root.now) }
     ensures unknown { IsErrOf result QuestionFault.UnknownRoot → (n : List ℕ) → ¬ Names asking.now.package.now asking.now.root.now n }
 {
-    let Some(doc) = instance_of(asking.alloc, asking.package, asking.root, &mut budget)? else {
-        return Ok(SampleTexts::alone(Vec::new(asking.alloc)));
+    let none = SampleTexts {
+        texts: Vec::new(asking.alloc),
+        more: 0,
+        is_complete: true,
+        untried: 0,
     };
-    let Some(text) = shown_text(asking.alloc, &doc)? else {
+    if found.is_limited {
         return Err(QuestionFault::TooManyCases);
-    };
-    Ok(SampleTexts::alone(vec![in asking.alloc; text]?))
-}
-
-/// Asks the questions of all places, in turns, and where no document just fails, for any that the root refuses.
-fn gathered(asking: &Asking<'_, '_>, most: usize) -> Result<Found, QuestionFault>
-    ensures { IfOk result (AreFound asking.now) }
-{
-    let mut found = Found::new(asking)?;
-    match found.ask_each(asking, most) {
-        Ok(()) if found.texts.is_empty() => found.ask_any(asking)?,
-        Ok(()) => {}
-        Err(fault) if found.texts.is_empty() => return Err(fault),
-        Err(_) => found.tally.is_limited = true,
     }
-    Ok(found)
+    if most == 0 || !asking.which.is_valid() {
+        return Ok(none);
+    }
+    let mut budget = found.budget;
+    // The first question was about a copy of the root, and would have found an instance.
+    match instance_of(asking.alloc, asking.package, asking.root, &mut budget)? {
+        None => Ok(none),
+        Some(_) => Err(QuestionFault::TooManyCases),
+    }
 }

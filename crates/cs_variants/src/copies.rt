@@ -1,5 +1,5 @@
 // Copies of expressions, in which something may be put at a place.
-use crate::places::{Change, Made, Sampled};
+use crate::places::{Change, Made};
 use crate::variants::Draft;
 use cs_package::{FieldMark, Inside, Literal, Part, Shape, ShapeEnd, Simple};
 use std::alloc::Global;
@@ -28,25 +28,21 @@ impl Draft<'_, '_> {
     /// an element that repeats. What a change isn't made for stays as it is.
     #[cycle(copies)]
     fn copy_shape(&self, shape: &Shape, way: Way<'_>) -> Made<Shape> {
-        match change_at(way) {
-            Change::Simple(simple) => return shape_of(self.walk.alloc, simple),
-            Change::Definition(number) => return Ok(Shape::Definition(number)),
-            Change::Same | Change::FurtherKey | Change::Without(_) => {}
-            Change::Shorter | Change::Shortest | Change::Longer => {}
-        }
-        match shape.inside() {
-            Inside::Simple(simple) => shape_of(self.walk.alloc, simple),
-            Inside::Definition(number) => Ok(Shape::Definition(number)),
-            Inside::And(operands) => Ok(Shape::And(self.copy_shapes(operands, way)?)),
-            Inside::Or(operands) => self.copy_alternatives(operands, way),
-            Inside::Struct { parts, opened } => self.copy_struct(parts, opened, way),
-            Inside::List { front, end } => {
+        match (change_at(way), shape.inside()) {
+            (Change::Simple(simple), _) => shape_of(self.walk.alloc, simple),
+            (Change::Definition(number), _) => Ok(Shape::Definition(number)),
+            (_, Inside::Simple(simple)) => shape_of(self.walk.alloc, simple),
+            (_, Inside::Definition(number)) => Ok(Shape::Definition(number)),
+            (_, Inside::And(operands)) => Ok(Shape::And(self.copy_shapes(operands, way)?)),
+            (_, Inside::Or(operands)) => self.copy_alternatives(operands, way),
+            (_, Inside::Struct { parts, opened }) => self.copy_struct(parts, opened, way),
+            (change, Inside::List { front, end }) => {
                 let mut copied = self.copy_shapes(front, way)?;
-                if matches!(change_at(way), Change::Shorter) {
+                if matches!(change, Change::Shorter) {
                     let _ = copied.pop();
                 }
                 let further = after(way, front.len());
-                if further.is_some() || matches!(change_at(way), Change::Longer) {
+                if further.is_some() || matches!(change, Change::Longer) {
                     copied.push(self.further_element(end, further)?)?;
                 }
                 let end = self.copy_end(end, way)?;
@@ -105,74 +101,69 @@ impl Draft<'_, '_> {
     /// is invalid there couldn't, so `[string]` itself is changed, and stands beside a struct with no further key.
     #[cycle(copies)]
     fn copy_struct(&self, declared: &[Part], opened: bool, way: Way<'_>) -> Made<Shape> {
-        let (mut parts, mut every) = (Vec::new(self.walk.alloc), None);
+        let (mut parts, mut every) = (Vec::new(self.walk.alloc), Vec::new(self.walk.alloc));
         let is_same = matches!(way, None | Some(([], Change::Same)));
         if self.is_least && !opened && is_same && !has_required(declared) {
             return Ok(Shape::Struct { parts, opened });
         }
         for (i, part) in declared.iter().enumerate() {
             let further = after(way, i);
-            if further.is_some() {
-                let value = self.copy_shape(&part.value, further)?;
-                let (forced, changed) = self.forced(declared, part, value)?;
-                parts.push(forced)?;
-                every = changed;
+            if further.is_none() {
+                let is_barred = matches!(change_at(way), Change::Without(barred) if barred == i);
+                self.put_part(part, is_barred, &mut parts)?;
+                continue;
             }
-            if further.is_none() || (is_every(part) && self.walk.which.is_valid()) {
-                parts.push(self.copy_part(part, i, way)?)?;
+            let value = self.copy_shape(&part.value, further)?;
+            if !is_every(part) {
+                put_labelled(part, FieldMark::Regular, value, &mut parts)?;
+            } else if self.walk.which.is_valid() {
+                self.put_further(declared, value, &mut parts)?;
+                self.put_part(part, false, &mut parts)?;
+            } else {
+                self.put_further(declared, Shape::Top, &mut parts)?;
+                put_labelled(part, part.mark, value, &mut every)?;
             }
         }
         let is_longer = matches!(change_at(way), Change::FurtherKey);
         if is_longer {
-            parts.push(self.further_part(declared, Shape::Top)?)?;
+            self.put_further(declared, Shape::Top, &mut parts)?;
         }
-        let opened = every.is_none() && (opened || is_longer);
-        let copied = Shape::Struct { parts, opened };
-        let Some(every) = every else {
-            return Ok(copied);
-        };
-        Ok(Shape::And(vec![in self.walk.alloc; copied, every]?))
+        with_every(self.walk.alloc, parts, opened || is_longer, every)
     }
 
-    /// The same declaration, or one of the same label by which that is no key.
+    /// Puts the same declaration, or one of the same label by which that is no key.
     #[cycle(copies)]
-    fn copy_part(&self, part: &Part, number: usize, way: Way<'_>) -> Made<Part> {
-        let is_barred = matches!(change_at(way), Change::Without(barred) if barred == number);
+    fn put_part(&self, part: &Part, is_barred: bool, parts: &mut Vec<Part>) -> Made<()> {
         if is_barred || (self.is_least && matches!(part.mark, FieldMark::Optional)) {
-            return with_value(part, FieldMark::Optional, Shape::Bottom);
+            return put_labelled(part, FieldMark::Optional, Shape::Bottom, parts);
         }
-        with_value(part, part.mark, self.copy_shape(&part.value, None)?)
+        put_labelled(part, part.mark, self.copy_shape(&part.value, None)?, parts)
     }
 
-    /// A declaration by which the key of this one is there, with that value, and a struct of `[string]` where that is changed.
-    fn forced(&self, parts: &[Part], part: &Part, value: Shape) -> Made<(Part, Option<Shape>)> {
-        match (is_every(part), self.walk.which) {
-            (false, _) => Ok((with_value(part, FieldMark::Regular, value)?, None)),
-            (true, Sampled::Valid) => Ok((self.further_part(parts, value)?, None)),
-            (true, Sampled::Invalid) => {
-                let every = with_value(part, part.mark, value)?;
-                let every = Shape::Struct {
-                    parts: vec![in self.walk.alloc; every]?,
-                    opened: true,
-                };
-                Ok((self.further_part(parts, Shape::Top)?, Some(every)))
-            }
-        }
-    }
-
-    /// The declaration of a key that these don't have.
-    fn further_part(&self, parts: &[Part], value: Shape) -> Made<Part> {
+    /// Puts a declaration of a key that these don't have.
+    fn put_further(&self, declared: &[Part], value: Shape, parts: &mut Vec<Part>) -> Made<()> {
         let mut label = String::from_str(self.walk.alloc, "key")?;
-        for _ in 0..parts.len() {
+        for _ in 0..declared.len() {
             let name = label.as_str();
-            if !parts.iter().any(|part| part.label.as_str() == name) {
+            if !declared.iter().any(|part| part.label.as_str() == name) {
                 break;
             }
             label.push_str("_")?;
         }
         let mark = FieldMark::Regular;
-        Ok(Part { label, mark, value })
+        Ok(parts.push(Part { label, mark, value })?)
     }
+}
+
+/// The struct of these declarations. Where one of `[string]` alone stands beside it, it has no further key.
+fn with_every(alloc: Global, parts: Vec<Part>, opened: bool, every: Vec<Part>) -> Made<Shape> {
+    let opened = opened && every.is_empty();
+    let copied = Shape::Struct { parts, opened };
+    if every.is_empty() {
+        return Ok(copied);
+    }
+    let (parts, opened) = (every, true);
+    Ok(Shape::And(vec![in alloc; copied, Shape::Struct { parts, opened }]?))
 }
 
 /// The expression without parts.
@@ -205,8 +196,8 @@ fn has_required(parts: &[Part]) -> bool {
     parts.iter().any(|part| matches!(part.mark, FieldMark::Regular | FieldMark::Required))
 }
 
-/// The declaration with another mark and value.
-fn with_value(part: &Part, mark: FieldMark, value: Shape) -> Made<Part> {
+/// Puts a declaration of the same label, with another mark and value.
+fn put_labelled(part: &Part, mark: FieldMark, value: Shape, parts: &mut Vec<Part>) -> Made<()> {
     let label = part.label.clone()?;
-    Ok(Part { label, mark, value })
+    Ok(parts.push(Part { label, mark, value })?)
 }

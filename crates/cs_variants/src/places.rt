@@ -32,7 +32,7 @@ pub enum Change<'a> {
 /// package, and the steps from there on. The first step is a body's number, and each further one that of an operand, an
 /// alternative, a declaration or a fixed element; what follows the fixed elements has the next number. A rule has a place for each
 /// change that is made for it.
-#[derive(Drop)]
+#[derive(Clone, Drop)]
 pub struct Place<'a> {
     pub(crate) entry: usize,
     pub(crate) definition: usize,
@@ -42,6 +42,8 @@ pub struct Place<'a> {
     pub rule: usize,
     /// The number of the change among those of its rule.
     pub(crate) turn: usize,
+    /// How many places of its definition come before it in that turn.
+    pub(crate) round: usize,
 }
 
 /// Which documents are sampled: instances of a definition, or documents that aren't.
@@ -69,8 +71,8 @@ pub(crate) type Turns<'a> = (Option<Simple<'a>>, Option<Simple<'a>>);
 pub(crate) fn ends_of<'a>(simple: Simple<'_>) -> Option<Turns<'a>> {
     match simple {
         Simple::Kind(Kind::Bool) => Some((truth_value(false), truth_value(true))),
-        Simple::Range { least, greatest } => Some((integer(Some(least)), integer(greatest))),
-        Simple::Bound { relation, limit } => Some((integer(around_end(relation, limit).0), None)),
+        Simple::Range { least, greatest } => Some(integers(Some(least), greatest)),
+        Simple::Bound { relation, limit } => Some(integers(around_end(relation, limit).0, None)),
         Simple::Kind(Kind::Int | Kind::Number | Kind::Text)
         | Simple::Top
         | Simple::Bottom
@@ -83,16 +85,14 @@ pub(crate) fn ends_of<'a>(simple: Simple<'_>) -> Option<Turns<'a>> {
 pub(crate) fn beside(simple: Simple<'_>) -> Turns<'_> {
     match simple {
         Simple::Literal(Literal::Bool(value)) => (truth_value(!value), None),
-        Simple::Literal(Literal::Int(n)) => {
-            (integer(n.checked_sub(1)), integer(n.checked_add(1)))
-        }
+        Simple::Literal(Literal::Int(n)) => integers(n.checked_sub(1), n.checked_add(1)),
         Simple::Literal(Literal::Text(_)) => (Some(Simple::Kind(Kind::Text)), None),
         Simple::Excluded(literal) => (Some(Simple::Literal(literal)), None),
         Simple::Range { least, greatest } => {
             let behind = greatest.and_then(|n| n.checked_add(1));
-            (integer(least.checked_sub(1)), integer(behind))
+            integers(least.checked_sub(1), behind)
         }
-        Simple::Bound { relation, limit } => (integer(around_end(relation, limit).1), None),
+        Simple::Bound { relation, limit } => integers(around_end(relation, limit).1, None),
         Simple::Literal(Literal::Null) | Simple::Top | Simple::Bottom | Simple::Kind(_) => {
             (None, None)
         }
@@ -114,6 +114,7 @@ fn truth_value<'a>(value: bool) -> Option<Simple<'a>> {
     Some(Simple::Literal(Literal::Bool(value)))
 }
 
-fn integer<'a>(n: Option<i64>) -> Option<Simple<'a>> {
-    Some(Simple::Literal(Literal::Int(n?)))
+fn integers<'a>(first: Option<i64>, second: Option<i64>) -> Turns<'a> {
+    let integer = |n| Simple::Literal(Literal::Int(n));
+    (first.map(integer), second.map(integer))
 }

@@ -1,17 +1,18 @@
 // Packages in which something is put at a place, and the names of copies.
-ghost use Rattle.std.specs.Prelude.{◌≡◌, IfOk, OnOk, string_bytes, ◌≤◌, IsTrue, length};
+ghost use Rattle.std.specs.Prelude.{OnOk, IsTrue};
 ghost use Rattle.std.specs.List.{AllByRecursion};
-ghost use Rattle.cs_package.specs.Environment.{IsDefinitionName, written};
+ghost use Rattle.cs_package.specs.Environment.{IsDefinitionName};
 ghost use Rattle.cs_package.specs.View.{IsTable};
-ghost use Rattle.cs_variants.specs.Sound.{IsSound, IsSoundPart, IsSoundEnd};
+ghost use Rattle.cs_variants.specs.Sound.{IsSound};
 
 use crate::copies::Way;
 use crate::places::{Change, Made, Place};
 use crate::walks::Walk;
 use cs_guard::{GuardFault, Guarded, guard};
-use cs_package::{Inside, NameTable, Package, Part, Shape, ShapeEnd, package_of};
+use cs_package::{Inside, NameTable, Shape, ShapeEnd, package_of};
 use indexmap::IndexMap;
 use std::alloc::{AllocError, Global};
+use std::iter::successors;
 
 /// Where a change is made: at one reference to the definition of its place, or at all of them.
 #[derive(Clone, Copy)]
@@ -55,13 +56,20 @@ impl Walk<'_> {
         self.guarded(&[self.root], vec![in self.alloc; anything]?)
     }
 
-    /// The package of copies of these definitions with these bodies, where it is guarded.
+    /// The package of copies of these definitions with these bodies, where it is guarded, each reference is to one of them, and
+    /// each `&` and `|` has two operands or more. This is looked at here, instead of being said of each change.
     fn guarded(&self, definitions: &[usize], bodies: Vec<Vec<Shape>>) -> Made<Option<Guarded>> {
-        let names = names_of(self.alloc, self.package, definitions)?;
-        let Some(package) = whole(names, bodies) else {
+        let mut names = IndexMap::new(self.alloc);
+        for definition in definitions {
+            if *definition < self.package.count() {
+                put_name(self.alloc, &mut names, self.package.bare_name(*definition))?;
+            }
+        }
+        let count = names.len();
+        if count != bodies.len() || !are_all_sound(count, &bodies) {
             return Ok(None);
-        };
-        match guard(self.alloc, package) {
+        }
+        match guard(self.alloc, package_of(names, bodies)) {
             Ok(guarded) => Ok(Some(guarded)),
             Err(GuardFault::OutOfMemory) => Err(AllocError),
             Err(GuardFault::Cycle { .. } | GuardFault::ChainTooLong { .. }) => Ok(None),
@@ -73,12 +81,8 @@ impl Draft<'_, '_> {
     /// Puts copies of all definitions, of which that of a place is changed in its stead where all references to it are meant.
     fn put_all(&mut self, place: &Place<'_>, at: Where) -> Made<()> {
         for definition in 0..self.walk.package.count() {
-            let way = match at {
-                Where::Everywhere if definition == place.definition => {
-                    Some((place.steps.as_slice(), place.change))
-                }
-                Where::Everywhere | Where::Once => None,
-            };
+            let is_changed = matches!(at, Where::Everywhere) && definition == place.definition;
+            let way = is_changed.then_some((place.steps.as_slice(), place.change));
             self.put_copy(definition, way)?;
         }
         Ok(())
@@ -89,17 +93,14 @@ impl Draft<'_, '_> {
     /// Where all references are meant, the definition of the place is there already, unless it is the root.
     fn put_way(&mut self, place: &Place<'_>, at: Where) -> Made<()> {
         let walk = self.walk;
-        let (mut next, mut change) = match (at, walk.reference_to(place.entry)) {
-            (Where::Everywhere, Some(from)) => (Some(from), Change::Definition(place.definition)),
-            (Where::Everywhere, None) | (Where::Once, _) => (Some(place), place.change),
+        let (first, mut change) = match (at, walk.reference_to(place.entry)) {
+            (Where::Everywhere, Some(from)) => (from, Change::Definition(place.definition)),
+            (Where::Everywhere, None) | (Where::Once, _) => (place, place.change),
         };
-        for _ in 0..walk.reached.len() {
-            let Some(place) = next else {
-                break;
-            };
+        let way_back = successors(Some(first), |place| walk.reference_to(place.entry));
+        for place in way_back.take(walk.reached.len()) {
             let way = Some((place.steps.as_slice(), change));
             change = Change::Definition(self.put_copy(place.definition, way)?);
-            next = walk.reference_to(place.entry);
         }
         Ok(())
     }
@@ -114,44 +115,11 @@ impl Draft<'_, '_> {
     }
 }
 
-/// The names of these definitions of a package: a further copy of a definition has a name of its own.
-fn names_of(alloc: Global, package: &Package, definitions: &[usize]) -> Made<NameTable>
-    ensures { IfOk result (λ t. IsTable t.entries) }
-{
-    let mut names = IndexMap::new(alloc);
-    for definition in definitions {
-        if *definition < package.count() {
-            let name = fresh_name(alloc, &names, package.bare_name(*definition))?;
-            put_name(alloc, &mut names, name)?;
-        }
-    }
-    Ok(names)
-}
-
-/// Puts a name among these.
-fn put_name(alloc: Global, names: &mut NameTable, name: String) -> Made<()>
+/// Puts a name among these, with as many `_` behind it as make it a new one, beside itself as it is written, with `#`.
+fn put_name(alloc: Global, names: &mut NameTable, name: &str) -> Made<()>
     requires table { IsTable names.old.entries }
-    requires spelled { IsDefinitionName (string_bytes name) }
+    requires spelled { IsDefinitionName name.now }
     ensures { OnOk result (IsTable names.new.entries) }
-{
-    let written = written_name(alloc, &name)?;
-    drop(names.insert(name, written)?);
-    Ok(())
-}
-
-/// A name as it is written, with `#`.
-fn written_name(alloc: Global, name: &String) -> Made<String>
-    ensures { IfOk result (λ w. string_bytes w ≡ written (string_bytes name.now)) }
-{
-    let mut written = String::from_str(alloc, "#")?;
-    written.push_str(name.as_str())?;
-    Ok(written)
-}
-
-/// A name with as many `_` behind it as make it a new one.
-fn fresh_name(alloc: Global, names: &NameTable, name: &str) -> Made<String>
-    requires { IsDefinitionName name.now }
-    ensures { IfOk result (λ s. IsDefinitionName (string_bytes s)) }
 {
     let mut fresh = String::from_str(alloc, name)?;
     for _ in 0..names.len() {
@@ -160,20 +128,10 @@ fn fresh_name(alloc: Global, names: &NameTable, name: &str) -> Made<String>
         }
         fresh.push_str("_")?;
     }
-    Ok(fresh)
-}
-
-/// The package of these names and bodies, where they are as many, each reference is to one of them, and each `&` and `|` has two
-/// operands or more. This is looked at here, instead of being said of each change.
-fn whole(names: NameTable, bodies: Vec<Vec<Shape>>) -> Option<Package>
-    requires { IsTable names.entries }
-{
-    let count = names.len();
-    if count == bodies.len() && are_all_sound(count, &bodies) {
-        Some(package_of(names, bodies))
-    } else {
-        None
-    }
+    let mut written = String::from_str(alloc, "#")?;
+    written.push_str(fresh.as_str())?;
+    drop(names.insert(fresh, written)?);
+    Ok(())
 }
 
 fn are_all_sound(count: usize, bodies: &[Vec<Shape>]) -> bool
@@ -201,40 +159,18 @@ fn is_sound(count: usize, shape: &Shape) -> bool
     match shape.inside() {
         Inside::Simple(_) => true,
         Inside::Definition(number) => number < count,
-        Inside::And(operands) => are_operands(count, operands),
-        Inside::Or(operands) => are_operands(count, operands),
-        Inside::Struct { parts, .. } => are_sound_parts(count, parts),
-        Inside::List { front, end } => are_sound(count, front) && is_sound_end(count, end),
-    }
-}
-
-#[cycle(sound)]
-fn are_sound_parts(count: usize, parts: &[Part]) -> bool
-    ensures { IsTrue result → AllByRecursion (IsSoundPart count) parts.now }
-{
-    for part in parts {
-        if !is_sound(count, &part.value) {
-            return false;
+        Inside::And(shapes) | Inside::Or(shapes) => shapes.len() >= 2 && are_sound(count, shapes),
+        Inside::Struct { parts, .. } => {
+            for part in parts {
+                if !is_sound(count, &part.value) {
+                    return false;
+                }
+            }
+            true
         }
-    }
-    true
-}
-
-/// Whether there are two or more, and each is sound.
-#[cycle(sound)]
-fn are_operands(count: usize, operands: &[Shape]) -> bool
-    ensures two { IsTrue result → 2 ≤ length operands.now }
-    ensures sound { IsTrue result → AllByRecursion (IsSound count) operands.now }
-{
-    operands.len() >= 2 && are_sound(count, operands)
-}
-
-#[cycle(sound)]
-fn is_sound_end(count: usize, end: &ShapeEnd) -> bool
-    ensures { IsTrue result → IsSoundEnd count end.now }
-{
-    match end {
-        ShapeEnd::Closed | ShapeEnd::Any => true,
-        ShapeEnd::Each(shape) => is_sound(count, shape),
+        Inside::List { front, end } => match end {
+            ShapeEnd::Closed | ShapeEnd::Any => are_sound(count, front),
+            ShapeEnd::Each(shape) => are_sound(count, front) && is_sound(count, shape),
+        },
     }
 }

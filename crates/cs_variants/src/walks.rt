@@ -5,6 +5,7 @@ use crate::copies::is_every;
 use crate::places::{Change, Made, Place, Sampled, beside, ends_of};
 use cs_package::{FieldMark, Inside, Package, Part, Shape, ShapeEnd, Simple};
 use std::alloc::Global;
+use std::iter::successors;
 
 /// How many pairs of declarations of a struct are a step: a question looks at all of them for each label.
 const PAIRS_OF_STEP: usize = 32;
@@ -16,10 +17,9 @@ pub struct Walk<'a> {
     pub(crate) package: &'a Package,
     pub(crate) root: usize,
     pub(crate) which: Sampled,
-    /// The definitions that were reached, each once, the root first.
-    pub(crate) reached: Vec<usize>,
-    /// The places of the references by which they were reached, in the same order; the root has none.
-    references: Vec<Place<'a>>,
+    /// The definitions that were reached, each once, with the place of the reference to it. The root is the first, and has none.
+    pub(crate) reached: Vec<(usize, Place<'a>)>,
+    /// In the order in which they get their turns.
     pub places: Vec<Place<'a>>,
     /// How many rules the places are of.
     pub rules: usize,
@@ -28,11 +28,8 @@ pub struct Walk<'a> {
     pub cost: usize,
     /// How often each definition of the package is referred to, the root once more.
     uses: Vec<usize>,
-    entry: usize,
-    definition: usize,
-    steps: Vec<usize>,
-    /// How many places the last rule has so far.
-    turn: usize,
+    /// Where the walk is: the next place of the last rule.
+    here: Place<'a>,
 }
 
 /// The places of what the root reaches. Only memory can run out.
@@ -44,15 +41,19 @@ pub fn walk_of(alloc: Global, package: &Package, root: usize, which: Sampled) ->
         root,
         which,
         reached: Vec::new(alloc),
-        references: Vec::new(alloc),
         places: Vec::new(alloc),
         rules: 0,
         cost: package.count(),
         uses,
-        entry: 0,
-        definition: root,
-        steps: Vec::new(alloc),
-        turn: 0,
+        here: Place {
+            entry: 0,
+            definition: root,
+            steps: Vec::new(alloc),
+            change: Change::Same,
+            rule: 0,
+            turn: 0,
+            round: 0,
+        },
     };
     walk.visit_all()?;
     Ok(walk)
@@ -62,22 +63,15 @@ impl<'a> Walk<'a> {
     /// Whether a place without a document is asked about again, for every reference: where no instances are asked for, and its
     /// definition or one on the way to it is referred to more than once.
     pub fn is_asked_again(&self, place: &Place<'_>) -> bool {
-        let mut next = Some(place);
-        for _ in 0..self.reached.len() {
-            let Some(place) = next else {
-                break;
-            };
-            if self.uses.get(place.definition) > Some(&1) {
-                return !self.which.is_valid();
-            }
-            next = self.reference_to(place.entry);
-        }
-        false
+        let way_back = successors(Some(place), |place| self.reference_to(place.entry));
+        let mut way_back = way_back.take(self.reached.len());
+        !self.which.is_valid() && way_back.any(|place| self.uses.get(place.definition) > Some(&1))
     }
 
     /// The place of the reference by which an entry was reached; the root has none.
     pub(crate) fn reference_to(&self, entry: usize) -> Option<&Place<'a>> {
-        self.references.get(entry.checked_sub(1)?)
+        let (_, reference) = self.reached.get(entry)?;
+        (entry > 0).then_some(reference)
     }
 
     /// The bodies of a definition that the root reaches; none of any other.
@@ -94,26 +88,14 @@ impl<'a> Walk<'a> {
         self.reach(self.root)?;
         self.put_rule(Sampled::Valid, Change::Same)?;
         for entry in 0..self.package.count() {
-            if let Some(definition) = self.reached.get(entry) {
-                self.definition = *definition;
-                self.entry = entry;
-                let bodies = self.bodies(self.definition);
+            if let Some((definition, _)) = self.reached.get(entry) {
+                self.here.definition = *definition;
+                self.here.entry = entry;
+                let bodies = self.bodies(self.here.definition);
                 self.visit_each(bodies)?;
             }
         }
-        Ok(())
-    }
-
-    /// The place where the walk is, of the last rule.
-    fn place(&self, change: Change<'a>) -> Made<Place<'a>> {
-        Ok(Place {
-            entry: self.entry,
-            definition: self.definition,
-            steps: Vec::from_slice(self.alloc, &self.steps)?,
-            change,
-            rule: self.rules.saturating_sub(1),
-            turn: self.turn,
-        })
+        self.put_in_turns()
     }
 
     /// Here is a place of the last rule, where that is put for these documents alone.
@@ -121,9 +103,9 @@ impl<'a> Walk<'a> {
         if which.is_valid() != self.which.is_valid() {
             return Ok(());
         }
-        let place = self.place(change)?;
-        self.places.push(place)?;
-        self.turn = self.turn.saturating_add(1);
+        self.here.change = change;
+        self.places.push(self.here.clone()?)?;
+        self.here.turn = self.here.turn.saturating_add(1);
         Ok(())
     }
 
@@ -136,7 +118,8 @@ impl<'a> Walk<'a> {
     }
 
     fn begin_rule(&mut self) {
-        self.turn = 0;
+        self.here.turn = 0;
+        self.here.rule = self.rules;
         self.rules = self.rules.saturating_add(1);
     }
 
@@ -149,11 +132,8 @@ impl<'a> Walk<'a> {
         if *uses > 1 {
             return Ok(());
         }
-        if !self.reached.is_empty() {
-            let reference = self.place(Change::Definition(definition))?;
-            self.references.push(reference)?;
-        }
-        Ok(self.reached.push(definition)?)
+        self.here.change = Change::Definition(definition);
+        Ok(self.reached.push((definition, self.here.clone()?))?)
     }
 
     #[cycle(visit)]
@@ -166,12 +146,12 @@ impl<'a> Walk<'a> {
             Inside::Or(operands) => self.visit_alternatives(operands),
             Inside::Struct { parts, opened } => self.visit_struct(parts, opened),
             Inside::List { front, end } => {
-                self.put_rule(Sampled::Invalid, Change::Simple(Simple::Top))?;
-                if !front.is_empty() {
-                    self.put_rule(Sampled::Invalid, Change::Shorter)?;
-                }
+                self.put_lengths(front, end)?;
                 self.visit_each(front)?;
-                self.visit_end(front.len(), end)
+                match end {
+                    ShapeEnd::Closed | ShapeEnd::Any => Ok(()),
+                    ShapeEnd::Each(shape) => self.step(front.len(), shape),
+                }
             }
         }
     }
@@ -179,17 +159,17 @@ impl<'a> Walk<'a> {
     /// Visits what is behind a step.
     #[cycle(visit)]
     fn step(&mut self, step: usize, shape: &'a Shape) -> Made<()> {
-        self.steps.push(step)?;
+        self.here.steps.push(step)?;
         self.visit(shape)?;
-        let _ = self.steps.pop();
+        let _ = self.here.steps.pop();
         Ok(())
     }
 
     /// Puts an instance that has what is behind a step.
     fn put_behind(&mut self, step: usize) -> Made<()> {
-        self.steps.push(step)?;
+        self.here.steps.push(step)?;
         self.put_rule(Sampled::Valid, Change::Same)?;
-        let _ = self.steps.pop();
+        let _ = self.here.steps.pop();
         Ok(())
     }
 
@@ -243,20 +223,15 @@ impl<'a> Walk<'a> {
         }
     }
 
-    /// What follows the fixed elements: the least length of a list and the next one, where it may be longer.
-    #[cycle(visit)]
-    fn visit_end(&mut self, step: usize, end: &'a ShapeEnd) -> Made<()> {
-        match end {
-            ShapeEnd::Closed => self.put_rule(Sampled::Invalid, Change::Longer),
-            ShapeEnd::Any => self.put_lengths(),
-            ShapeEnd::Each(shape) => {
-                self.put_lengths()?;
-                self.step(step, shape)
-            }
+    /// The rules of the length of a list. Where it may be longer than its fixed elements, these are the least one and the next one.
+    fn put_lengths(&mut self, front: &[Shape], end: &ShapeEnd) -> Made<()> {
+        self.put_rule(Sampled::Invalid, Change::Simple(Simple::Top))?;
+        if !front.is_empty() {
+            self.put_rule(Sampled::Invalid, Change::Shorter)?;
         }
-    }
-
-    fn put_lengths(&mut self) -> Made<()> {
+        if matches!(end, ShapeEnd::Closed) {
+            return self.put_rule(Sampled::Invalid, Change::Longer);
+        }
         self.put_rule(Sampled::Valid, Change::Shortest)?;
         self.put(Sampled::Valid, Change::Longer)
     }
@@ -280,26 +255,20 @@ impl<'a> Walk<'a> {
         self.put(Sampled::Invalid, Change::Simple(Simple::Top))
     }
 
-    /// The numbers of the places, in the order in which they get their turns, each behind its turn and the number of places of its
-    /// definition that come before it in that turn. Each rule gets its first turn before any gets its second one. In a turn each
-    /// definition gives one place, then each a second one, and so on; those of a definition come from the outside in, and in the
-    /// order of the text. Only memory can run out.
-    pub fn in_turns(&self) -> Made<Vec<(usize, usize, usize)>> {
-        let mut ranked = Vec::with_capacity(self.alloc, self.places.len())?;
-        for (number, place) in self.places.iter().enumerate() {
-            // Places are numbered definition by definition.
-            ranked.push((place.turn, place.entry, place.steps.len(), number))?;
-        }
-        ranked.sort_unstable();
-        let mut rounds = Vec::with_capacity(self.alloc, ranked.len())?;
+    /// Puts the places in the order in which they get their turns. Each rule gets its first turn before any gets its second one. In a
+    /// turn each definition gives one place, then each a second one, and so on; those of a definition come from the outside in, and in
+    /// the order of the text.
+    fn put_in_turns(&mut self) -> Made<()> {
+        // Places stand definition by definition, and a sort leaves those that are alike in their order.
+        self.places
+            .sort_by_key(|place| (place.turn, place.entry, place.steps.len()))?;
         let (mut group, mut round) = (None, 0_usize);
-        for (turn, entry, _, number) in &ranked {
-            let is_same = group == Some((*turn, *entry));
+        for place in self.places.iter_mut() {
+            let is_same = group == Some((place.turn, place.entry));
             round = if is_same { round.saturating_add(1) } else { 0 };
-            group = Some((*turn, *entry));
-            rounds.push((*turn, round, *number))?;
+            group = Some((place.turn, place.entry));
+            place.round = round;
         }
-        rounds.sort_unstable();
-        Ok(rounds)
+        self.places.sort_by_key(|place| (place.turn, place.round))
     }
 }

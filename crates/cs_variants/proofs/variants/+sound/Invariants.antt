@@ -6,5 +6,5 @@ use Rattle.cs_variants.proofs.variants.+sound.Given as goal
 abbrev pub invariant-are_sound-loop-shape : goal.invariant-are_sound-loop-shape
 invariant-are_sound-loop-shape l = AllByRecursion (IsSound l.count) (take l.shape-index l.shapes)
 
-abbrev pub invariant-are_sound_parts-loop-part : goal.invariant-are_sound_parts-loop-part
-invariant-are_sound_parts-loop-part l = AllByRecursion (IsSoundPart l.count) (take l.part-index l.parts)
+abbrev pub invariant-is_sound-loop-part : goal.invariant-is_sound-loop-part
+invariant-is_sound-loop-part l = AllByRecursion (IsSoundPart l.count) (take l.part-index l.parts)

@@ -1,5 +1,5 @@
 use Rattle.cs_samples.specs.Kept.{AreFound}
 use Rattle.cs_samples.proofs.asking.Found.ask_each.Given as goal
 
-abbrev pub invariant-loop-turn : goal.invariant-loop-turn
-invariant-loop-turn l = AreFound l.asking l.self
+abbrev pub invariant-loop-place : goal.invariant-loop-place
+invariant-loop-place l = AreFound l.asking l.self
