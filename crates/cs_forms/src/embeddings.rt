@@ -1,7 +1,6 @@
 // Forms that the wide profile refuses: of defaults, by the tokens around a mark or at a reference (5), and of embeddings (11).
-use crate::conditions::form_in_condition;
 use crate::forms::{Form, Found};
-use crate::syntax::{form_left_out, form_of_selected};
+use crate::syntax::{form_in_condition, form_left_out, form_of_selected};
 use cs_grammar::{Profile, Sort, Token};
 use cs_sources::Separator::{Amp, Bar, Colon, Comma};
 use cs_sources::{Declared, Inside, MOST_AROUND, Made, Near, Part, Separator, is_mark};
@@ -32,26 +31,23 @@ pub fn form_left_out_in<'s, 'a>(
     if let Some(other) = other {
         return Ok(other);
     }
-    if near.source.profile == Profile::Default {
-        return Ok(found);
-    }
-    let is_at_top = near.begins_declaration() && near.inside() == Inside::File;
     let form = match found.form {
+        form if near.source.profile == Profile::Default => form,
         Form::If => Form::IfOutside,
         Form::Let => Form::LetOutside,
         Form::HiddenName if near.before(1).text == "let" => Form::LetOutside,
         // Elsewhere it is a name that a struct or a file declares.
         Form::HiddenName => Form::Misplaced,
-        _ if near.here().sort == Sort::Definition && is_at_top => Form::DefaultInside,
-        _ if near.here().sort == Sort::Definition => Form::ExcludedDefault,
         Form::DefaultMark => form_of_default(near),
-        _ => return Ok(found),
+        form if near.here().sort != Sort::Definition => form,
+        _ if near.begins_declaration() && near.inside() == Inside::File => Form::DefaultInside,
+        _ => Form::ExcludedDefault,
     };
-    let found = Found::at(near, form);
-    if matches!(form, Form::ExcludedDefault) {
-        return Ok(found.showing(label_at(declared, near)?));
-    }
-    Ok(found)
+    let shown = match form {
+        Form::ExcludedDefault => label_at(declared, near)?,
+        _ => found.shown,
+    };
+    Ok(Found { form, ..found }.showing(shown))
 }
 
 /// The label of the field whose value a token is in, in parentheses or in none. Where the token embeds something, that of two declarations.
@@ -68,17 +64,14 @@ fn label_at<'a>(declared: &Declared<'_, 'a>, near: Near<'_, 'a>) -> Made<&'a str
 
 /// What is wrong with a mark of a default: its place, a mark before it, what it marks, or else another declaration.
 fn form_of_default(mark: Near<'_, '_>) -> Form {
-    let Some(value) = value_of(mark) else {
-        return Form::MisplacedDefault;
-    };
+    let value = value_of(mark).unwrap_or(mark.part());
     let operand = value.part_around(Bar, mark.place);
     let is_operand = mark.place == operand.from && value.count(Bar) > 0;
-    let is_marked = |first: Near<'_, '_>| first.place < mark.place && first.here().text == "*";
-    let has_mark_before = value.find_first(Bar, is_marked).is_some();
+    let first = value.find_first(Bar, |first| first.here().text == "*");
     let marked = operand.between(mark.place.saturating_add(1), operand.to);
     if !is_operand || !is_whole(mark, value) {
         Form::MisplacedDefault
-    } else if has_mark_before {
+    } else if first.is_some_and(|first| first.place < mark.place) {
         Form::SecondDefault
     } else if marked.any(|token| !is_of_literal(token.here())) {
         Form::DefaultValue
@@ -101,9 +94,8 @@ fn value_of<'s, 'a>(near: Near<'s, 'a>) -> Option<Part<'s, 'a>> {
 
 /// Whether a value, which a token is in, has nothing around it but parentheses.
 fn is_whole(near: Near<'_, '_>, value: Part<'_, '_>) -> bool {
-    let outer = successors(Some(near), |inner| match inner.inside() {
-        Inside::Parentheses => inner.bracket(),
-        Inside::File | Inside::Struct | Inside::List | Inside::Label => None,
+    let outer = successors(Some(near), |inner| {
+        (inner.inside() == Inside::Parentheses).then_some(inner.bracket()?)
     });
     let whole = value_of(outer.take(MOST_AROUND).last().unwrap_or(near));
     whole.is_some_and(|whole| whole.without("").from == value.from)
@@ -111,13 +103,9 @@ fn is_whole(near: Near<'_, '_>, value: Part<'_, '_>) -> bool {
 
 /// Whether a literal may have a token: null, truth values, integers, texts, and the brackets of lists and of empty structs.
 fn is_of_literal(token: Token<'_>) -> bool {
-    match token.sort {
-        Sort::Integer | Sort::Text | Sort::Inserted => true,
-        Sort::Name => ["null", "true", "false"].contains(&token.text),
-        Sort::Mark | Sort::Wide => ["-", ",", "[", "]", "{", "}", "(", ")"].contains(&token.text),
-        Sort::Definition | Sort::Hidden | Sort::Top | Sort::Bottom | Sort::LeftOut | Sort::End =>
-            false,
-    }
+    let is_mark = ["-", ",", "[", "]", "{", "}", "(", ")"].contains(&token.text);
+    let is_name = ["null", "true", "false"].contains(&token.text);
+    is_mark || is_name || matches!(token.sort, Sort::Integer | Sort::Text | Sort::Inserted)
 }
 
 /// The form where a struct literal has to be opened: in the wide profile also where something is embedded that can't be, at a value that an embedding
@@ -125,10 +113,7 @@ fn is_of_literal(token: Token<'_>) -> bool {
 pub fn form_closed<'s, 'a>(near: Near<'s, 'a>, declared: &Declared<'_, 'a>) -> Made<Found<'s, 'a>> {
     let (form, shown) = match near.source.profile {
         Profile::Default => (Form::NotOpened, ""),
-        Profile::Wide if near.declares_name() => {
-            let name = near.name_declared();
-            (form_of_declared(name), name.here().text)
-        }
+        Profile::Wide if near.declares_name() => form_of_declared(near.name_declared()),
         Profile::Wide => match flaw_at(declared, near)? {
             Some((form, about)) => (form, short(about).unwrap_or("..")),
             None => closed_around(near).unwrap_or((Form::NotOpened, "")),
@@ -137,18 +122,17 @@ pub fn form_closed<'s, 'a>(near: Near<'s, 'a>, declared: &Declared<'_, 'a>) -> M
     Ok(Found::at(near, form).showing(shown))
 }
 
-/// The form of a declared name at fault beside structs that are joined: a struct may declare it again, and what is no definition is held open.
-fn form_of_declared(name: Near<'_, '_>) -> Form {
+/// The form of a declared name at fault beside structs that are joined, and the name: a struct may declare it again, and what is no definition is held open.
+fn form_of_declared<'a>(name: Near<'_, 'a>) -> (Form, &'a str) {
     let here = name.here();
-    let is_inner = name.inside() == Inside::Struct && here.sort != Sort::Name;
     let is_definition = here.sort == Sort::Definition || here.text.starts_with("_#");
-    let value = name.source.declaration_at(name.place).declared();
     let is_literal = |token: Near<'_, '_>| ["{", ":", "["].contains(&token.here().text);
-    match (is_inner, value) {
-        (true, Some(value)) if !is_definition && value.any(is_literal) => Form::JoinedName,
-        (true, _) => Form::RedeclaredName,
-        (false, _) => Form::HeldName,
-    }
+    let form = match name.source.declaration_at(name.place).declared() {
+        _ if name.inside() != Inside::Struct || here.sort == Sort::Name => Form::HeldName,
+        Some(value) if !is_definition && value.any(is_literal) => Form::JoinedName,
+        _ => Form::RedeclaredName,
+    };
+    (form, here.text)
 }
 
 /// A text of a source as it is shown, where it is short and on one line.
@@ -173,33 +157,23 @@ fn closed_around<'a>(near: Near<'_, 'a>) -> Flaw<'a> {
 /// What is wrong where something is embedded, and the expression, the definition or the label that it is about; none where nothing is.
 type Flaw<'a> = Option<(Form, &'a str)>;
 
-/// What is wrong with what is embedded at a token, or with a value there that stands beside what is embedded.
+/// What is wrong with what is embedded at a token: a definition that embeds itself, or a part that is no struct; or else with a value there that
+/// stands beside what is embedded.
 fn flaw_at<'a>(declared: &Declared<'_, 'a>, near: Near<'_, 'a>) -> Made<Flaw<'a>> {
-    if let Some(embedded) = near.embedding()
-        && let Some(flaw) = flaw_inside(declared, embedded)?
-    {
-        return Ok(Some(flaw));
-    }
-    Ok(first_twice(&fields_beside(declared, near)?, true))
-}
-
-/// What can't be embedded in an expression: a part of it that is no struct, or a definition that embeds itself.
-fn flaw_inside<'a>(declared: &Declared<'_, 'a>, embedded: Part<'_, 'a>) -> Made<Flaw<'a>> {
-    let found = Embedded::of(declared, embedded, true)?;
-    for name in found.definitions.iter().take(MOST_ASKED) {
-        if embeds_itself(declared, *name)? {
-            return Ok(Some((Form::EmbeddedItself, *name)));
+    if let Some(embedded) = near.embedding() {
+        let found = Embedded::of(declared, embedded, true)?;
+        for name in found.definitions.iter().take(MOST_ASKED) {
+            if embeds_itself(declared, *name)? {
+                return Ok(Some((Form::EmbeddedItself, *name)));
+            }
+        }
+        if let Some(other) = found.other {
+            let whole = other.source.declaration_at(other.from);
+            let label = (whole.count(Colon) > 0).then_some(label_of(whole));
+            return Ok(Some((Form::EmbeddedNoStruct, label.unwrap_or(other.text()))));
         }
     }
-    let Some(other) = found.other else {
-        return Ok(None);
-    };
-    let whole = other.source.declaration_at(other.from);
-    let about = match whole.count(Colon) {
-        0 => other.text(),
-        _ => label_of(whole),
-    };
-    Ok(Some((Form::EmbeddedNoStruct, about)))
+    Ok(first_twice(&fields_beside(declared, near)?, true))
 }
 
 /// Whether a definition embeds itself.
@@ -231,11 +205,10 @@ fn fields_beside<'a>(declared: &Declared<'_, 'a>, near: Near<'_, 'a>) -> Made<Ve
 /// What the literal holds that has the declaration which a token is in, whether by itself or by embedding literals that have it; or else the
 /// operands of `&` that the literal is joined with.
 fn literal_around<'s, 'a>(near: Near<'s, 'a>) -> Option<Part<'s, 'a>> {
-    let around = successors(near.struct_around(), |inner| {
-        inner.embedding().and(inner.struct_around())
-    });
-    let opening = around.take(MOST_AROUND).last()?;
     let source = near.source;
+    let opening = source.declaration_at(near.place).first()?.bracket();
+    let around = successors(opening, |inner| inner.embedding()?.first()?.bracket());
+    let opening = around.take(MOST_AROUND).last()?;
     let place = source.held_in_declaration(opening.place);
     Near { source, place }.conjunction().or(opening.held())
 }
@@ -250,8 +223,7 @@ fn first_twice<'a>(fields: &[Field<'a>], is_opened: bool) -> Flaw<'a> {
         });
         let Some(second) = second else { continue };
         return Some(match (first.label, second.label) {
-            (EVERY, EVERY) => (Form::EmbeddedTwice, EVERY),
-            (EVERY, label) | (label, EVERY) => (Form::EmbeddedBesideEvery, label),
+            (EVERY, label) | (label, EVERY) if label != EVERY => (Form::EmbeddedBesideEvery, label),
             (label, _) => (Form::EmbeddedTwice, label),
         });
     }
@@ -260,10 +232,8 @@ fn first_twice<'a>(fields: &[Field<'a>], is_opened: bool) -> Flaw<'a> {
 
 /// The label of a declaration: of those in brackets there is one.
 fn label_of<'a>(declaration: Part<'_, 'a>) -> &'a str {
-    match declaration.source.token(declaration.from).text {
-        "[" => EVERY,
-        label => label,
-    }
+    let label = declaration.source.token(declaration.from).text;
+    if label == "[" { EVERY } else { label }
 }
 
 /// Whether two labels may be of one key. Escapes aren't read.
@@ -279,8 +249,8 @@ struct Field<'a> {
     brought: Option<usize>,
     /// Whether it holds a struct or a reference.
     holds: bool,
-    /// Whether something in it is closed before anything is joined to it: a reference, or what `close` is called with.
-    is_shut: bool,
+    /// Whether it was brought, and something in it is closed before anything is joined to it: a reference, or what `close` is called with.
+    may_open: bool,
     /// The definition that it is a reference to.
     reference: Option<&'a str>,
 }
@@ -288,10 +258,9 @@ struct Field<'a> {
 /// Whether two values of one key would open one another, where each holds a struct or a reference: an embedding brought one of them, in which
 /// something is closed, and the other one comes from elsewhere and isn't the same reference. CUE opens what an embedding brought.
 fn are_opened(first: Field<'_>, second: Field<'_>) -> bool {
-    let may_open = |field: Field<'_>| field.is_shut && field.brought.is_some();
     first.holds
         && second.holds
-        && (may_open(first) || may_open(second))
+        && (first.may_open || second.may_open)
         && first.brought != second.brought
         && (first.reference.is_none() || first.reference != second.reference)
 }
@@ -310,8 +279,9 @@ struct Embedded<'s, 'a> {
     definitions: Vec<&'a str>,
     /// The first part that is no struct: neither a literal nor made of some.
     other: Option<Part<'s, 'a>>,
-    /// Declarations and operands that are still to come, the next one last; each with the place of the embedded reference that brought it, if any.
-    coming: Vec<(Part<'s, 'a>, Option<usize>)>,
+    /// Declarations and operands that are still to come, the next ones last; each with what separates them, and with the place of the embedded
+    /// reference that brought them, if any.
+    coming: Vec<(Part<'s, 'a>, Separator, Option<usize>)>,
 }
 
 impl<'s, 'a> Embedded<'s, 'a> {
@@ -333,28 +303,18 @@ impl<'s, 'a> Embedded<'s, 'a> {
 
     /// Passes the declarations of a part, and what is still to come behind them.
     fn pass_all(&mut self, part: Part<'s, 'a>) -> Made<()> {
-        self.put_each(part, None, Comma)?;
+        self.coming.push((part, Comma, None))?;
         for _ in 0..MOST_PASSED {
-            let Some((next, by)) = self.coming.pop() else {
+            let Some((whole, separator, by)) = self.coming.pop() else {
                 break;
             };
+            let next = whole.part_around(separator, whole.from);
+            if next.to < whole.to {
+                let others = whole.between(next.to.saturating_add(1), whole.to);
+                self.coming.push((others, separator, by))?;
+            }
             if !self.pass(next, by)? {
                 self.other = self.other.or(Some(next));
-            }
-        }
-        Ok(())
-    }
-
-    /// What is between separators comes next.
-    fn put_each(
-        &mut self,
-        whole: Part<'s, 'a>,
-        by: Option<usize>,
-        separator: Separator,
-    ) -> Made<()> {
-        for place in (0..=whole.count(separator)).rev() {
-            if let Some(part) = whole.part(separator, place) {
-                self.coming.push((part, by))?;
             }
         }
         Ok(())
@@ -371,7 +331,7 @@ impl<'s, 'a> Embedded<'s, 'a> {
             None if whole.closed_by().is_some() => return Ok(false),
             None => (whole, Amp),
         };
-        self.put_each(part, by, separator)?;
+        self.coming.push((part, separator, by))?;
         Ok(true)
     }
 
@@ -386,7 +346,7 @@ impl<'s, 'a> Embedded<'s, 'a> {
         for place in from..to {
             let token = Near { source, place };
             if token.begins_embedding() {
-                self.coming.push((token.part(), by))?;
+                self.coming.push((token.part(), Comma, by))?;
             }
         }
         Ok(true)
@@ -402,38 +362,33 @@ impl<'s, 'a> Embedded<'s, 'a> {
             is_call || near.here().sort == Sort::Definition
         });
         let value = field.declared().unwrap_or(field);
-        let reference = value
-            .only()
-            .filter(|only| only.here().sort == Sort::Definition);
+        let only = value.only().map(Near::here);
+        let reference = only.filter(|only| only.sort == Sort::Definition);
+        let brought = by.or(other);
         Field {
             label: label_of(field),
-            brought: by.or(other),
+            brought,
             holds: is_shut || !value.is_plain(),
-            is_shut,
-            reference: reference.map(|reference| reference.here().text),
+            may_open: is_shut && brought.is_some(),
+            reference: reference.map(|reference| reference.text),
         }
     }
 
     /// The bodies of a definition that is embedded come next, unless it is already; whether they are followed, or `...` is embedded.
     fn pass_one(&mut self, one: Part<'s, 'a>, by: Option<usize>) -> Made<bool> {
-        let Some(first) = one.first() else {
-            return Ok(true);
-        };
-        let here = first.here();
+        let here = one.source.token(one.from);
         if here.sort != Sort::Definition || one.only().is_none() {
-            return Ok(is_mark(here, "..."));
+            return Ok(one.first().is_none() || is_mark(here, "..."));
         }
-        if self.definitions.contains(&here.text) {
-            return Ok(true);
-        }
-        if self.definitions.len() >= MOST_DEFINITIONS {
-            return Ok(false);
+        let is_met = self.definitions.contains(&here.text);
+        if is_met || self.definitions.len() >= MOST_DEFINITIONS {
+            return Ok(is_met);
         }
         self.definitions.push(here.text)?;
         for declaration in self.declared.named(here.text).iter().rev() {
             let whole = declaration.part();
             let body = whole.declared().unwrap_or(whole);
-            self.coming.push((body, by.or(Some(first.place))))?;
+            self.coming.push((body, Comma, by.or(Some(one.from))))?;
         }
         Ok(true)
     }

@@ -198,16 +198,21 @@ pub struct Found<'s, 'a> {
 }
 
 impl<'s, 'a> Found<'s, 'a> {
-    /// A form that the tokens show from one place up to another.
-    pub(crate) fn between(form: Form, near: Near<'s, 'a>, to: usize) -> Found<'s, 'a> {
-        let part = near.source.whole().between(near.place, to);
+    /// A form that the bytes show from one offset up to another.
+    pub(crate) fn over(form: Form, near: Near<'s, 'a>, start: usize, end: usize) -> Found<'s, 'a> {
         Found {
             form,
             near,
-            start: near.here().start,
-            end: part.end(),
-            shown: part.text(),
+            start,
+            end,
+            shown: near.source.text(start, end),
         }
+    }
+
+    /// A form that the tokens show from one place up to another.
+    pub(crate) fn between(form: Form, near: Near<'s, 'a>, to: usize) -> Found<'s, 'a> {
+        let part = near.source.whole().between(near.place, to);
+        Found::over(form, near, near.here().start, part.end())
     }
 
     /// A form that a token shows.
@@ -325,22 +330,15 @@ const FORMS: [(&str, &str); 86] = rows! {
     "embedded-twice" => "embedding joins the values of `[string]` and `{}`, which hold a struct or a reference each, and one would open the other: leave one of the two out{}",
 };
 
-/// What to write instead of what a package gives, by its name; it goes on with another sentence.
-const PACKAGES: Sayings = &rows! {
-    &["list"] => "; `[T, T, ...T]` has at least two elements, `[] | [T] | [T, T]` at most two; that they differ can't be said",
-    &["strings"] => "; `!=\"\"` is a text that isn't empty; other lengths can't be said, but each text can: `\"a\" | \"b\"`",
-    &["math"] => "; what can be said of a number is bounds, as `>=0 & <=100`, or each number: `0 | 2 | 4`",
-    &["struct"] => "; fields without `?` have to be there; how many there are can't be said",
-};
-
-/// What is said of conditions and comparisons.
-const COMPARISONS: Sayings = &rows! {
+/// What is said of how a source spells a form: of packages by their names with the point behind, of conditions and comparisons, and of kinds of CUE
+/// that the profile leaves out. What is said of a package goes on with another sentence.
+const SHOWN: Sayings = &rows! {
+    &["list."] => "; `[T, T, ...T]` has at least two elements, `[] | [T] | [T, T]` at most two; that they differ can't be said",
+    &["strings."] => "; `!=\"\"` is a text that isn't empty; other lengths can't be said, but each text can: `\"a\" | \"b\"`",
+    &["math."] => "; what can be said of a number is bounds, as `>=0 & <=100`, or each number: `0 | 2 | 4`",
+    &["struct."] => "; fields without `?` have to be there; how many there are can't be said",
     &["&&", "||"] => "conditions are left out: `&` joins types, and `|` gives alternatives",
     &["=="] => "comparisons are left out: fields can't be compared; say the cases as alternatives",
-};
-
-/// What to write for kinds of CUE that the profile leaves out.
-const KINDS: Sayings = &rows! {
     &["float", "float32", "float64"] => "floats are left out; write `int`, and scale it (percent, milliseconds)",
     &["bytes"] => "JSON has no bytes; agree on a text, such as base64, and write `string`",
     &["uint64", "uint128"] => "integers have 64 signed bits; write `uint`",
@@ -382,26 +380,23 @@ pub fn kind_meant(name: &str) -> Option<&'static str> {
 
 /// What is said of how a source spells a form, for those of which that tells more; nothing for the others.
 pub fn said_of_shown(form: Form, shown: &str) -> &'static str {
-    match form {
-        Form::NumberSpelling => said_of_number(shown),
-        Form::StrayCharacter => said_of_character(shown),
-        Form::PackageValue | Form::PackageCall => {
-            let package = shown.split('.').next().unwrap_or("");
-            said_in(PACKAGES, package).unwrap_or("; `string` is what remains of their formats")
-        }
-        Form::Comparison => said_in(COMPARISONS, shown).unwrap_or(
-            "comparisons are left out: a limit is joined by `&`, and fields can't be compared",
-        ),
-        Form::UnknownKind => said_in(KINDS, shown).unwrap_or(""),
-        Form::LimitKind if shown == "!=" => "an integer, a text or `null`",
-        Form::LimitKind => "an integer",
+    let otherwise = match form {
+        Form::NumberSpelling => return said_of_number(shown),
+        Form::StrayCharacter => return said_of_character(shown),
+        Form::LimitKind if shown == "!=" => return "an integer, a text or `null`",
+        Form::LimitKind => return "an integer",
         Form::EmbeddedNoStruct
         | Form::EmbeddedItself
         | Form::EmbeddedTwice
         | Form::EmbeddedBesideEvery
-            if shown.contains('&') => "; what `&` joins is embedded one by one",
-        _ => "",
-    }
+            if shown.contains('&') => return "; what `&` joins is embedded one by one",
+        Form::PackageValue | Form::PackageCall => "; `string` is what remains of their formats",
+        Form::Comparison =>
+            "comparisons are left out: a limit is joined by `&`, and fields can't be compared",
+        Form::UnknownKind => "",
+        _ => return "",
+    };
+    said_in(SHOWN, shown.split_inclusive('.').next().unwrap_or("")).unwrap_or(otherwise)
 }
 
 /// What is said of a number that isn't spelled as an integer of the profile: of a decimal one by the first byte that is no digit of it.

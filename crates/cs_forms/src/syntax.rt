@@ -1,9 +1,12 @@
-// Forms by the tokens at a place: where none begins (3), at one that is out of place (4) or left out (5), and of names that aren't declared (9).
-use crate::conditions::form_in_condition;
+// Forms by the tokens at a place: where none begins (3), at one that is out of place (4) or left out (5), of names that aren't declared (9) or name
+// fields (10), and of the conditions of an `if` in the wide profile (4, 5).
 use crate::forms::{Form, Found, said_of_shown};
 use cs_grammar::{Profile, Sort, Token};
 use cs_sources::Separator::Comma;
-use cs_sources::{Declared, Inside, Near, begins_value, ends_value, follows_label, separates};
+use cs_sources::{
+    Declared, Inside, MOST_AROUND, Near, begins_value, ends_value, follows_label, separates,
+};
+use std::iter::successors;
 
 /// The packages that come with CUE.
 const PACKAGES: [&str; 18] = [
@@ -12,17 +15,14 @@ const PACKAGES: [&str; 18] = [
 ];
 
 /// What the default profile leaves out by its token alone.
-const LEFT_OUT: [(&str, Form); 10] = [
-    ("import", Form::Import),
-    ("let", Form::Let),
-    ("for", Form::For),
-    ("if", Form::If),
-    ("=", Form::Alias),
-    ("=~", Form::RegularExpression),
-    ("!~", Form::RegularExpression),
-    ("==", Form::Comparison),
-    ("&&", Form::Comparison),
-    ("||", Form::Comparison),
+const LEFT_OUT: [(&[&str], Form); 7] = [
+    (&["import"], Form::Import),
+    (&["let"], Form::Let),
+    (&["for"], Form::For),
+    (&["if"], Form::If),
+    (&["="], Form::Alias),
+    (&["=~", "!~"], Form::RegularExpression),
+    (&["==", "&&", "||"], Form::Comparison),
 ];
 
 /// The form at an offset of a source where no token of its profile begins; another one stands there in its place.
@@ -30,13 +30,7 @@ pub fn form_stuck<'s, 'a>(near: Near<'s, 'a>, offset: usize) -> Found<'s, 'a> {
     let source = near.source;
     let rest = source.text(offset, source.named.text.len());
     let (form, len) = form_at(source.profile, rest);
-    Found {
-        form,
-        near,
-        start: offset,
-        end: offset.saturating_add(len),
-        shown: rest.get(..len).unwrap_or(""),
-    }
+    Found::over(form, near, offset, offset.saturating_add(len))
 }
 
 /// The form at the front of a text, and how many of its bytes show it.
@@ -44,16 +38,14 @@ fn form_at(profile: Profile, text: &str) -> (Form, usize) {
     let line = text.split('\n').next().unwrap_or("").trim_ascii_end();
     let behind_marks = text.trim_start_matches('#');
     let is_raw = behind_marks.starts_with(|next| matches!(next, '"' | '\''));
-    let first_len = text.chars().next().map_or(0, |first| first.len_utf8());
+    // An attribute goes up to its first closing parenthesis, or the end of its line.
+    let attribute = line.split_inclusive(')').next().unwrap_or("");
+    let first = text.chars().next();
     let bytes = text.as_bytes();
     match bytes {
         [0xef, 0xbb, 0xbf, ..] => (Form::ByteOrderMark, 3),
         [b'@', ..] if profile == Profile::Wide => (Form::BrokenAttribute, 1),
-        // It goes up to its first closing parenthesis, or the end of its line.
-        [b'@', ..] => match line.find(')') {
-            Some(last) => (Form::Attribute, last.saturating_add(1)),
-            None => (Form::Attribute, line.len()),
-        },
+        [b'@', ..] => (Form::Attribute, attribute.len()),
         [b'\'', ..] => (Form::Bytes, text_at(bytes).1),
         [b'"', b'"', b'"', ..] => (Form::MultiLineText, 3),
         [b'"', ..] => match text_at(bytes) {
@@ -62,7 +54,7 @@ fn form_at(profile: Profile, text: &str) -> (Form, usize) {
         },
         [b'#', ..] if is_raw => (Form::RawText, 2),
         [b'0'..=b'9', ..] => form_of_number(bytes),
-        _ => (Form::StrayCharacter, first_len),
+        _ => (Form::StrayCharacter, first.map_or(0, char::len_utf8)),
     }
 }
 
@@ -104,20 +96,13 @@ fn text_at(bytes: &[u8]) -> (Form, usize) {
 /// The form of a name that isn't declared, or has no field that `.` selects from it; or of a `let` whose name nothing names, or another one has.
 pub fn form_unknown<'s, 'a>(near: Near<'s, 'a>, declared: &Declared<'_, 'a>) -> Found<'s, 'a> {
     let name = near.here();
-    if near.begins_let() {
-        return form_of_let(near);
-    }
-    if let Some(selected) = form_of_selected(near)
-        && is_declared(name.text, declared)
-    {
-        return Found {
-            form: Form::UnknownField,
-            ..selected
-        };
-    }
-    let form = match name.sort {
-        Sort::Definition => Form::UnknownDefinition,
-        Sort::Hidden => Form::UnknownHidden,
+    let form = match (near.selector(), name.sort) {
+        _ if near.begins_let() => return form_of_let(near),
+        (Some(selector), _) if is_declared(name.text, declared) => {
+            return Found::between(Form::UnknownField, near, selector.to);
+        }
+        (_, Sort::Definition) => Form::UnknownDefinition,
+        (_, Sort::Hidden) => Form::UnknownHidden,
         _ if said_of_shown(Form::UnknownKind, name.text).is_empty() => Form::UnknownName,
         _ => Form::UnknownKind,
     };
@@ -160,25 +145,22 @@ pub(crate) fn form_of_selected<'s, 'a>(near: Near<'s, 'a>) -> Option<Found<'s, '
 /// The form at a token that the default profile leaves out, wherever it stands.
 pub(crate) fn form_left_out<'s, 'a>(near: Near<'s, 'a>) -> Found<'s, 'a> {
     let here = near.here();
-    if here.text == "." {
-        return form_of_dot(near);
-    }
-    let is_in_label = near.inside() == Inside::Label;
-    let form = match form_of_token(here.text) {
-        Some(Form::Alias) if is_in_label => Form::AliasLabel,
-        Some(Form::RegularExpression) if is_in_label => Form::Pattern,
-        Some(form) => form,
-        None if here.sort == Sort::Hidden => Form::HiddenName,
-        None if here.sort == Sort::Name => Form::Misplaced,
-        None if here.text == "*" && !ends_value(near.before(1)) => Form::DefaultMark,
-        None => Form::Arithmetic,
+    let form = match (form_of_token(here.text), near.inside()) {
+        _ if here.text == "." => return form_of_dot(near),
+        (Some(Form::Alias), Inside::Label) => Form::AliasLabel,
+        (Some(Form::RegularExpression), Inside::Label) => Form::Pattern,
+        (Some(form), _) => form,
+        _ if here.sort == Sort::Hidden => Form::HiddenName,
+        _ if here.sort == Sort::Name => Form::Misplaced,
+        _ if here.text == "*" && !ends_value(near.before(1)) => Form::DefaultMark,
+        _ => Form::Arithmetic,
     };
     Found::at(near, form)
 }
 
 /// The form of what the default profile leaves out by its token alone.
 fn form_of_token(text: &str) -> Option<Form> {
-    let listed = LEFT_OUT.iter().find(|(token, _)| *token == text)?;
+    let listed = LEFT_OUT.iter().find(|(tokens, _)| tokens.contains(&text))?;
     Some(listed.1)
 }
 
@@ -200,12 +182,10 @@ fn form_of_dot<'s, 'a>(near: Near<'s, 'a>) -> Found<'s, 'a> {
 /// The form at a token that is out of place, though the profile has it elsewhere.
 pub fn form_out_of_place<'s, 'a>(near: Near<'s, 'a>) -> Found<'s, 'a> {
     let other = form_in_condition(near, Form::Condition).or(after_word(near));
-    if let Some(found) = other {
-        return found;
-    }
-    match near.inside() {
-        Inside::Label if near.behind(1).text == "=" => Found::at(near, Form::AliasLabel),
-        Inside::Label => Found::at(near, Form::Pattern),
+    match (other, near.inside()) {
+        (Some(found), _) => found,
+        (None, Inside::Label) if near.behind(1).text == "=" => Found::at(near, Form::AliasLabel),
+        (None, Inside::Label) => Found::at(near, Form::Pattern),
         _ if near.begins_declaration() => form_of_declaration(near),
         _ if ends_value(near.before(1)) => behind_value(near),
         _ => behind_mark(near),
@@ -215,12 +195,9 @@ pub fn form_out_of_place<'s, 'a>(near: Near<'s, 'a>) -> Found<'s, 'a> {
 /// The form after a word that begins a clause, or of a value after the mark of a limit, or after its sign.
 fn after_word<'s, 'a>(near: Near<'s, 'a>) -> Option<Found<'s, 'a>> {
     let (before, here) = (near.before(1), near.here());
-    if let Some(form) = form_of_token(before.text)
-        && matches!(form, Form::Let | Form::For | Form::If)
-    {
+    if let Some(form @ (Form::Let | Form::For | Form::If)) = form_of_token(before.text) {
         let is_let = matches!(form, Form::Let) && near.source.profile == Profile::Wide;
-        let form = if is_let { Form::LetOutside } else { form };
-        return Some(Found::before(near, form));
+        return Some(Found::before(near, if is_let { Form::LetOutside } else { form }));
     }
     let is_text = here.sort == Sort::Text;
     let is_other = is_text || ["true", "false", "null", "{", "["].contains(&here.text);
@@ -241,11 +218,11 @@ fn is_relation(token: Token<'_>) -> bool {
 fn form_of_declaration<'s, 'a>(near: Near<'s, 'a>) -> Found<'s, 'a> {
     let (here, behind) = (near.here(), near.behind(1));
     let is_at_top = near.inside() == Inside::File;
+    let is_plain = ["", ",", "&", "|", ":", "?", "!", "}", "]", ")"].contains(&here.text);
     let form = match (here.sort, here.text.as_bytes()) {
         _ if near.before(2).text == "..." => Form::EarlyEllipsis,
         (_, [b'&' | b'|']) if near.before(1).sort == Sort::Inserted => Form::BrokenLine,
-        (_, [b'}' | b']' | b')']) => return closing(near),
-        (_, [] | [b',' | b'&' | b'|' | b':' | b'?' | b'!']) => return plain(near),
+        _ if is_plain => return plain(near),
         (_, b"package") if is_at_top => Form::LatePackage,
         (Sort::Name | Sort::Text, _) if is_at_top && follows_label(behind) => Form::TopLevelField,
         _ if is_at_top => Form::TopLevelValue,
@@ -266,30 +243,27 @@ fn behind_value<'s, 'a>(near: Near<'s, 'a>) -> Found<'s, 'a> {
     let (before, here) = (near.before(1), near.here());
     let first = near.part().first().unwrap_or(near);
     let is_name = matches!(before.sort, Sort::Definition | Sort::Hidden);
-    match here.text {
-        "?" | "!" if is_name && near.source.profile == Profile::Wide => {
+    match (here.text, first.here().text.as_bytes()) {
+        ("?" | "!", _) if is_name && near.source.profile == Profile::Wide => {
             Found::at(near, Form::MarkedName)
         }
         // In the wide profile a call of a package is a name with a selector up to here.
-        "(" if near.before(2).text == "." => {
+        ("(", _) if near.before(2).text == "." => {
             let place = near.place.saturating_sub(2);
             form_of_dot(Near { place, ..near })
         }
-        "(" if before.text == "close" => Found::before(near, Form::Close),
-        "(" if before.sort == Sort::Name => Found::before(near, Form::Call),
-        "[" if before.text != "}" => Found::at(near, Form::Index),
-        ":" if before.sort == Sort::Definition => Found::before(near, Form::NestedDefinition),
-        ":" if near.colon().is_some() => plain(near),
-        ":" if first.here().sort == Sort::Integer => Found::at(first, Form::DigitLabel),
+        ("(", _) if before.text == "close" => Found::before(near, Form::Close),
+        ("(", _) if before.sort == Sort::Name => Found::before(near, Form::Call),
+        ("[", _) if before.text != "}" => Found::at(near, Form::Index),
+        (":", _) if before.sort == Sort::Definition => Found::before(near, Form::NestedDefinition),
+        (":", _) if near.colon().is_some() => plain(near),
+        (":", _) if first.here().sort == Sort::Integer => Found::at(first, Form::DigitLabel),
         // What is no label.
-        ":" => match first.here().text.as_bytes() {
-            [b'*'] => Found::at(first, Form::MisplacedDefault),
-            [b'['] => Found::at(first, Form::Pattern),
-            [b'('] => Found::at(first, Form::DynamicLabel),
-            _ => plain(near),
-        },
+        (":", [b'*']) => Found::at(first, Form::MisplacedDefault),
+        (":", [b'[']) => Found::at(first, Form::Pattern),
+        (":", [b'(']) => Found::at(first, Form::DynamicLabel),
         _ if is_relation(here) => Found::at(near, Form::Comparison),
-        "-" | "div" | "mod" | "quo" | "rem" => Found::at(near, Form::Arithmetic),
+        ("-" | "div" | "mod" | "quo" | "rem", _) => Found::at(near, Form::Arithmetic),
         _ => plain(near),
     }
 }
@@ -311,14 +285,16 @@ fn behind_mark<'s, 'a>(near: Near<'s, 'a>) -> Found<'s, 'a> {
 fn plain<'s, 'a>(near: Near<'s, 'a>) -> Found<'s, 'a> {
     let (before, here) = (near.before(1), near.here());
     let is_parted = before.sort == Sort::Inserted && near.inside() == Inside::List;
-    match here.text.as_bytes() {
+    let is_closing = ["}", "]", ")"].contains(&here.text);
+    // The end, or the comma that it inserts.
+    let is_end = here.text.is_empty() && near.behind(1).sort == Sort::End;
+    match near.bracket() {
         _ if is_label_before(near) => Found::before(near, Form::MissingColon),
         _ if begins_value(here) && ends_value(before) => Found::at(near, Form::MissingComma),
         _ if begins_value(here) && is_parted => Found::at(near, Form::NewLineInList),
         _ if lacks_value(before, here) => Found::at(near, Form::MissingValue),
-        [b'}' | b']' | b')'] => closing(near),
-        // The end, or the comma that it inserts.
-        [] if near.behind(1).sort == Sort::End => closing(near),
+        Some(bracket) if is_closing || is_end => Found::at(bracket, Form::Unclosed),
+        None if is_closing => Found::at(near, Form::StrayBracket),
         _ => Found::at(near, Form::Misplaced),
     }
 }
@@ -337,11 +313,44 @@ fn lacks_value(before: Token<'_>, here: Token<'_>) -> bool {
     is_wanted && (separates(here) || ["}", "]", ")", "&", "|", ":"].contains(&here.text))
 }
 
-/// The form at the end of a source, or at a closing bracket that closes nothing.
-fn closing<'s, 'a>(near: Near<'s, 'a>) -> Found<'s, 'a> {
-    match near.bracket() {
-        Some(bracket) => Found::at(bracket, Form::Unclosed),
-        None if near.here().text.is_empty() => Found::at(near, Form::Misplaced),
-        None => Found::at(near, Form::StrayBracket),
+/// The form at a name that names a field, where it may not: in a condition, or where `.` selects it, the field may be absent.
+pub fn form_of_field<'s, 'a>(near: Near<'s, 'a>) -> Found<'s, 'a> {
+    match near.selector() {
+        Some(whole) if !names_field(near) => Found::between(Form::MarkedField, near, whole.to),
+        _ if near.is_asked() => Found::at(near, Form::AbsentField),
+        _ => Found::at(near, Form::FieldReference),
+    }
+}
+
+/// Whether a struct around a name has a label without quotes that is the name.
+fn names_field(near: Near<'_, '_>) -> bool {
+    let mut around = successors(near.bracket(), |inner| inner.bracket()).take(MOST_AROUND);
+    let label = around.find_map(|bracket| bracket.held()?.label(near.here().text));
+    near.here().sort == Sort::Name && label.is_some()
+}
+
+/// The form at a token in the conditions of an `if` in the wide profile, which is out of place there, or left out as another form; none elsewhere.
+pub(crate) fn form_in_condition<'s, 'a>(near: Near<'s, 'a>, other: Form) -> Option<Found<'s, 'a>> {
+    let is_one = near.source.profile == Profile::Wide && near.is_in_condition();
+    // A name that the profile has where it stands is one of a field that can't be asked about.
+    let form = match other {
+        Form::Misplaced if near.is_asked() => form_of_asked(near),
+        _ => Form::Condition,
+    };
+    is_one.then_some(Found::at(near, form))
+}
+
+/// Why a condition can't ask about the field of a name.
+fn form_of_asked(near: Near<'_, '_>) -> Form {
+    let name = near.here().text;
+    let own = near.source.held(near.source.around(near.place));
+    // With its label in quotes or not, at any depth.
+    let declares = |token: Near<'_, '_>| {
+        token.is_label() && token.here().text.trim_matches('"') == name
+    };
+    match near.part().under_conditions() {
+        _ if own.label(name).is_none() => Form::UndeclaredField,
+        Some(body) if body.any(declares) => Form::DeclaredAgain,
+        _ => Form::StructBeside,
     }
 }

@@ -1,18 +1,16 @@
 // A token of a source and what is near it, and a part of a source and its parts.
 use crate::source::Separator::{Amp, Bar, Colon, Comma};
-use crate::source::{Bracket, Inside, Separation, Separator, Source};
+use crate::source::{Inside, Separation, Separator, Source};
 use crate::tokens::{end_of, follows_label, is_mark, precedes_declaration};
 use cs_grammar::{Profile, Sort, Token};
 use std::iter::successors;
 use std::mem;
 
-/// The words that begin clauses of a struct.
-const CLAUSES: [&str; 2] = ["if", "let"];
-
-/// The names that refer to nothing, unless they are declared: those of kinds (CUE, predeclared identifiers), and of literals.
-const PREDECLARED: [&str; 15] = [
+/// The names that refer to nothing, unless they are declared: those of kinds (CUE, predeclared identifiers), and of literals; and the words that
+/// begin clauses of a struct.
+const PREDECLARED: [&str; 17] = [
     "int", "number", "string", "bool", "uint", "uint8", "int8", "uint16", "int16", "uint32",
-    "int32", "int64", "null", "true", "false",
+    "int32", "int64", "null", "true", "false", "if", "let",
 ];
 
 /// A token among those of a source.
@@ -43,8 +41,7 @@ impl<'s, 'a> Near<'s, 'a> {
 
     /// The token so many before; the end where there is none.
     pub fn before(self, steps: usize) -> Token<'a> {
-        let place = self.place.checked_sub(steps);
-        self.source.token(place.unwrap_or(usize::MAX))
+        self.source.token(self.place.wrapping_sub(steps))
     }
 
     /// The token so many behind; the end where there is none.
@@ -67,32 +64,28 @@ impl<'s, 'a> Near<'s, 'a> {
         self.source.opening(self.source.open_at(self.place))
     }
 
-    /// The bracket that the token opens.
-    fn opened(self) -> Option<Bracket> {
-        let bracket = self.source.bracket(self.source.own(self.place));
-        (bracket.first == self.place.checked_add(1)?).then_some(bracket)
+    /// The number of the bracket that the token opens.
+    fn opened(self) -> Option<usize> {
+        let number = self.source.own(self.place);
+        (self.source.bracket(number).first == self.place.checked_add(1)?).then_some(number)
     }
 
     /// The token that closes the bracket which the token opens.
     pub fn closing(self) -> Option<Near<'s, 'a>> {
-        let bracket = self.opened()?;
+        let bracket = self.source.bracket(self.opened()?);
         let behind = self.source.near(bracket.end)?;
         bracket.is_closed.then_some(behind)
     }
 
     /// What is in the bracket that the token opens.
     pub fn held(self) -> Option<Part<'s, 'a>> {
-        let Bracket { first, end, .. } = self.opened()?;
-        Some(self.source.whole().between(first, end))
+        Some(self.source.held(self.opened()?))
     }
 
     /// The token behind it in the same bracket, where all that a bracket holds is one.
     pub fn next(self) -> Option<Near<'s, 'a>> {
         // A bracket that isn't closed goes on to the end of that around it.
-        let last = match self.opened() {
-            Some(_) => self.closing()?,
-            None => self,
-        };
+        let last = self.opened().map_or(Some(self), |_| self.closing())?;
         let next = last.moved(1)?;
         let around = self.source.bracket(self.source.around(self.place));
         (next.place < around.end).then_some(next)
@@ -119,13 +112,11 @@ impl<'s, 'a> Near<'s, 'a> {
 
     /// Whether a declaration begins with the token that is this word, and no field of this label.
     fn begins_clause(self, word: &str) -> bool {
-        let here = self.here();
-        let is_word = here.sort == Sort::Name && here.text == word;
-        is_word && self.begins_declaration() && !self.is_label()
+        self.here().text == word && self.begins_declaration() && !self.is_label()
     }
 
     /// Whether a declaration of a struct begins with the token that is an `if`, and no field of this label.
-    pub fn begins_conditional(self) -> bool {
+    fn begins_conditional(self) -> bool {
         self.begins_clause("if") && self.inside() == Inside::Struct
     }
 
@@ -136,19 +127,17 @@ impl<'s, 'a> Near<'s, 'a> {
 
     /// Whether the declaration that begins with the token gives a name that is none of the data, and no definition of a file.
     pub fn declares_name(self) -> bool {
-        let sort = self.here().sort;
-        let may_be = match self.inside() {
-            Inside::Struct => matches!(sort, Sort::Definition | Sort::Hidden),
-            Inside::File => self.begins_declaration() && matches!(sort, Sort::Name | Sort::Hidden),
-            Inside::List | Inside::Parentheses | Inside::Label => false,
+        let may_be = match (self.inside(), self.here().sort) {
+            (Inside::Struct, Sort::Definition | Sort::Hidden) => true,
+            (Inside::File, Sort::Name | Sort::Hidden) => self.begins_declaration(),
+            _ => false,
         };
         self.begins_let() || (may_be && self.is_label())
     }
 
     /// The token that has the name which a declaration gives that begins with the token: behind a `let`, and else itself.
     pub fn name_declared(self) -> Near<'s, 'a> {
-        let behind = self.moved(1).unwrap_or(self);
-        if self.begins_let() { behind } else { self }
+        self.moved(usize::from(self.begins_let())).unwrap_or(self)
     }
 
     /// The name that the author gives a definition which is declared at the token, or stands for what a selector asks for that begins with it.
@@ -175,14 +164,13 @@ impl<'s, 'a> Near<'s, 'a> {
     }
 
     /// Whether the token refers to a definition, or in sources that spell a package to another name that a struct or a file declares.
-    pub fn is_reference(self) -> bool {
+    fn is_reference(self) -> bool {
         let here = self.here();
         let is_one = match here.sort {
             Sort::Definition | Sort::Hidden => true,
-            // No field that an `if` asks about, nor what a `let` binds, nor these words themselves.
+            // No field that an `if` asks about, nor what a `let` binds.
             Sort::Name => self.source.profile == Profile::Wide
-                && !CLAUSES.contains(&self.word_before())
-                && !CLAUSES.contains(&here.text)
+                && !["if", "let"].contains(&self.word_before())
                 && !PREDECLARED.contains(&here.text),
             _ => false,
         };
@@ -193,9 +181,8 @@ impl<'s, 'a> Near<'s, 'a> {
     pub fn is_in_condition(self) -> bool {
         let declaration = self.source.declaration_at(self.place);
         let before = declaration.between(declaration.from, self.place);
-        let first = declaration.first();
-        first.is_some_and(|first| first.begins_conditional())
-            && !before.any(|token| is_mark(token.here(), "{"))
+        let is_one = declaration.first().is_some_and(Near::begins_conditional);
+        is_one && !before.any(|token| is_mark(token.here(), "{"))
     }
 
     /// Whether the token names a field that an `if` of a struct asks about: it is the name behind that, or behind its `!`.
@@ -218,19 +205,14 @@ impl<'s, 'a> Near<'s, 'a> {
         let first = declaration.first()?;
         let is_embedded = first.inside() == Inside::Struct
             && declaration.count(Colon) == 0
-            && !first.begins_let()
-            && !is_mark(first.here(), "...");
+            && !["let", "..."].contains(&first.here().text);
         is_embedded.then_some(declaration)
-    }
-
-    /// The token that opens the struct with the declaration that the token is in.
-    pub fn struct_around(self) -> Option<Near<'s, 'a>> {
-        self.source.declaration_at(self.place).first()?.bracket()
     }
 
     /// Whether the declaration that the token is in stands in a struct that embeds an expression, or that is embedded.
     pub fn stands_beside_embeddings(self) -> bool {
-        self.struct_around().is_some_and(|opening| {
+        let first = self.source.declaration_at(self.place).first();
+        first.and_then(Near::bracket).is_some_and(|opening| {
             let held = self.source.held(self.source.own(opening.place));
             let beside = held.find_first(Comma, |first| first.begins_embedding());
             opening.embedding().is_some() || beside.is_some()
@@ -246,8 +228,7 @@ impl<'s, 'a> Near<'s, 'a> {
     /// The colon of the label whose value the token is in, in the same bracket.
     pub fn colon(self) -> Option<Near<'s, 'a>> {
         let (source, part) = (self.source, self.part());
-        let before = part.between(part.from, self.place);
-        let place = before.separations(Colon).last()?.2;
+        let place = part.part_around(Colon, self.place).from.checked_sub(1)?;
         (part.from < place).then_some(Near { source, place })
     }
 }
@@ -298,12 +279,8 @@ impl<'s, 'a> Part<'s, 'a> {
     /// Its part at a place, where separators are between the parts.
     pub fn part(self, separator: Separator, place: usize) -> Option<Part<'s, 'a>> {
         let separations = self.separations(separator);
-        let from = match place.checked_sub(1) {
-            None => self.from,
-            Some(before) => separations.get(before)?.2.checked_add(1)?,
-        };
         let to = separations.get(place).map_or(self.to, |next| next.2);
-        Some(self.between(from, to))
+        (place <= separations.len()).then_some(self.part_around(separator, to))
     }
 
     /// The first token of its part at a place, where separators are between the parts.
@@ -319,14 +296,8 @@ impl<'s, 'a> Part<'s, 'a> {
     ) -> Option<Near<'s, 'a>>
         requires { F.IsAlwaysCallable is_one }
     {
-        for at in 0..=self.count(separator) {
-            if let Some(first) = self.first_of(separator, at)
-                && is_one(first)
-            {
-                return Some(first);
-            }
-        }
-        None
+        let mut places = 0..=self.count(separator);
+        places.find_map(|at| self.first_of(separator, at).filter(|first| is_one(*first)))
     }
 
     /// Whether one of its tokens is so.
@@ -349,9 +320,8 @@ impl<'s, 'a> Part<'s, 'a> {
     pub fn part_around(self, separator: Separator, place: usize) -> Part<'s, 'a> {
         let before = self.between(self.from, place).separations(separator);
         let next = self.between(place, self.to).separations(separator);
-        let from = before
-            .last()
-            .map_or(self.from, |before| before.2.saturating_add(1));
+        let last = before.last();
+        let from = last.map_or(self.from, |last| last.2.saturating_add(1));
         self.between(from, next.first().map_or(self.to, |next| next.2))
     }
 
@@ -385,10 +355,7 @@ impl<'s, 'a> Part<'s, 'a> {
     /// Whether nothing in it is a struct literal or a reference, so that it stays beside what is put together.
     pub fn is_plain(self) -> bool {
         // A colon is that of a short form, which is a struct.
-        !self.any(|token| {
-            let here = token.here();
-            token.is_reference() || is_mark(here, "{") || is_mark(here, ":")
-        })
+        !self.any(|token| token.is_reference() || ["{", ":"].contains(&token.here().text))
     }
 
     /// How many operands it is that a separator is between.

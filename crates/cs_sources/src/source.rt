@@ -1,9 +1,10 @@
-// Sources with their tokens, the brackets that these are in, and what separates the parts inside of each.
+// Sources with their tokens, the brackets that these are in, and what separates the parts inside of each; and the definitions that they declare.
 use crate::near::{Near, Part};
 use crate::tokens::{is_mark, precedes_declaration, tokens_of};
 use cs_grammar::{Profile, Sort, Token};
 use cs_place::{Made, Named};
 use std::alloc::Global;
+use std::iter::successors;
 use std::str;
 
 /// How many brackets around a token are looked at. No more than 28 may be open.
@@ -75,11 +76,8 @@ pub struct Source<'a> {
 impl<'a> Source<'a> {
     /// A source, cut into tokens as in a profile; whatever it is, that takes no more than sorting its separators. Only memory can run out.
     pub fn new(alloc: Global, profile: Profile, named: Named<'a>, file: usize) -> Made<Source<'a>> {
-        let tokens = match str::from_utf8(named.text) {
-            Ok(text) => tokens_of(alloc, profile, text)?,
-            Err(_) => Vec::new(alloc),
-        };
-        let end = tokens.partition_point(|token| token.sort != Sort::End);
+        let text = str::from_utf8(named.text);
+        let tokens = text.map_or(Ok(Vec::new(alloc)), |text| tokens_of(alloc, profile, text))?;
         let mut source = Source {
             named,
             profile,
@@ -89,6 +87,7 @@ impl<'a> Source<'a> {
             brackets: Vec::new(alloc),
             separations: Vec::new(alloc),
         };
+        let end = source.tokens.len().saturating_sub(1);
         source.brackets.push(Bracket {
             end,
             ..Bracket::default()
@@ -245,10 +244,8 @@ impl<'a> Source<'a> {
         let last = colon.checked_sub(1)?;
         let marks = usize::from(["?", "!"].contains(&self.token(last).text));
         let place = last.checked_sub(marks)?;
-        match self.own(place) {
-            0 => Some(place),
-            number => self.bracket(number).first.checked_sub(1),
-        }
+        let opening = self.opening(self.own(place));
+        Some(opening.map_or(place, |opening| opening.place))
     }
 
     /// All tokens but the end.
@@ -265,15 +262,12 @@ impl<'a> Source<'a> {
 
     /// The token at a place, or the one that opens the outermost bracket around it that is no struct, in the same struct or the file.
     pub fn held_in_declaration(&self, place: usize) -> usize {
-        let mut held = place;
-        for _ in 0..self.tokens.len() {
-            let bracket = self.bracket(self.around(held));
-            if matches!(bracket.inside, Inside::File | Inside::Struct) {
-                break;
-            }
-            held = bracket.first.saturating_sub(1);
-        }
-        held
+        let outward = successors(Some(place), |held| {
+            let bracket = self.bracket(self.around(*held));
+            let is_held = !matches!(bracket.inside, Inside::File | Inside::Struct);
+            is_held.then_some(bracket.first.saturating_sub(1))
+        });
+        outward.take(self.tokens.len()).last().unwrap_or(place)
     }
 
     /// The declaration of a struct or of the file that the token at a place is in.
@@ -294,4 +288,58 @@ pub fn sources_of<'a>(
         sources.push(Source::new(alloc, profile, *named, file)?)?;
     }
     Ok(sources)
+}
+
+/// The definitions that sources declare. A declaration goes by the name that it begins with.
+#[derive(Drop)]
+pub struct Declared<'s, 'a> {
+    pub sources: &'s [Source<'a>],
+    /// The first declaration of each definition, in their order.
+    pub firsts: Vec<Near<'s, 'a>>,
+    /// All declarations by their names, and those of one name in their order.
+    by_name: Vec<Near<'s, 'a>>,
+}
+
+/// The definitions that sources declare, outside of all brackets. Only memory can run out.
+pub fn declared_in<'s, 'a>(alloc: Global, sources: &'s [Source<'a>]) -> Made<Declared<'s, 'a>> {
+    let mut by_name = Vec::new(alloc);
+    for source in sources {
+        for place in 0..source.tokens.len() {
+            let near = Near { source, place };
+            let is_label = near.here().sort == Sort::Definition && is_mark(near.behind(1), ":");
+            if is_label && source.around(place) == 0 {
+                by_name.push(near)?;
+            }
+        }
+    }
+    by_name.sort_by_key(|declaration| declaration.here().text)?;
+    let mut firsts = by_name.clone()?;
+    firsts.dedup_by(|other, first| other.here().text == first.here().text);
+    firsts.sort_by_key(|declaration| (declaration.source.file, declaration.place))?;
+    Ok(Declared {
+        sources,
+        firsts,
+        by_name,
+    })
+}
+
+impl<'s, 'a> Declared<'s, 'a> {
+    /// What it has grown by.
+    pub fn alloc(&self) -> Global {
+        *self.firsts.allocator()
+    }
+
+    /// The declarations of a name with its `#`, in their order.
+    pub fn named(&self, name: &str) -> &[Near<'s, 'a>] {
+        let all = self.by_name.as_slice();
+        let before = all.partition_point(|declaration| declaration.here().text < name);
+        let (_, behind) = all.split_at(before);
+        let times = behind.partition_point(|declaration| declaration.here().text <= name);
+        behind.split_at(times).0
+    }
+
+    /// The first declaration of a name with its `#`.
+    pub fn of(&self, name: &str) -> Option<Near<'s, 'a>> {
+        self.named(name).first().copied()
+    }
 }

@@ -29,23 +29,17 @@ pub(crate) fn tokens_of(alloc: Global, mut profile: Profile, text: &str) -> Made
 
 /// The tokens of a text, and the offset where it is stuck, if it is: then those before, without the comma and the end that stand for that place.
 fn cut(alloc: Global, profile: Profile, text: &str) -> Made<(Vec<Token<'_>>, Option<usize>)> {
-    let mut stuck = None;
-    // A text that is stuck is read again up to there.
-    for _ in 0..2 {
-        let front = text.get(..stuck.unwrap_or(text.len())).unwrap_or("");
-        match lex_in(alloc, profile, front) {
-            Ok(mut tokens) => {
-                tokens.retain(|token| stuck.is_none_or(|stuck| token.start < stuck));
-                return Ok((tokens, stuck));
-            }
-            Err(SyntaxFault::NoToken { offset } | SyntaxFault::IntegerRange { offset }) => {
-                stuck = Some(offset);
-            }
-            Err(SyntaxFault::OutOfMemory) => return Err(AllocError),
-            Err(_) => break,
-        }
-    }
-    Ok((Vec::new(alloc), stuck))
+    let stuck = match lex_in(alloc, profile, text) {
+        Ok(tokens) => return Ok((tokens, None)),
+        Err(SyntaxFault::NoToken { offset } | SyntaxFault::IntegerRange { offset }) => offset,
+        // No other one is a fault of cutting.
+        Err(_) => return Err(AllocError),
+    };
+    // Up to there it isn't stuck.
+    let front = text.get(..stuck).unwrap_or("");
+    let mut tokens = lex_in(alloc, profile, front).or(Err(AllocError))?;
+    tokens.retain(|token| token.start < stuck);
+    Ok((tokens, Some(stuck)))
 }
 
 /// Adds what no token begins with, and the comma that the end of the line right behind it stands for. Gives the offset behind it.
@@ -67,16 +61,13 @@ fn add_stuck<'a>(tokens: &mut Vec<Token<'a>>, whole: &'a str, start: usize) -> M
 /// The sort of the token in place of what no token begins with, and how many bytes it has.
 fn stuck_piece(bytes: &[u8]) -> (Sort, usize) {
     let past_ascii = bytes.iter().take_while(|byte| **byte >= 128);
+    let mut lines = bytes.split(|byte| *byte == b'\n');
     match bytes {
         [b'0'..=b'9', ..] => (Sort::Integer, number_len(bytes)),
         [b'"', b'"', b'"', ..] => (Sort::Text, len_to(bytes, 3, b"\"\"\"")),
         [b'\'', b'\'', b'\'', ..] => (Sort::Text, len_to(bytes, 3, b"'''")),
         [b'#', b'"', b'"', b'"', ..] => (Sort::Text, len_to(bytes, 4, b"\"\"\"#")),
-        [b'#', b'"', ..] => {
-            let len = bytes.iter().take_while(|byte| **byte != b'\n').count();
-            let line = bytes.get(..len).unwrap_or(b"");
-            (Sort::Text, len_to(line, 2, b"\"#"))
-        }
+        [b'#', b'"', ..] => (Sort::Text, len_to(lines.next().unwrap_or(b""), 2, b"\"#")),
         [quote @ (b'"' | b'\''), ..] => (Sort::Text, quoted_len(bytes, *quote)),
         _ => (Sort::LeftOut, past_ascii.count().max(1)),
     }
