@@ -71,10 +71,8 @@ fn field_without<'a>(mark: Near<'_, 'a>) -> Option<(&'a str, &'a str, &'a str)> 
     let before = source.text(end_of(colon.here()), here.start);
     let behind = source.text(end_of(here), mark.part().end());
     let is_long = before.len().saturating_add(behind.len()) > MOST_OF_VALUE;
-    if is_long || before.contains('\n') || behind.contains('\n') {
-        return Some((name.text, "", ".."));
-    }
     Some(match before.trim_ascii_start() {
+        _ if is_long || before.contains('\n') || behind.contains('\n') => (name.text, "", ".."),
         "" => (name.text, "", behind.trim_ascii_start()),
         before => (name.text, before, behind),
     })
@@ -100,27 +98,19 @@ fn put_hidden(text: &mut String, said: &str, near: Near<'_, '_>) -> Written {
             "a hidden field at the top of a file: a root is a definition, so write `#{}: ..`",
         Some(_) | None => said,
     };
-    put_filled(text, said, &[shown_name(name)])
-}
-
-/// A hidden name without the `_` before it, unless no letter follows, as it has to behind a `#`.
-fn shown_name(name: &str) -> &str {
-    let bare = name.trim_start_matches('_');
-    match bare.as_bytes() {
-        [b'A'..=b'Z' | b'a'..=b'z', ..] => bare,
-        _ => name,
-    }
+    // Behind a `#` a letter has to follow.
+    let bare = Some(name.trim_start_matches('_'));
+    let bare = bare.filter(|bare| matches!(bare.as_bytes(), [b'A'..=b'Z' | b'a'..=b'z', ..]));
+    put_filled(text, said, &[bare.unwrap_or(name)])
 }
 
 /// Puts what something is that a struct embeds, or that the wide profile takes it, and what to write in its place, with what is beside it.
 fn put_embedded(text: &mut String, said: &str, found: Found<'_, '_>) -> Written {
     let Found { near, shown, .. } = found;
     let (front, remedy) = said.split_once(": ").unwrap_or(("", said));
-    if is_taken(near) {
-        text.push_str("`--profile wide` takes embeddings; without it ")?;
-    } else {
-        put_all(text, &[front, ": "])?;
-    }
+    let taken = ["`--profile wide` takes embeddings; without it ", ""];
+    let front = if is_taken(near) { taken } else { [front, ": "] };
+    put_all(text, &front)?;
     if matches!(found.form, Form::EmbeddedDefinition) {
         return put_around(text, remedy, shown, other_fields(near).unwrap_or(".."));
     }
@@ -156,14 +146,12 @@ fn is_taken(near: Near<'_, '_>) -> bool {
 fn other_fields<'a>(near: Near<'_, 'a>) -> Option<&'a str> {
     let bracket = near.bracket()?;
     let next = near.behind(1);
-    if near.before(1).start != bracket.here().start || !separates(next) {
-        return None;
-    }
+    let is_first = near.before(1).start == bracket.here().start && separates(next);
     let closing = bracket.closing()?.here();
     let fields = near.source.text(end_of(next), closing.start).trim_ascii();
     let fields = fields.strip_suffix(",").unwrap_or(fields);
     let is_few = !fields.is_empty() && fields.len() <= MOST_SHOWN;
-    let is_shown = is_few && !fields.contains('\n') && !fields.ends_with("...");
+    let is_shown = is_first && is_few && !fields.contains('\n') && !fields.ends_with("...");
     is_shown.then_some(fields)
 }
 
@@ -185,7 +173,7 @@ fn labels_around<'s, 'a>(alloc: Global, near: Near<'s, 'a>, text: &str) -> Made<
     Ok(labels)
 }
 
-/// Puts that a name names a field, which is said first, and where that is.
+/// Puts that a name names a field, which is said first, and where the first struct around it has that.
 fn put_field_reference(text: &mut String, said: &str, near: Near<'_, '_>) -> Written {
     let name = near.here().text;
     if near.here().sort == Sort::Definition {
@@ -193,7 +181,9 @@ fn put_field_reference(text: &mut String, said: &str, near: Near<'_, '_>) -> Wri
         return put_filled(text, "a name in `{}` is a field there", &[name]);
     }
     put_filled(text, said, &[name])?;
-    if let Some(label) = field_named(near) {
+    let around = successors(near.bracket(), |inner| inner.bracket()).take(MOST_AROUND);
+    let mut structs = around.filter(|inner| inner.here().text == "{");
+    if let Some(label) = structs.find_map(|inner| inner.held()?.label(name)) {
         let source = near.source;
         let line = position_of(source.named.text, label.here().start).line;
         put_filled(text, " (line {})", &[Buffer::new().format(line)])?;
@@ -203,19 +193,6 @@ fn put_field_reference(text: &mut String, said: &str, near: Near<'_, '_>) -> Wri
     } else {
         ": give its value a definition and name it in both"
     })
-}
-
-/// The label of the same text as a name that it names, in a struct around it.
-fn field_named<'s, 'a>(near: Near<'s, 'a>) -> Option<Near<'s, 'a>> {
-    let mut inner = near;
-    for _ in 0..MOST_AROUND {
-        inner = inner.bracket()?;
-        let label = inner.held()?.label(near.here().text);
-        if inner.here().text == "{" && label.is_some() {
-            return label;
-        }
-    }
-    None
 }
 
 /// Puts that a name isn't declared, and what may have been meant by it; what is said of it where nothing is near.
@@ -274,11 +251,9 @@ fn put_not_opened(text: &mut String, declared: &Declared<'_, '_>, found: Found<'
 
 /// Whether a definition is one struct literal that ends with `...`, where it is declared first.
 fn is_opened(declared: &Declared<'_, '_>, base: Near<'_, '_>) -> bool {
-    let Some(closing) = declared.of(base.here().text).and_then(literal_end) else {
-        return false;
-    };
+    let closing = declared.of(base.here().text).and_then(literal_end);
     // A comma may be behind the `...`.
-    [closing.before(1).text, closing.before(2).text].contains(&"...")
+    closing.is_some_and(|end| end.before(1).text == "..." || end.before(2).text == "...")
 }
 
 /// The token that closes the struct literal at the front of a definition.
@@ -294,28 +269,23 @@ pub fn field_with<'a>(names: &Names<'_, 'a>, definition: &str, value: &str) -> O
         return None;
     }
     let held = closing.source.held(closing.source.own(closing.place));
-    for place in 0..=held.count(Comma) {
-        if let Some(label) = held.first_of(Comma, place)
-            && matches!(label.here().sort, Sort::Name | Sort::Text)
+    let label = held.find_first(Comma, |label| {
+        matches!(label.here().sort, Sort::Name | Sort::Text)
             && label.behind(1).text == ":"
             && label.behind(2).text == value
             && (separates(label.behind(3)) || label.behind(3).text == "}")
-        {
-            return Some(label.here().text);
-        }
-    }
-    None
+    });
+    Some(label?.here().text)
 }
 
 /// The definitions that the struct at a token is joined with, in the innermost conjunction that has any, the nearest one before it first.
 fn bases_of<'s, 'a>(alloc: Global, near: Near<'s, 'a>) -> Made<Vec<Near<'s, 'a>>> {
     let mut bases = Vec::new(alloc);
     for inner in successors(Some(near), |inner| inner.bracket()).take(MOST_AROUND) {
-        if let Some(operands) = inner.conjunction() {
+        if bases.is_empty()
+            && let Some(operands) = inner.conjunction()
+        {
             add_bases(&mut bases, operands, inner.place)?;
-        }
-        if !bases.is_empty() {
-            break;
         }
     }
     Ok(bases)
@@ -348,14 +318,12 @@ fn put_twice(text: &mut String, declared: &Declared<'_, '_>, found: Found<'_, '_
     let labels = labels_around(declared.alloc(), near, name)?;
     // Outside of all brackets it is a definition.
     let is_definition = labels.is_empty();
-    let times = labels.len().max(declared.named(name).len());
-    let parts = match (times, is_joined) {
-        (0 | 1, _) => return Ok(false),
-        (2, true) => ["both", name],
-        (2, false) => [name, "twice"],
-        (_, true) => ["all", name],
-        (_, false) => [name, "several times"],
+    let (all, more) = match labels.len().max(declared.named(name).len()) {
+        0 | 1 => return Ok(false),
+        2 => ("both", "twice"),
+        _ => ("all", "several times"),
     };
+    let parts = if is_joined { [all, name] } else { [name, more] };
     let said = match (is_joined, is_definition) {
         (true, true) =>
             "`--profile wide` puts {} bodies of `{}` together; without it join them to one, or end each of their structs with `...`",

@@ -2,7 +2,7 @@
 use crate::told::{About, Told};
 use cs_forms::{Form, form_name};
 use cs_meanings::EXPLANATIONS;
-use cs_place::{Named, is_hidden, position_of, put_place};
+use cs_place::{Named, is_hidden, position_of, put_place, put_shown};
 use cs_sources::{Made, Near, Source, sources_of};
 use cs_text::{Written, put_all, put_count, put_line, put_string};
 use cs_tool::{Fault, write_fault_json, write_text};
@@ -18,12 +18,8 @@ const MOST_BESIDE: usize = 70;
 /// Puts words as they are shown, with these parts in place of each `{}` in them, in their order.
 pub fn put_filled(text: &mut String, words: &str, parts: &[&str]) -> Written {
     for (at, piece) in words.split("{}").enumerate() {
-        if let Some(before) = at.checked_sub(1)
-            && let Some(part) = parts.get(before)
-        {
-            put_line(text, &[*part])?;
-        }
-        put_line(text, &[piece])?;
+        put_shown(text, parts.get(at.wrapping_sub(1)).copied().unwrap_or(""))?;
+        put_shown(text, piece)?;
     }
     Ok(())
 }
@@ -79,10 +75,9 @@ fn sides(text: &[u8], offset: usize) -> (&str, &str) {
     let (before, behind) = text.split_at(offset.min(text.len()));
     let start = memrchr(b'\n', before).map_or(0, |newline| newline.saturating_add(1));
     let len = memchr(b'\n', behind).unwrap_or(behind.len());
-    let line = text.get(start..before.len().saturating_add(len));
-    let line = str::from_utf8(line.unwrap_or(b"")).unwrap_or("");
-    let at = before.len().saturating_sub(start);
-    (line.get(..at).unwrap_or(""), line.get(at..).unwrap_or(""))
+    let before = str::from_utf8(before.get(start..).unwrap_or(b""));
+    let behind = str::from_utf8(behind.get(..len).unwrap_or(b""));
+    before.ok().zip(behind.ok()).unwrap_or(("", ""))
 }
 
 /// Puts the line of an offset, cut where it is long, and below it a mark under the characters up to another offset; nothing where it is empty.
@@ -119,10 +114,8 @@ fn put_characters(text: &mut String, line: &str, left: usize, are_shown: bool) -
 /// that no refusal has. Only memory can run out.
 pub fn explained(alloc: Global, number: u32) -> Made<Option<String>> {
     let mut text = String::new(alloc);
-    for row in EXPLANATIONS {
-        if row.number == number {
-            write!(text, "{number}: {}\n{}\n", row.meaning, row.remedy)?;
-        }
+    for row in EXPLANATIONS.iter().filter(|row| row.number == number) {
+        write!(text, "{number}: {}\n{}\n", row.meaning, row.remedy)?;
     }
     Ok(if text.is_empty() { None } else { Some(text) })
 }

@@ -110,19 +110,8 @@ impl<'a> Told<'a> {
 
     /// Tells what is known of a fault.
     fn tell(&mut self, fault: &Fault, about: About<'a>, declared: &Declared<'_, 'a>) -> Written {
-        let source = declared.sources.get(fault.file().unwrap_or(usize::MAX));
         let (schema, document) = (about.schema, about.document);
         match fault {
-            Fault::NotUtf8 { .. } => self.tell_not_utf8(source),
-            Fault::NoToken { .. }
-            | Fault::Syntax { .. }
-            | Fault::LeftOut { .. }
-            | Fault::IntegerRange { .. }
-            | Fault::UnknownName { .. }
-            | Fault::FieldReference { .. }
-            | Fault::NotOpened { .. } => self.put_form(fault, about.is_joined, declared),
-            Fault::TooHigh { .. } => self.tell_too_high(source),
-            Fault::PackageName { .. } => self.tell_clause(source, declared.sources),
             Fault::Cycle { .. } | Fault::ChainTooLong { .. } => self.tell_way(fault, declared),
             Fault::UnknownRoot => self.tell_no_root(declared, about.root),
             Fault::TooLarge { definitions } => self.tell_too_large(*definitions, declared.sources),
@@ -134,8 +123,18 @@ impl<'a> Told<'a> {
             }
             Fault::Keyword { place, name }
             | Fault::Shape { place, name }
-            | Fault::Reference { place, name } => self.tell_keyword(fault, schema, place, name),
+            | Fault::Reference { place, name } => self.tell_keyword(fault, about, place, name),
             Fault::Loop { names } => self.tell_loop(schema, names),
+            Fault::NotUtf8 { .. }
+            | Fault::NoToken { .. }
+            | Fault::Syntax { .. }
+            | Fault::LeftOut { .. }
+            | Fault::IntegerRange { .. }
+            | Fault::TooHigh { .. }
+            | Fault::PackageName { .. }
+            | Fault::UnknownName { .. }
+            | Fault::FieldReference { .. }
+            | Fault::NotOpened { .. } => self.tell_cue(fault, about.is_joined, declared),
             // These have no place in a text.
             Fault::SourcesTooLong
             | Fault::OutOfMemory
@@ -146,35 +145,38 @@ impl<'a> Told<'a> {
         }
     }
 
-    /// Tells where a source isn't UTF-8 (2).
-    fn tell_not_utf8(&mut self, source: Option<&Source<'a>>) -> Written {
-        let Some(source) = source else { return Ok(()) };
-        if let Err(error) = from_utf8(source.named.text) {
-            let place = error.valid_up_to();
-            self.place(source.named, place, place);
-        }
-        self.hint.push_str("no UTF-8 from here: save the file as UTF-8, without a byte order mark")
-    }
-
-    /// Puts what is said of the form of CUE at the place of a fault; nothing where its source has no token there or behind.
-    fn put_form(&mut self, fault: &Fault, is_joined: bool, declared: &Declared<'_, 'a>) -> Written {
-        let Some(near) = near_of(fault, declared) else {
+    /// Tells what is known of a fault in a source, as of the form of CUE there; nothing where its source has no token there or behind.
+    fn tell_cue(&mut self, fault: &Fault, is_joined: bool, declared: &Declared<'_, 'a>) -> Written {
+        let Some(source) = declared.sources.get(fault.file().unwrap_or(usize::MAX)) else {
             return Ok(());
         };
-        let found = match fault {
-            Fault::NoToken { offset, .. } => form_stuck(near, *offset),
-            Fault::IntegerRange { .. } => Found::at(near, Form::LargeInteger),
-            Fault::Syntax { .. } => form_out_of_place(near),
-            Fault::LeftOut { .. } => form_left_out_in(near, declared)?,
-            Fault::UnknownName { .. } => form_unknown(near, declared),
-            Fault::FieldReference { .. } => form_of_field(near),
-            Fault::NotOpened { .. } if is_joined => Found::at(near, Form::Joined),
-            Fault::NotOpened { .. } => form_closed(near, declared)?,
+        let near = Near::at(source, fault.offset().unwrap_or(usize::MAX));
+        let found = match (fault, near) {
+            (Fault::NotUtf8 { .. }, _) => return self.tell_not_utf8(source.named),
+            (Fault::TooHigh { .. }, _) => return self.tell_too_high(source),
+            (Fault::PackageName { .. }, _) => return self.tell_clause(source, declared.sources),
+            (Fault::NoToken { offset, .. }, Some(near)) => form_stuck(near, *offset),
+            (Fault::IntegerRange { .. }, Some(near)) => Found::at(near, Form::LargeInteger),
+            (Fault::Syntax { .. }, Some(near)) => form_out_of_place(near),
+            (Fault::LeftOut { .. }, Some(near)) => form_left_out_in(near, declared)?,
+            (Fault::UnknownName { .. }, Some(near)) => form_unknown(near, declared),
+            (Fault::FieldReference { .. }, Some(near)) => form_of_field(near),
+            (Fault::NotOpened { .. }, Some(near)) if is_joined => Found::at(near, Form::Joined),
+            (Fault::NotOpened { .. }, Some(near)) => form_closed(near, declared)?,
             _ => return Ok(()),
         };
-        self.place(near.source.named, found.start, found.end);
+        self.place(source.named, found.start, found.end);
         self.form = Some(found.form);
         put_advice(&mut self.hint, declared, found)
+    }
+
+    /// Tells where a source isn't UTF-8 (2).
+    fn tell_not_utf8(&mut self, named: Named<'a>) -> Written {
+        if let Err(error) = from_utf8(named.text) {
+            let place = error.valid_up_to();
+            self.place(named, place, place);
+        }
+        self.hint.push_str("no UTF-8 from here: save the file as UTF-8, without a byte order mark")
     }
 
     /// Tells why a text isn't JSON (20, 25): it shows at an offset, and a text that is cut off ends there.
@@ -224,25 +226,19 @@ impl<'a> Told<'a> {
     }
 
     /// Tells of a keyword of a schema, its value or a reference (21 to 23), at the keyword.
-    fn tell_keyword(
-        &mut self,
-        fault: &Fault,
-        schema: Option<Named<'a>>,
-        place: &str,
-        name: &str,
-    ) -> Written {
+    fn tell_keyword(&mut self, fault: &Fault, about: About<'a>, place: &str, key: &str) -> Written {
         let said = match fault {
-            Fault::Keyword { .. } if name == "default" =>
+            Fault::Keyword { .. } if key == "default" =>
                 "`--profile wide` takes `{}` as a note; without it take it out, since it says nothing of what is valid",
             Fault::Keyword { .. } =>
                 "`{}` isn't in the profile: say it by other keywords, or take it out where it says nothing",
-            Fault::Shape { .. } if name.is_empty() => "a schema is `true`, `false` or an object",
+            Fault::Shape { .. } if key.is_empty() => "a schema is `true`, `false` or an object",
             Fault::Shape { .. } => "the value of `{}` has another form in the profile",
             _ => "`$defs` doesn't have `{}`",
         };
-        put_filled(&mut self.hint, said, &[name])?;
+        put_filled(&mut self.hint, said, &[key])?;
         let is_reference = matches!(fault, Fault::Reference { .. });
-        self.place_key(schema, place, if is_reference { "$ref" } else { name })
+        self.place_key(about.schema, place, if is_reference { "$ref" } else { key })
     }
 
     /// Places it at a key behind a pointer into a schema; an empty one is none.
@@ -260,17 +256,11 @@ impl<'a> Told<'a> {
     }
 }
 
-/// The token at the place of a fault, or the next one behind it.
-fn near_of<'s, 'a>(fault: &Fault, declared: &Declared<'s, 'a>) -> Option<Near<'s, 'a>> {
-    Near::at(declared.sources.get(fault.file()?)?, fault.offset()?)
-}
-
 /// The keys of a pointer with their escapes undone (RFC 6901, section 3), and behind them a keyword that isn't empty.
 fn keys_of(alloc: Global, pointer: &str, keyword: &str) -> Made<Vec<String>> {
     let mut keys = Vec::new(alloc);
     for key in pointer.split('/').skip(1) {
-        let key = key.replace(alloc, "~1", "/")?;
-        keys.push(key.replace(alloc, "~0", "~")?)?;
+        keys.push(key.replace(alloc, "~1", "/")?.replace(alloc, "~0", "~")?)?;
     }
     if !keyword.is_empty() {
         keys.push(String::from_str(alloc, keyword)?)?;
@@ -293,10 +283,8 @@ fn offset_of(alloc: Global, text: &[u8], keys: &[String]) -> Made<Option<usize>>
         paths.push(ValuePath { parent, step })?;
         around = next;
     }
-    match places(alloc, text, &paths)?.last() {
-        Some(Some(place)) => Ok(Some(place.key.unwrap_or(place.value))),
-        Some(None) | None => Ok(None),
-    }
+    let last = places(alloc, text, &paths)?.last().copied().flatten();
+    Ok(last.map(|place| place.key.unwrap_or(place.value)))
 }
 
 /// The place behind the text of JSON that begins at an offset; the offset itself where none does.

@@ -92,9 +92,8 @@ fn entries_of<'a>(alloc: Global, named: &[Named<'a>], package: &Guarded) -> Made
             continue;
         };
         let source = first.source;
-        if file != Some(source.file) {
+        if file.replace(source.file) != Some(source.file) {
             positions = Positions::new(source.named.text);
-            file = Some(source.file);
         }
         let Position { line, column } = positions.at(first.here().start);
         entries.push(Entry {
@@ -141,9 +140,7 @@ pub fn put_listing_json(
     package: &Guarded,
     text: &mut Vec<u8>,
 ) -> Made<()> {
-    let Ok(definitions) = to_vec(alloc, &entries_of(alloc, sources, package)?) else {
-        return Err(AllocError);
-    };
+    let definitions = to_vec(alloc, &entries_of(alloc, sources, package)?).or(Err(AllocError))?;
     text.extend_from_slice(b"{\"definitions\":")?;
     text.extend_from_slice(&definitions)?;
     text.extend_from_slice(b"}\n")
