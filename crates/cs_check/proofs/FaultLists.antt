@@ -1,12 +1,13 @@
 -- Lists of faults of a schema's text of which no two are the same.
-use Rattle.std.proofs.Common.{◌≡◌, List, [], ◌∷◌, ◌++◌, Bool, true, false, ◌||◌, refl, sym, ap, subst, ◌∙◌, append_assoc}
+use Rattle.std.proofs.Common.{◌≡◌, ◌≤◌, length, arith, List, [], ◌∷◌, ◌++◌, Bool, true, false, ◌||◌, refl, sym, ap, subst, ◌∙◌}
 use Rattle.std.specs.List.{AllByRecursion, IsDistinct, list_any}
 use Rattle.std.proofs.lemmas.Map.Keys.{IsDistinct-cons, IsDistinct-head, IsDistinct-tail}
+use Rattle.cs_document.specs.Document.{Document}
 use Rattle.cs_profile.specs.declared.fault.SchemaFault.{SchemaFault}
 use Rattle.cs_profile.specs.declared.fault.SchemaFault.TheVariants as fault
 use Rattle.cs_tool.specs.Conversions.{of_schema}
 use Rattle.cs_tool.specs.declared.fault.Fault.{Fault}
-use Rattle.cs_check.specs.SchemaFaults.{AreDistinctFaults, BeginsWithAll, is_of_schema, is_same}
+use Rattle.cs_check.specs.SchemaFaults.{AreDistinctFaults, BeginsWithFaultOf, IsFaultOf, is_of_schema, is_same}
 use Rattle.cs_check.proofs.SchemaFaults.{of_schema_told}
 
 each_push : {A : Type 0} (e : A → A → Bool) (x y : A) (xs : List A) → AllByRecursion (λ z. e x z ≡ false) xs → e x y ≡ false → AllByRecursion (λ z. e x z ≡ false) (xs ++ y ∷ [])
@@ -43,9 +44,19 @@ pub further_told : (f : Fault) (fs gs : List Fault) → AreDistinctFaults fs →
 further_told f fs gs before is none pushed = subst AreDistinctFaults (sym pushed) (record { told = all_push (λ g. is_of_schema g ≡ true) f fs before.told is; distinct = distinct_push is_same fs f before.distinct none })
 
 -- one more that a flaw of a document is, and that none of those before it is the same as
-pub next_told : (others fs gs : List Fault) (f : Fault) (e : SchemaFault) → BeginsWithAll others fs → AreDistinctFaults fs → f ≡ of_schema e → ¬ (e ≡ fault.OutOfMemory) → list_any (λ g. is_same g f) fs ≡ false
-    → gs ≡ fs ++ f ∷ [] → BeginsWithAll others gs × AreDistinctFaults gs
-next_told others fs gs f e begins before is other none pushed = (
-  (begins.0 ++ f ∷ [], pushed ∙ ap (λ l. l ++ f ∷ []) begins.1 ∙ append_assoc others begins.0 (f ∷ [])),
-  further_told f fs gs before (ap is_of_schema is ∙ of_schema_told e other) none pushed,
-)
+pub next_told : (fs gs : List Fault) (f : Fault) (e : SchemaFault) → AreDistinctFaults fs → f ≡ of_schema e → ¬ (e ≡ fault.OutOfMemory) → list_any (λ g. is_same g f) fs ≡ false
+    → gs ≡ fs ++ f ∷ [] → AreDistinctFaults gs
+next_told fs gs f e before is other none pushed = further_told f fs gs before (ap is_of_schema is ∙ of_schema_told e other) none pushed
+
+-- the first one is that of the document as it was, which no fault was mended of
+pub begins_pushed : (d now : Document) (fs gs : List Fault) (f : Fault) → BeginsWithFaultOf d fs → (fs ≡ [] → now ≡ d) → IsFaultOf now f → gs ≡ fs ++ f ∷ []
+    → BeginsWithFaultOf d gs
+begins_pushed d now [] gs f begins whole is pushed = subst (BeginsWithFaultOf d) (sym pushed) (subst (λ x. IsFaultOf x f) (whole refl) is)
+begins_pushed d now (x ∷ xs) gs f begins whole is pushed = subst (BeginsWithFaultOf d) (sym pushed) begins
+
+pub some_pushed : (fs gs : List Fault) (f : Fault) → gs ≡ fs ++ f ∷ [] → ¬ (gs ≡ [])
+some_pushed [] gs f pushed none = let e : f ∷ [] ≡ [] = sym pushed ∙ none in absurd (cc e)
+some_pushed (x ∷ xs) gs f pushed none = let e : x ∷ (xs ++ f ∷ []) ≡ [] = sym pushed ∙ none in absurd (cc e)
+
+pub few_none : (fs : List Fault) → fs ≡ [] → length fs ≤ 50
+few_none fs none = subst (λ gs. length gs ≤ 50) (sym none) (omega arith)

@@ -1,5 +1,5 @@
 -- What a list of the faults of a schema's text tells (own rules).
-use Rattle.std.specs.Prelude.{◌≡◌, ℕ, List, [], ◌∷◌, ◌++◌, Bool, true, false, ◌&&◌, nat_eq, String, string_bytes, string_eq}
+use Rattle.std.specs.Prelude.{◌≡◌, ℕ, List, [], ◌∷◌, Bool, true, false, ◌&&◌, nat_eq, String, string_bytes, string_eq}
 use Rattle.std.specs.List.{AllByRecursion, IsDistinct}
 use Rattle.std.specs.Str.{bytes_eq}
 use Rattle.std.specs.declared.alloc.Global.{Global}
@@ -70,7 +70,3 @@ pub record IsFaultOf (d : Document) (f : Fault) : Type 0 where
 abbrev pub BeginsWithFaultOf : Document → List Fault → Type 0
 BeginsWithFaultOf d [] = Unit {0}
 BeginsWithFaultOf d (first ∷ further) = IsFaultOf d first
-
--- the faults begin with all of the others
-abbrev pub BeginsWithAll : List Fault → List Fault → Type 0
-BeginsWithAll others faults = (more : List Fault) × (faults ≡ others ++ more)

@@ -1,5 +1,5 @@
 // What a check of sources or of a schema finds, in lines.
-ghost use Rattle.std.specs.Prelude.{◌≡◌, IfOk, None};
+ghost use Rattle.std.specs.Prelude.{◌≡◌, ◌↔◌, [], IfOk, None};
 ghost use Rattle.cs_check.specs.Told.{AreAccepted, AreWideAccepted};
 ghost use Rattle.cs_grammar.specs.declared.profile.Profile.TheVariants as profiles;
 ghost use Rattle.cs_tool.specs.CallRefusals.{IsSchemaText};
@@ -7,6 +7,7 @@ ghost use Rattle.cs_tool.specs.Given.{bytes_in};
 ghost use Rattle.cs_widen.specs.Schemas.{SchemaMeans};
 
 use crate::MOST_FAULTS;
+use crate::findings::Checked::{Faulty, Warned, Well};
 use crate::schema::check_schema;
 use crate::sources::{check, check_wide};
 use crate::warnings::warning_lines;
@@ -54,7 +55,7 @@ pub fn source_findings<'a>(
     let about = About::of(named, root.unwrap_or(""));
     let faults = check(alloc, sources)?;
     if !faults.is_empty() {
-        return faulty(alloc, &faults, about);
+        return told(alloc, sources, &faults, about);
     }
     package_findings(alloc, sources, root, about)
 }
@@ -72,10 +73,9 @@ pub fn wide_findings<'a>(
 {
     let profile = Profile::Wide;
     let about = About::of(named, root.unwrap_or(""));
-    let about = About { profile, ..about };
     let faults = check_wide(alloc, sources)?;
     if !faults.is_empty() {
-        return faulty(alloc, &faults, about);
+        return told(alloc, sources, &faults, About { profile, ..about });
     }
     match stands_for(alloc, sources)? {
         Some(meant) => package_findings(alloc, &[meant.as_bytes()], root, about),
@@ -89,14 +89,10 @@ fn package_findings(alloc: Global, sources: &[&[u8]], root: Option<&str>, about:
 {
     let package = accepted_package(alloc, sources)?;
     if root.is_some_and(|name| package.package().find(name).is_none()) {
-        let profile = Profile::Default;
-        return faulty(alloc, &[Fault::UnknownRoot], About { profile, ..about });
+        return told(alloc, sources, &[Fault::UnknownRoot], about);
     }
     let lines = warning_lines(alloc, &package, about.sources)?;
-    let mut checked = Checked::Well;
-    if !lines.is_empty() {
-        checked = Checked::Warned;
-    }
+    let checked = if lines.is_empty() { Well } else { Warned };
     Ok(Findings { checked, lines })
 }
 
@@ -128,54 +124,37 @@ fn findings_of(alloc: Global, shown: Named<'_>, text: &[u8]) -> Found
     ensures refused { IfOk result (λ f. f.checked ≡ Checked.Faulty → ¬ (IsSchemaText text.now)) }
 {
     let faults = check_schema(alloc, text)?;
-    if faults.is_empty() {
-        let (checked, lines) = (Checked::Well, String::new(alloc));
-        return Ok(Findings { checked, lines });
-    }
-    let schema = Some(shown);
     let about = About::of(&[], "");
-    faulty(alloc, &faults, About { schema, ..about })
+    let schema = Some(shown);
+    told(alloc, &[], &faults, About { schema, ..about })
 }
 
-/// Faults of what is known, with a line for each.
-fn faulty(alloc: Global, faults: &[Fault], about: About<'_>) -> Found
-    ensures { IfOk result (λ f. f.checked ≡ Checked.Faulty) }
+/// A line for each of these faults, and whether there are some. What has to be opened in the default profile the wide one puts together, unless it has a
+/// fault there. They tell nothing of that where what is put together is at fault itself, or there may be more.
+fn told(alloc: Global, sources: &[&[u8]], faults: &[Fault], about: About<'_>) -> Found
+    ensures { IfOk result (λ f. (f.checked ≡ Checked.Faulty) ↔ ¬ (faults.now ≡ [])) }
 {
-    let mut lines = String::new(alloc);
-    let sources = sources_of(alloc, about.profile, about.sources)?;
-    let wide = wide_faults(alloc, about, faults)?;
-    for fault in faults {
-        let is_joined = wide.as_ref().is_some_and(|wide| !are_at(wide, fault));
-        put_finding(&mut lines, fault, About { is_joined, ..about }, &sources)?;
-    }
-    let checked = Checked::Faulty;
-    Ok(Findings { checked, lines })
-}
-
-/// The faults in the wide profile of sources with these faults in a profile, where something has to be opened in the default one: the wide one puts
-/// that together unless it has a fault there. None where they tell nothing of that: what is put together is at fault itself, or there may be more.
-fn wide_faults(
-    alloc: Global,
-    about: About<'_>,
-    faults: &[Fault],
-) -> Result<Option<Vec<Fault>>, Fault> {
     let must_open = |fault: &Fault| matches!(fault, Fault::NotOpened { .. });
-    if about.profile == Profile::Wide || !faults.iter().any(must_open) {
-        return Ok(None);
+    let may_join = about.profile == Profile::Default && faults.iter().any(must_open);
+    let mut wide = Vec::new(alloc);
+    if may_join {
+        wide = check_wide(alloc, sources)?;
     }
-    let mut texts = Vec::with_capacity(alloc, about.sources.len())?;
-    for source in about.sources {
-        texts.push(source.text)?;
-    }
-    let wide = check_wide(alloc, &texts)?;
     // One that is none of what is put together: not one of its names, and not that it is too large or too high.
     let is_apart = |fault: &Fault| match fault {
         Fault::FieldReference { .. } => are_at(faults, fault),
         Fault::TooLarge { .. } | Fault::TooHigh { .. } => false,
         _ => true,
     };
-    let are_known = wide.len() < MOST_FAULTS && wide.iter().all(is_apart);
-    Ok(are_known.then_some(wide))
+    let is_known = may_join && wide.len() < MOST_FAULTS && wide.iter().all(is_apart);
+    let mut lines = String::new(alloc);
+    let cut = sources_of(alloc, about.profile, about.sources)?;
+    for fault in faults {
+        let is_joined = is_known && !are_at(&wide, fault);
+        put_finding(&mut lines, fault, About { is_joined, ..about }, &cut)?;
+    }
+    let checked = if faults.is_empty() { Well } else { Faulty };
+    Ok(Findings { checked, lines })
 }
 
 /// Whether one of these faults is at the place of the sources that another one is at.

@@ -1,7 +1,8 @@
 // What is mended at a place of a source: a label, an operand, a declaration, or the lines of a definition; and sources with such mends.
 use cs_grammar::Sort;
-use cs_sources::Separator::{Amp, Bar, Colon, Comma};
+use cs_sources::Separator::{Amp, Bar, Colon};
 use cs_sources::{Inside, Made, Near, Part, Source, is_mark, separates};
+use cs_tool::Fault;
 use std::alloc::Global;
 use std::collections::BTreeSet;
 
@@ -46,19 +47,17 @@ impl<'a> Draft<'a> {
 
     /// Where in the source it is what is at an offset of the mended text, and whether a mend put it there: then that begins there.
     pub(crate) fn origin(&self, offset: usize) -> (usize, bool) {
-        let mut left = offset;
-        let mut from = 0;
+        let mut at = offset;
         for mend in &self.mends {
-            let Some(behind) = left.checked_sub(mend.from.saturating_sub(from)) else {
+            let Some(behind) = at.checked_sub(mend.from) else {
                 break;
             };
-            let Some(behind_put) = behind.checked_sub(mend.put.len()) else {
+            let Some(behind) = behind.checked_sub(mend.put.len()) else {
                 return (mend.from, true);
             };
-            left = behind_put;
-            from = mend.to;
+            at = mend.to.saturating_add(behind);
         }
-        (from.saturating_add(left), false)
+        (at, false)
     }
 
     /// Adds a mend, in the place of those inside of it. Of two texts that come before the same token the later one stands first.
@@ -69,51 +68,45 @@ impl<'a> Draft<'a> {
         Ok(self.mends.insert(place, mend)?)
     }
 
-    /// Puts the words that stand in what mends took out.
-    pub(crate) fn put_taken(&self, words: &mut BTreeSet<&'a str>) -> Made<()> {
-        for mend in &self.mends {
-            let first = self.source.place_at(mend.from);
-            let tokens = self.source.tokens.get(first..self.source.place_at(mend.to));
-            for token in tokens.unwrap_or(&[]) {
-                words.insert(token.text)?;
-            }
+    /// Puts the words that a mend takes out.
+    pub(crate) fn put_taken(&self, mend: Mend, words: &mut BTreeSet<&'a str>) -> Made<()> {
+        let first = self.source.place_at(mend.from);
+        let tokens = self.source.tokens.get(first..self.source.place_at(mend.to));
+        for token in tokens.unwrap_or(&[]) {
+            words.insert(token.text)?;
         }
         Ok(())
     }
 
-    /// Opens a struct literal: `...` at its end, and brackets around one that is written without them, as `b: T` in `a: b: T`.
+    /// Opens a struct literal: `...` on a line of its own at its end, and brackets around one that is written without them, as `b: T` in `a: b: T`.
     pub(crate) fn open_literal(&mut self, place: usize) -> Made<()> {
         let source = &self.source;
         if is_mark(source.token(place), "{") {
             let held = source.held(source.own(place));
-            let last = source.token(held.to.saturating_sub(1));
-            let is_separated = held.from >= held.to || separates(last);
-            let dots = if is_separated { " ..." } else { ", ..." };
-            let mend = Mend::over(held.between(held.to, held.to), dots);
+            let mend = Mend::over(held.between(held.to, held.to), "\n...");
             return self.add(mend);
         }
         let declaration = source.declaration_at(place);
         let opening = Mend::over(declaration.between(place, place), "{");
         let from = declaration.end();
-        let (to, put) = (from, ", ...}");
+        let (to, put) = (from, "\n...}");
         self.add(Mend { from, to, put })?;
         self.add(opening)
     }
 
     /// The references to a name in the bodies of a definition become `_`; whether there are some.
-    pub(crate) fn cut_names(&mut self, definition: &str, name: &str) -> Made<bool> {
+    fn cut_names(&mut self, definition: &str, name: &str) -> Made<bool> {
         let source = &self.source;
         let count = self.mends.len();
         // Where the body ends that the token is in.
         let mut end = 0;
-        for (place, token) in source.tokens.iter().enumerate() {
-            let next = place.saturating_add(1);
-            let is_label = source.around(place) == 0 && source.ends_label(next);
-            if is_label && token.text == definition {
+        for place in 0..source.tokens.len() {
+            let near = Near { source, place };
+            let text = near.here().text;
+            if text == definition && source.around(place) == 0 && near.is_label() {
                 end = source.declaration_at(place).to;
-            } else if place < end && token.text == name {
-                self.mends
-                    .push(Mend::over(source.whole().between(place, next), "_"))?;
+            } else if place < end && text == name {
+                self.mends.push(Mend::over(alone(near), "_"))?;
             }
         }
         self.mends.sort_by_key(|mend| mend.from)?;
@@ -121,104 +114,100 @@ impl<'a> Draft<'a> {
     }
 }
 
-/// A place of a source in its declaration.
-#[derive(Clone, Copy)]
-struct Spot<'s, 'a> {
-    place: usize,
-    declaration: Part<'s, 'a>,
-    /// What of it is between the colons around the place, and whether there is one before that, and one behind.
-    between: Part<'s, 'a>,
-    is_value: bool,
-    is_label: bool,
-    /// Whether it is in the label of a definition.
-    is_definition: bool,
+/// Cuts a cycle of definitions between its first name and the next one, and says whether that was done.
+pub(crate) fn cut_cycle(drafts: &mut [Draft<'_>], fault: &Fault) -> Made<bool> {
+    let mut is_cut = false;
+    if let Fault::Cycle { names } = fault
+        && let Some(first) = names.first()
+    {
+        let next = names.get(1).unwrap_or(first);
+        for draft in drafts {
+            is_cut |= draft.cut_names(first.as_str(), next.as_str())?;
+        }
+    }
+    Ok(is_cut)
+}
+
+/// A token as a part.
+fn alone<'s, 'a>(near: Near<'s, 'a>) -> Part<'s, 'a> {
+    let Near { source, place } = near;
+    source.whole().between(place, place.saturating_add(1))
 }
 
 /// Whether a part begins with the word `for`, and that isn't a label.
 fn begins_for(part: Part<'_, '_>) -> bool {
-    let next = part.from.saturating_add(1);
-    part.source.token(part.from).text == "for" && !part.source.ends_label(next)
+    part.first()
+        .is_some_and(|first| first.here().text == "for" && !first.is_label())
 }
 
-impl<'s, 'a> Spot<'s, 'a> {
-    /// What is at fault at a place: where a bracket is closed, something is missing before that.
-    fn new(source: &'s Source<'a>, place: usize) -> Spot<'s, 'a> {
-        let is_closing = source.open_at(place) != source.around(place);
-        let place = place.saturating_sub(usize::from(is_closing));
-        let mut declaration = source.declaration_at(place);
-        // The comma in the head of a `for` is inside of its declaration.
-        if begins_for(declaration) && is_mark(source.token(declaration.to), ",") {
-            declaration.to = source.declaration_at(declaration.to.saturating_add(1)).to;
-        }
-        let between = declaration.part_around(Colon, source.held_in_declaration(place));
-        let is_value = between.from > declaration.from;
-        Spot {
-            place,
-            declaration,
-            between,
-            is_value,
-            is_label: between.to < declaration.to,
-            is_definition: !is_value && source.around(declaration.from) == 0,
-        }
+/// The declaration that a token is in. The comma in the head of a `for` is inside of its declaration.
+fn declaration_of<'s, 'a>(near: Near<'s, 'a>) -> Part<'s, 'a> {
+    let source = near.source;
+    let mut declaration = source.declaration_at(near.place);
+    if begins_for(declaration) && is_mark(source.token(declaration.to), ",") {
+        declaration.to = source.declaration_at(declaration.to.saturating_add(1)).to;
     }
-
-    /// The label that the place is in becomes one that no name refers to.
-    fn mended_label(self) -> Option<Mend> {
-        let put = if self.is_definition { "#_" } else { "\"\"" };
-        self.is_label.then_some(Mend::over(self.between, put))
-    }
-
-    /// The operand that the place is in, without `...` at its front, becomes `_`, in a value: behind a colon, or in a list or parentheses. The
-    /// head of a `for` has a comma, and is none.
-    fn mended_operand(self) -> Option<Mend> {
-        let source = self.declaration.source;
-        let around = source.around(self.place);
-        let mut operand = source.held(around);
-        for separator in [Amp, Bar, Comma, Colon] {
-            operand = operand.part_around(separator, self.place);
-        }
-        let dots = usize::from(is_mark(source.token(operand.from), "..."));
-        operand.from = operand.from.saturating_add(dots);
-        let inside = source.bracket(around).inside;
-        let is_in_value = self.is_value || matches!(inside, Inside::List | Inside::Parentheses);
-        let is_one = operand.from < operand.to && is_in_value && !begins_for(operand);
-        is_one.then_some(Mend::over(operand, "_"))
-    }
-
-    /// What is before the struct that a declaration without a label begins or ends with becomes a label, as the head of an `if`.
-    fn mended_head(self) -> Option<Mend> {
-        let Part { source, from, to } = self.declaration;
-        let mut opened = source.bracket(source.own(from));
-        if opened.inside != Inside::Struct {
-            opened = source.bracket(source.own(to.checked_sub(1)?));
-        }
-        let is_one = opened.inside == Inside::Struct && !self.is_value && !self.is_label;
-        let put = if self.is_definition { "#_: " } else { "\"\": " };
-        let head = self.declaration.between(from, opened.first.checked_sub(1)?);
-        is_one.then_some(Mend::over(head, put))
-    }
-
-    /// The declaration goes, with the comma behind it; the token alone, where that is in none.
-    fn mended_declaration(self) -> Mend {
-        let Part { source, from, to } = self.declaration;
-        let comma = usize::from(separates(source.token(to)));
-        let mut gone = self.declaration.between(from, to.saturating_add(comma));
-        if from >= to {
-            gone = gone.between(self.place, self.place.saturating_add(1));
-        }
-        Mend::over(gone, " ")
-    }
+    declaration
 }
 
-/// Whether a line begins with the token at a place, and with it a definition of the file, also where a bracket before it isn't closed.
+/// The label that a token is in becomes one that no name refers to.
+fn mended_label(near: Near<'_, '_>) -> Option<Mend> {
+    let Near { source, place } = near;
+    let declaration = declaration_of(near);
+    let label = declaration.part_around(Colon, source.held_in_declaration(place));
+    let is_definition = label.from == declaration.from && source.around(label.from) == 0;
+    let put = if is_definition { "#_" } else { "\"\"" };
+    (label.to < declaration.to).then_some(Mend::over(label, put))
+}
+
+/// The operand that a token is in, without `...` at its front, becomes `_`, in a value: behind a colon, or in a list or parentheses. The
+/// head of a `for` has a comma, and is none.
+fn mended_operand(near: Near<'_, '_>) -> Option<Mend> {
+    let Near { source, place } = near;
+    let between = near.part().part_around(Colon, place);
+    let mut operand = between.part_around(Bar, place).part_around(Amp, place);
+    let dots = usize::from(is_mark(source.token(operand.from), "..."));
+    operand.from = operand.from.saturating_add(dots);
+    let is_in_value = match source.bracket(source.around(place)).inside {
+        Inside::File | Inside::Struct => between.from > near.part().from,
+        Inside::List | Inside::Parentheses => true,
+        Inside::Label => false,
+    };
+    let is_one = operand.from < operand.to && is_in_value && !begins_for(operand);
+    is_one.then_some(Mend::over(operand, "_"))
+}
+
+/// What is before the struct that a declaration without a label begins or ends with becomes a label, as the head of an `if`.
+fn mended_head(near: Near<'_, '_>) -> Option<Mend> {
+    let declaration = declaration_of(near);
+    let Part { source, from, to } = declaration;
+    let mut opened = source.bracket(source.own(from));
+    if opened.inside != Inside::Struct {
+        opened = source.bracket(source.own(to.checked_sub(1)?));
+    }
+    let is_one = opened.inside == Inside::Struct && declaration.count(Colon) == 0;
+    let is_definition = source.around(from) == 0;
+    let put = if is_definition { "#_: " } else { "\"\": " };
+    let head = declaration.between(from, opened.first.checked_sub(1)?);
+    is_one.then_some(Mend::over(head, put))
+}
+
+/// The declaration that a token is in goes, with the comma behind it.
+fn mended_declaration(near: Near<'_, '_>) -> Mend {
+    let Part { source, from, to } = declaration_of(near);
+    let comma = usize::from(separates(source.token(to)));
+    Mend::over(source.whole().between(from, to.saturating_add(comma)), " ")
+}
+
+/// Whether a line begins with a token, and with it a definition of the file, also where a bracket before it isn't closed.
 fn begins_definition(source: &Source<'_>, place: usize) -> bool {
-    let token = source.token(place);
+    let near = Near { source, place };
+    let token = near.here();
     let before = source.named.text.get(..token.start).unwrap_or(b"");
     let is_first = before.is_empty() || before.ends_with(b"\n");
     let around = source.around(place);
     let is_outside = around == 0 || !source.bracket(around).is_closed;
-    let is_label = token.sort == Sort::Definition && source.ends_label(place.saturating_add(1));
-    is_first && is_outside && is_label
+    is_first && is_outside && token.sort == Sort::Definition && near.is_label()
 }
 
 /// The lines of the definition that a place is in, up to those of the next one.
@@ -232,77 +221,50 @@ fn definition_at<'s, 'a>(source: &'s Source<'a>, place: usize) -> Part<'s, 'a> {
     whole.between(from.unwrap_or(0), to.unwrap_or(whole.to))
 }
 
-/// Whether each bracket in a part has another one that closes it, or that it closes.
-fn is_matched(part: Part<'_, '_>) -> bool {
-    let source = part.source;
-    (part.from..part.to).all(|place| {
+/// Whether a bracket in a part has no other one that closes it, or that it closes.
+fn is_unmatched(part: Part<'_, '_>) -> bool {
+    part.any(|Near { source, place }| {
         let own = source.own(place);
-        !source.is_stray(place) && (own == 0 || source.bracket(own).is_closed)
+        source.is_stray(place) || own > 0 && !source.bracket(own).is_closed
     })
 }
 
 /// The mend of what is at fault at an offset, where so many were made there: of the label or the operand, of the declaration, of the lines
 /// of the definition; then there is none. Where the brackets of a definition don't match it isn't clear what was meant, so its lines go.
 pub(crate) fn mend_at(source: &Source<'_>, offset: usize, made: usize) -> Option<Mend> {
-    let place = source.place_at(offset);
-    let spot = Spot::new(source, place);
-    let definition = definition_at(source, place);
-    match made {
-        0 if is_matched(definition) => spot
-            .mended_label()
-            .or(spot.mended_operand())
-            .or(spot.mended_head())
-            .or(Some(spot.mended_declaration())),
-        1 => Some(spot.mended_declaration()),
-        0 | 2 => Some(Mend::over(definition, " ")),
-        _ => None,
-    }
-}
-
-/// The mend of a declaration that gives a name at a place, where that is at fault: the declaration goes. It is a `let` that nothing names, or where
-/// `is_name` is false a name that another struct declares too, or that is held open. None where neither is there.
-pub(crate) fn mended_name(source: &Source<'_>, place: usize, is_name: bool) -> Option<Mend> {
+    let at = source.place_at(offset);
+    // Where a bracket is closed, something is missing before that.
+    let is_closing = source.open_at(at) != source.around(at);
+    let place = at.saturating_sub(usize::from(is_closing));
     let near = Near { source, place };
-    let is_one = if is_name {
-        near.begins_let()
-    } else {
-        near.declares_name()
-    };
-    is_one.then_some(Spot::new(source, place).mended_declaration())
+    let declaration = Some(mended_declaration(near));
+    let part = mended_label(near).or(mended_operand(near));
+    let part = part.or(mended_head(near)).or(declaration);
+    let lines = definition_at(source, at);
+    let gone = Some(Mend::over(lines, " "));
+    let first = if is_unmatched(lines) { gone } else { part };
+    [first, declaration, gone].get(made).copied().flatten()
 }
 
-/// The mend of conditions at a place: what stands before their struct becomes a label. None where none are.
-pub(crate) fn mended_condition(source: &Source<'_>, place: usize) -> Option<Mend> {
-    let is_one = Near { source, place }.is_in_condition();
-    let head = Spot::new(source, place).mended_head();
-    head.filter(|_| is_one)
-}
-
-/// The name at a place, with its labels where it is a selector.
-fn name_at<'s, 'a>(source: &'s Source<'a>, place: usize) -> Part<'s, 'a> {
-    let name = source.whole().between(place, place.saturating_add(1));
-    Near { source, place }.selector().unwrap_or(name)
-}
-
-/// The mend of an embedding at a place: of what is embedded, or of the name there alone. None where none is.
-pub(crate) fn mended_embedding(source: &Source<'_>, place: usize, is_name: bool) -> Option<Mend> {
-    let embedded = Near { source, place }.embedding()?;
-    let gone = if is_name {
-        name_at(source, place)
-    } else {
-        embedded
-    };
-    Some(Mend::over(gone, "{...}"))
-}
-
-/// The mend of what is at a place and isn't embedded. A name that isn't declared, or is a field, becomes `_`; as the name of a label in brackets,
-/// another label. Another value, which an embedding would open, becomes `_`; there is none where no embedding is beside it.
-pub(crate) fn mended_value(source: &Source<'_>, place: usize, is_name: bool) -> Option<Mend> {
-    if is_name {
-        let label = Spot::new(source, place).mended_label();
-        return label.or(Some(Mend::over(name_at(source, place), "_")));
+/// The mend of a name that isn't declared or is a field, or of a literal that would have to be opened. A declaration goes that gives a name: a `let` that
+/// nothing names, or where a literal is at fault a name that another struct declares too, or that is held open. Of conditions that a name is in, what stands
+/// before their struct becomes a label. What is embedded becomes an open struct, or the name there alone; else a name becomes `_`, and as the name of a label
+/// in brackets another label. A literal beside embeddings becomes `_`, and there is none where it is to be opened.
+pub(crate) fn mended(near: Near<'_, '_>, is_literal: bool) -> Option<Mend> {
+    if near.begins_let() || is_literal && near.declares_name() {
+        return Some(mended_declaration(near));
     }
-    let value = source.declaration_at(place).declared()?;
-    let is_beside = Near { source, place }.stands_beside_embeddings();
-    is_beside.then_some(Mend::over(value, "_"))
+    if !is_literal && near.is_in_condition() {
+        return mended_head(near);
+    }
+    let name = near.selector().unwrap_or(alone(near));
+    match near.embedding() {
+        Some(embedded) => Some(Mend::over(if is_literal { embedded } else { name }, "{...}")),
+        None if is_literal => {
+            let value = near.source.declaration_at(near.place).declared()?;
+            let is_beside = near.stands_beside_embeddings();
+            is_beside.then_some(Mend::over(value, "_"))
+        }
+        None => mended_label(near).or(Some(Mend::over(name, "_"))),
+    }
 }

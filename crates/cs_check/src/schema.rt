@@ -1,10 +1,10 @@
 // The faults of a schema's text: the first one as it is, and then those that mending one after another meets.
-ghost use Rattle.std.specs.Prelude.{◌≡◌, ◌≤◌, ◌↔◌, [], ◌∷◌, true, length, IfOk, IsOkUnless, OnOk};
+ghost use Rattle.std.specs.Prelude.{◌≡◌, ◌<◌, ◌≤◌, ◌↔◌, [], ◌∷◌, true, false, length, IfOk, IsOkUnless, OnOk};
 ghost use Rattle.std.specs.List.{list_any};
 ghost use Rattle.cs_document.specs.View.{doc_view};
 ghost use Rattle.cs_profile.specs.Profile.{IsSchema};
 ghost use Rattle.cs_tool.specs.CallRefusals.{IsSchemaText};
-ghost use Rattle.cs_check.specs.SchemaFaults.{BeginsWithSchemaFault, AreDistinctFaults, is_of_schema, is_same, place_of, names_of, BeginsWithFaultOf, BeginsWithAll};
+ghost use Rattle.cs_check.specs.SchemaFaults.{BeginsWithSchemaFault, AreDistinctFaults, is_of_schema, is_same, place_of, names_of, BeginsWithFaultOf};
 
 use crate::MOST_FAULTS;
 use cs_document::{Doc, DocFault};
@@ -59,43 +59,23 @@ fn alone(alloc: Global, fault: Fault) -> Made<Vec<Fault>>
     Ok(faults)
 }
 
-/// The faults of a document; none where it is a schema of the profile.
+/// The faults of a document, each once those before it are mended, until one is told already; none where it is a schema of the profile.
 fn faults_of(alloc: Global, mut doc: Doc) -> Made<Vec<Fault>>
     ensures first { IfOk result (λ faults. BeginsWithFaultOf (doc_view doc) faults.items) }
     ensures none { IfOk result (λ faults. (faults.items ≡ []) ↔ IsSchema (doc_view doc)) }
     ensures most { IfOk result (λ faults. length faults.items ≤ 50) }
     ensures distinct { IfOk result (λ faults. AreDistinctFaults faults.items) }
 {
-    let Err(first) = read_schema(alloc, &doc) else {
-        return Ok(Vec::new(alloc));
-    };
-    mend(alloc, &mut doc, &first)?;
-    let mut faults = alone(alloc, Fault::from(first))?;
-    tell_further(alloc, &mut doc, &mut faults)?;
-    Ok(faults)
-}
-
-/// Tells the faults of a document behind others, each once those before it are mended. One that is told already isn't told again.
-fn tell_further(alloc: Global, doc: &mut Doc, faults: &mut Vec<Fault>) -> Made<()>
-    requires distinct { AreDistinctFaults faults.old.items }
-    requires few { length faults.old.items ≤ 50 }
-    ensures begins { OnOk result (BeginsWithAll faults.old.items faults.new.items) }
-    ensures distinct { OnOk result (AreDistinctFaults faults.new.items) }
-    ensures most { OnOk result (length faults.new.items ≤ 50) }
-{
-    for _ in 0..MOST_FAULTS {
-        let Err(flaw) = read_schema(alloc, doc) else {
-            return Ok(());
-        };
-        mend(alloc, doc, &flaw)?;
+    let mut faults = Vec::new(alloc);
+    while let Err(flaw) = read_schema(alloc, &doc) {
+        mend(alloc, &mut doc, &flaw)?;
         let fault = Fault::from(flaw);
-        let is_enough = faults.len() >= MOST_FAULTS || bytes_told(faults) > MOST_TOLD;
-        if is_enough || !is_judged(faults, &fault) || is_told(faults, &fault) {
-            return Ok(());
+        if is_last(&faults, &fault) {
+            break;
         }
         faults.push(fault)?;
     }
-    Ok(())
+    Ok(faults)
 }
 
 /// The place that a fault of a schema tells, and the names.
@@ -115,21 +95,11 @@ fn texts_of(fault: &Fault) -> (&str, &[String])
 /// How many bytes the places and names of faults have.
 fn bytes_told(faults: &[Fault]) -> usize {
     let mut bytes = 0usize;
-    for fault in faults {
-        let (place, names) = texts_of(fault);
+    for (place, names) in faults.iter().map(texts_of) {
         let lengths = names.iter().map(|name| name.len());
-        bytes = lengths.fold(bytes, |all, more| all.saturating_add(more));
-        bytes = bytes.saturating_add(place.len());
+        bytes = lengths.fold(bytes.saturating_add(place.len()), usize::saturating_add);
     }
     bytes
-}
-
-/// Whether a fault is one of the schema. That no definition is found is none where those of the schema went with a mend.
-fn is_judged(faults: &[Fault], fault: &Fault) -> bool {
-    let takes_definitions = |told: &Fault| {
-        matches!(told, Fault::Shape { place, name } if place.is_empty() && name.as_str() == "$defs")
-    };
-    !matches!(fault, Fault::Reference { .. }) || !faults.iter().any(takes_definitions)
 }
 
 /// Whether two faults have one number, and the same place and names.
@@ -145,6 +115,23 @@ fn is_told(faults: &Vec<Fault>, fault: &Fault) -> bool
     ensures { result ≡ list_any (λ told. is_same told fault.now) faults.now.items }
 {
     faults.iter().any(|told| are_same(told, fault))
+}
+
+/// Whether behind the faults that are told no fault is: there are enough, or the next one is told already, or is none of the schema.
+fn is_last(faults: &Vec<Fault>, fault: &Fault) -> bool
+    ensures some { result ≡ true → ¬ (faults.now.items ≡ []) }
+    ensures few { result ≡ false → length faults.now.items < 50 }
+    ensures new { result ≡ false → list_any (λ told. is_same told fault.now) faults.now.items ≡ false }
+{
+    let is_enough = faults.len() >= MOST_FAULTS || bytes_told(faults) > MOST_TOLD;
+    let is_told = is_told(faults, fault);
+    // That no definition is found is no fault of the schema where its definitions went with a mend.
+    let takes_definitions = |told: &Fault| {
+        matches!(told, Fault::Shape { place, name } if place.is_empty() && name.as_str() == "$defs")
+    };
+    let is_mended = matches!(fault, Fault::Reference { .. })
+        && faults.iter().any(takes_definitions);
+    !faults.is_empty() && (is_enough || is_told || is_mended)
 }
 
 /// Mends a flaw of a document, which isn't that memory ran out.
@@ -212,9 +199,7 @@ fn cut(schema: &mut Doc, reference: &Doc, depth: usize) {
     }
     match schema {
         Doc::Object(members) => {
-            if members.get("$ref") == Some(reference) {
-                drop(members.remove("$ref"));
-            }
+            members.retain(|key, value| key.as_str() != "$ref" || *value != *reference);
             for key in ["allOf", "anyOf", "not"] {
                 if let Some(value) = members.get_mut(key) {
                     cut(value, reference, depth - 1);

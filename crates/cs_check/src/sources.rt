@@ -4,12 +4,12 @@ ghost use Rattle.cs_tool.specs.Given.{bytes_in};
 ghost use Rattle.cs_check.specs.Told.{AreAccepted, AreWideAccepted, BeginsWithFirst, BeginsWithWideFirst, BeginsWith};
 
 use crate::MOST_FAULTS;
-use crate::mends::{Draft, mend_at, mended_condition, mended_embedding, mended_name, mended_value};
+use crate::mends::{Draft, cut_cycle, mend_at, mended};
 use cs_grammar::Sort;
 use cs_place::Named;
 use cs_sources::{Made, Near, Source};
 use cs_tool::{Fault, accepted_package, slices_of};
-use cs_widen::{Profile, stands_for};
+use cs_widen::{Profile, stands_for, widen_in};
 use std::alloc::{AllocError, Global};
 use std::collections::BTreeSet;
 use std::slice;
@@ -101,7 +101,6 @@ fn at_place(fault: Fault, file: usize, offset: usize) -> Fault {
         Fault::Syntax { .. } => Fault::Syntax { file, offset },
         Fault::LeftOut { .. } => Fault::LeftOut { file, offset },
         Fault::IntegerRange { .. } => Fault::IntegerRange { file, offset },
-        Fault::TooHigh { .. } => Fault::TooHigh { file },
         Fault::UnknownName { .. } => Fault::UnknownName { file, offset },
         Fault::FieldReference { .. } => Fault::FieldReference { file, offset },
         Fault::NotOpened { .. } => Fault::NotOpened { file, offset },
@@ -142,17 +141,15 @@ impl<'f, 'a> Told<'f, 'a> {
         if is_of_text(first) {
             for draft in drafts.iter_mut() {
                 goes_on = self.tell_text(draft)? && goes_on;
-                draft.put_taken(&mut self.taken)?;
             }
         } else {
-            goes_on = self.mend(&mut drafts, first)?;
+            goes_on = cut_cycle(&mut drafts, first)? || self.mend(&mut drafts, first)?.is_some();
         }
         for _ in 0..MOST_READS {
             goes_on = goes_on && self.tell_next(&mut drafts)?;
         }
-        let mut rest = self.rest;
-        rest.sort_by_key(place_of)?;
-        Ok(rest)
+        self.rest.sort_by_key(place_of)?;
+        Ok(self.rest)
     }
 
     /// The first fault of drafts as they are mended; none where they spell a package, or where no more faults are told.
@@ -165,11 +162,7 @@ impl<'f, 'a> Told<'f, 'a> {
             texts.push(draft.mended(self.alloc)?)?;
         }
         let sources = slices_of(self.alloc, &texts)?;
-        let refused = match self.profile {
-            Profile::Default => accepted_package(self.alloc, &sources).err(),
-            Profile::Wide => stands_for(self.alloc, &sources).err(),
-        };
-        match refused {
+        match widen_in(self.alloc, self.profile, &sources).err() {
             Some(Fault::OutOfMemory) => Err(AllocError),
             fault => Ok(fault),
         }
@@ -190,7 +183,7 @@ impl<'f, 'a> Told<'f, 'a> {
 
     /// Tells the faults of a text, and says whether it spells a file with all of them mended. Where no further place is at fault, more is
     /// taken out at the last one.
-    fn tell_text(&mut self, draft: &mut Draft<'_>) -> Made<bool> {
+    fn tell_text(&mut self, draft: &mut Draft<'a>) -> Made<bool> {
         // The last place that was told: whether the text was cut into tokens there, which it is first, and the offset.
         let mut reached = None;
         let mut made = 0usize;
@@ -199,8 +192,9 @@ impl<'f, 'a> Told<'f, 'a> {
             let Some(fault) = found.filter(is_of_text) else {
                 return Ok(true);
             };
+            let file = draft.source.file;
             let Some(at) = fault.offset() else {
-                self.tell(at_place(fault, draft.source.file, 0))?;
+                self.tell(Fault::TooHigh { file })?;
                 return Ok(false);
             };
             let (offset, is_mended) = draft.origin(at);
@@ -210,78 +204,54 @@ impl<'f, 'a> Told<'f, 'a> {
             if !is_mended && reached < here {
                 reached = here;
                 made = 0;
-                self.tell(at_place(fault, draft.source.file, offset))?;
+                self.tell(at_place(fault, file, offset))?;
             }
             let Some(mend) = mend_at(&draft.source, offset, made) else {
                 return Ok(false);
             };
+            draft.put_taken(mend, &mut self.taken)?;
             draft.add(mend)?;
         }
         Ok(false)
     }
 
-    /// A fault of drafts by its place in its source, and whether the sources have it as they are: a name whose word was taken out of them
-    /// may be declared there. None where mends have made it. Nor is it known, where words were taken out, which structs are joined, and
-    /// which definitions reach themselves.
-    fn original(&self, drafts: &[Draft<'_>], fault: Fault) -> Option<(Fault, bool)> {
-        let are_whole = !is_of_text(self.first);
-        let is_literal = matches!(fault, Fault::NotOpened { .. });
-        let is_known = match fault {
-            Fault::UnknownName { .. } | Fault::FieldReference { .. } => true,
-            Fault::NotOpened { .. } | Fault::Cycle { .. } | Fault::ChainTooLong { .. } => are_whole,
-            _ => false,
-        };
-        let (file, at) = place_of(&fault);
-        let Some(draft) = drafts.get(file) else {
-            return is_known.then_some((fault, true));
+    /// Mends a fault of a package by its place. Gives its offset in its source, and whether the sources have it as they are: a name whose word was
+    /// taken out of them may be declared there, and where embeddings were, it isn't known which structs are joined. None where it isn't told: mends
+    /// have made it, or where words were taken out it isn't a name.
+    fn mend(&mut self, drafts: &mut [Draft<'a>], fault: &Fault) -> Made<Option<(usize, bool)>> {
+        let (file, at) = place_of(fault);
+        let Some(draft) = drafts.get_mut(file) else {
+            return Ok(None);
         };
         let (offset, is_mended) = draft.origin(at);
         let source = &draft.source;
         let place = source.place_at(offset);
         let near = Near { source, place };
-        let is_selector = matches!(fault, Fault::LeftOut { .. }) && near.selector().is_some();
-        let is_joined = is_literal && mended_embedding(source, place, false).is_none();
-        let is_taken = self.taken.contains(near.name_declared().here().text);
-        let is_uncertain = is_taken || is_joined && self.is_loose;
-        let is_told = (is_known || is_selector) && !is_mended;
-        is_told.then_some((at_place(fault, file, offset), !is_uncertain))
-    }
-
-    /// Mends a fault of a package by its place in its source, and says whether that was done. A cycle is cut between its first name and the next one.
-    fn mend(&mut self, drafts: &mut [Draft<'a>], fault: &Fault) -> Made<bool> {
-        if let Fault::Cycle { names } = fault
-            && let Some(first) = names.first()
-        {
-            let next = names.get(1).unwrap_or(first);
-            let mut is_cut = false;
-            for draft in drafts.iter_mut() {
-                is_cut |= draft.cut_names(first.as_str(), next.as_str())?;
-            }
-            return Ok(is_cut);
-        }
-        let (file, offset) = place_of(fault);
-        let Some(draft) = drafts.get_mut(file) else {
-            return Ok(false);
+        let is_literal = matches!(fault, Fault::NotOpened { .. });
+        let is_known = match fault {
+            Fault::UnknownName { .. } | Fault::FieldReference { .. } => true,
+            Fault::LeftOut { .. } => near.selector().is_some(),
+            _ => is_literal && !is_of_text(self.first),
         };
-        let place = draft.source.place_at(offset);
-        let is_name = !matches!(fault, Fault::NotOpened { .. });
-        let source = &draft.source;
-        let near = Near { source, place };
-        let name = mended_name(source, place, is_name);
+        if is_mended || !is_known {
+            return Ok(None);
+        }
+        let word = near.name_declared().here().text;
+        let is_embedded = near.embedding().is_some();
+        let is_loose = is_literal && !is_embedded && self.is_loose;
+        let is_certain = !is_loose && !self.taken.contains(word);
+        let is_declared = near.begins_let() || is_literal && near.declares_name();
         // A name that a `let` binds may be named by this selector alone.
         let is_named = near.selector().is_some() && near.here().sort == Sort::Name;
-        if name.is_some() || is_named {
-            self.taken.insert(near.name_declared().here().text)?;
+        if is_declared || is_named {
+            self.taken.insert(word)?;
         }
-        let condition = mended_condition(&draft.source, place).filter(|_| is_name);
-        let embedding = condition.or(mended_embedding(&draft.source, place, is_name));
-        self.is_loose |= embedding.is_some();
-        let mend = name.or(embedding);
-        match mend.or(mended_value(&draft.source, place, is_name)) {
+        self.is_loose |= is_embedded || !is_literal && near.is_in_condition();
+        match mended(near, is_literal) {
             Some(mend) => draft.add(mend)?,
             None => draft.open_literal(place)?,
         }
-        Ok(true)
+        Ok(Some((offset, is_certain)))
     }
 
     /// Tells and mends the next fault of a package, and says whether to look for others.
@@ -289,10 +259,14 @@ impl<'f, 'a> Told<'f, 'a> {
         let Some(fault) = self.next_fault(drafts)? else {
             return Ok(false);
         };
-        let Some((fault, is_certain)) = self.original(drafts, fault) else {
+        if let Fault::Cycle { .. } | Fault::ChainTooLong { .. } = fault {
+            let is_cut = cut_cycle(drafts, &fault)?;
+            return Ok(!is_of_text(self.first) && self.tell(fault)? && is_cut);
+        }
+        let (file, _) = place_of(&fault);
+        let Some((offset, is_certain)) = self.mend(drafts, &fault)? else {
             return Ok(false);
         };
-        let is_mended = self.mend(drafts, &fault)?;
-        Ok((!is_certain || self.tell(fault)?) && is_mended)
+        Ok(!is_certain || self.tell(at_place(fault, file, offset))?)
     }
 }

@@ -6,9 +6,7 @@ ghost use Rattle.cs_question.specs.NoInstance.{HasNoDocument};
 
 use cs_fault_words::{Names, Profile, put_offset, put_quoted};
 use cs_guard::Guarded;
-use cs_package::{
-    FieldMark, Inside, Kind, Literal, Package, Part, Relation, Shape, ShapeEnd, Simple,
-};
+use cs_package::{FieldMark, Kind, Literal, Package, Part, Relation, Shape, ShapeEnd};
 use cs_place::Named;
 use cs_profile::JsonKind;
 use cs_question::{QuestionFault, without_instance};
@@ -67,86 +65,75 @@ fn told<'a>(alloc: Global, package: &'a Package, empty: &[bool]) -> Made<Vec<War
 /// The lines of the warnings of a package, which these sources spell: where each definition is declared first, that it has no instance, and why
 /// where that was found.
 pub(crate) fn warning_lines(alloc: Global, package: &Guarded, named: &[Named<'_>]) -> Made<String> {
-    let mut lines = String::new(alloc);
     let warnings = warned(alloc, package)?;
     if warnings.is_empty() {
-        return Ok(lines);
+        return Ok(String::new(alloc));
     }
     let sources = sources_of(alloc, Profile::Wide, named)?;
     let declared = declared_in(alloc, &sources)?;
-    put_warnings(&mut lines, &declared, package, &warnings)?;
-    Ok(lines)
+    lines_of(package.package(), &warnings, &declared)
 }
 
-/// Puts warnings of a package, whose definitions are declared there.
-fn put_warnings(
-    lines: &mut String,
-    declared: &Declared<'_, '_>,
-    package: &Guarded,
-    warnings: &[Warning<'_>],
-) -> Made<()> {
+/// The lines of warnings of a package, whose definitions are declared there.
+fn lines_of(package: &Package, told: &[Warning<'_>], declared: &Declared<'_, '_>) -> Made<String> {
+    let mut lines = String::new(declared.alloc());
     let names = Names::of(declared.alloc(), declared)?;
-    for warning in warnings {
-        let (name, _) = definition_at(package.package(), warning.definition);
+    for warning in told {
+        let (name, _) = definition_at(package, warning.definition);
         if let Some(first) = names.first(name) {
-            put_offset(lines, first.source.named, first.here().start)?;
+            put_offset(&mut lines, first.source.named, first.here().start)?;
         }
         lines.push_str("warning: no document is an instance of ")?;
-        names.put(lines, name)?;
+        names.put(&mut lines, name)?;
         if let Some(reason) = warning.reason {
             lines.push_str(": ")?;
-            reason.put(lines, &names)?;
+            reason.put(&mut lines, &names)?;
         }
         lines.push('\n')?;
     }
-    Ok(())
+    Ok(lines)
 }
 
-/// Why no document is an instance of a definition, as far as one reason was found. `put` says what each means.
+const KINDS: Reason<'static> = Reason::Said("its operands are of different kinds");
+
+const NO_ALTERNATIVE: Reason<'static> = Reason::Said("none of its alternatives has an instance");
+
+const ITSELF: Reason<'static> = Reason::Said("each instance would need another one inside it");
+
+/// Why no document is an instance of a definition, as far as one reason was found.
 #[derive(Clone, Copy, PartialEq, Eq)]
 enum Reason<'a> {
-    Bottom,
-    Kinds,
-    Interval,
-    /// Also a literal and what leaves it out.
-    Literals,
-    Lengths,
+    /// What these words say.
+    Said(&'static str),
     /// The closed struct is in a body of the definition of that name.
     MissingKey { key: &'a str, closed: &'a str },
     Field { key: &'a str },
     Element { place: usize },
-    Alternatives,
-    Together,
-    Itself,
     Through { name: &'a str },
 }
 
 impl<'a> Reason<'a> {
     /// The reason of the whole, where this one is that of a part.
     fn around(self, whole: Reason<'a>) -> Reason<'a> {
-        if self == Reason::Itself { self } else { whole }
+        if self == ITSELF { self } else { whole }
     }
 
     /// What this reason of an alternative has in common with that of those before it.
     fn in_common(self, before: Option<Reason<'a>>) -> Reason<'a> {
         match (before, self) {
             (None, _) => self,
-            (Some(first), _) if first == self || first == Reason::Itself => first,
+            (Some(first), _) if first == self || first == ITSELF => first,
             // Perhaps the key is missing in another struct.
             (Some(Reason::MissingKey { key, closed }), Reason::MissingKey { key: other, .. })
                 if key == other && !key.is_empty() => Reason::MissingKey { key, closed },
-            (Some(_), _) => self.around(Reason::Together),
+            _ => self.around(Reason::Said("none of its alternatives meets what else it asks")),
         }
     }
 
     /// Puts it in words, with the names that authors wrote.
     fn put(self, text: &mut String, names: &Names<'_, '_>) -> Made<()> {
         match self {
-            Reason::Bottom => text.push_str("it asks for `_|_`"),
-            Reason::Kinds => text.push_str("its operands are of different kinds"),
-            Reason::Interval => text.push_str("its limits leave no integer"),
-            Reason::Literals => text.push_str("its operands are different values"),
-            Reason::Lengths => text.push_str("its lists have different lengths"),
+            Reason::Said(words) => text.push_str(words),
             Reason::MissingKey { key, closed } => {
                 put_quoted(text, "it requires ", key)?;
                 text.push_str(", and ")?;
@@ -157,9 +144,6 @@ impl<'a> Reason<'a> {
             Reason::Element { place } => {
                 write!(text, "nothing may stand at place {place} of its list")
             }
-            Reason::Alternatives => text.push_str("none of its alternatives has an instance"),
-            Reason::Together => text.push_str("none of its alternatives meets what else it asks"),
-            Reason::Itself => text.push_str("each instance would need another one inside it"),
             Reason::Through { name } => {
                 text.push_str("it refers to ")?;
                 names.put(text, name)?;
@@ -178,35 +162,8 @@ struct Operand<'a> {
 
 /// Adds expressions of a body of a definition.
 fn put_shapes<'a>(to: &mut Vec<Operand<'a>>, shapes: &'a [Shape], definition: &'a str) -> Made<()> {
-    for shape in shapes {
-        to.push(Operand { shape, definition })?;
-    }
-    Ok(())
-}
-
-/// How many elements lists have at least and at most, by the list literals among these. At least so many are the longest front.
-fn lengths_of(operands: &[Operand<'_>]) -> (usize, usize) {
-    let (mut least, mut most) = (0, usize::MAX);
-    for operand in operands {
-        if let Shape::List { front, end } = operand.shape {
-            least = front.len().max(least);
-            if matches!(end, ShapeEnd::Closed) {
-                most = front.len().min(most);
-            }
-        }
-    }
-    (least, most)
-}
-
-/// What lists ask of the element at a place.
-fn elements_at<'a>(alloc: Global, lists: &[Operand<'a>], place: usize) -> Made<Vec<Operand<'a>>> {
-    let mut elements = Vec::new(alloc);
-    for list in lists {
-        if let Some(element) = list.element_at(place) {
-            elements.push(element)?;
-        }
-    }
-    Ok(elements)
+    to.reserve(shapes.len())?;
+    to.extend(shapes.iter().map(|shape| Operand { shape, definition }))
 }
 
 impl<'a> Operand<'a> {
@@ -234,7 +191,7 @@ impl<'a> Operand<'a> {
     }
 }
 
-/// What is asked of the value under a key.
+/// What is asked of the value under a key, or of the values under all.
 #[derive(Drop)]
 struct Field<'a> {
     is_required: bool,
@@ -243,96 +200,54 @@ struct Field<'a> {
     allowed: usize,
 }
 
-/// What structs ask of the values under their labels, and under every key.
-#[derive(Drop)]
-struct Fields<'a> {
-    labelled: BTreeMap<&'a str, Field<'a>>,
-    every: Vec<Operand<'a>>,
-    /// For each closed struct, which allows its labels alone, the name of the definition in whose body it stands.
-    closed: Vec<&'a str>,
-}
+/// What structs ask of the values under their labels, and under none of the values under every key.
+type Fields<'a> = BTreeMap<Option<&'a str>, Field<'a>>;
 
-impl<'a> Fields<'a> {
-    /// What the structs among these ask of the values under their keys.
-    fn of(alloc: Global, operands: &[Operand<'a>]) -> Made<Fields<'a>> {
-        let mut fields = Fields {
-            labelled: BTreeMap::new(alloc),
-            every: Vec::new(alloc),
-            closed: Vec::new(alloc),
+/// What the structs among these ask, and for each closed one, which allows its labels alone, the name of the definition in whose body it stands.
+fn fields_of<'a>(alloc: Global, operands: &[Operand<'a>]) -> Made<(Fields<'a>, Vec<&'a str>)> {
+    let (mut fields, mut closed) = (BTreeMap::new(alloc), Vec::new(alloc));
+    let is_every = |part: &Part| matches!(part.mark, FieldMark::Every { .. });
+    for operand in operands {
+        let Shape::Struct { parts, opened } = operand.shape else {
+            continue;
         };
-        for operand in operands {
-            if let Shape::Struct { parts, opened } = operand.shape {
-                let is_every = |part: &Part| matches!(part.mark, FieldMark::Every { .. });
-                let is_closed = !opened && !parts.iter().any(is_every);
-                for part in parts {
-                    fields.add(part, *operand, is_closed)?;
-                }
-                if is_closed {
-                    fields.closed.push(operand.definition)?;
-                }
-            }
+        let is_closed = !opened && !parts.iter().any(is_every);
+        for part in parts {
+            let label = (!is_every(part)).then_some(part.label.as_str());
+            let none = Field {
+                is_required: false,
+                operands: Vec::new(alloc),
+                allowed: 0,
+            };
+            let field = fields.entry(label)?.or_insert(none);
+            field.is_required |= matches!(part.mark, FieldMark::Regular | FieldMark::Required);
+            let is_next = is_closed && field.allowed == closed.len();
+            field.allowed = field.allowed.saturating_add(usize::from(is_next));
+            let shape = &part.value;
+            field.operands.push(Operand { shape, ..*operand })?;
         }
-        Ok(fields)
-    }
-
-    /// Adds what a declaration of a struct asks, which is the next closed one, or none.
-    fn add(&mut self, part: &'a Part, whole: Operand<'a>, is_closed: bool) -> Made<()> {
-        let shape = &part.value;
-        let operand = Operand { shape, ..whole };
-        if let FieldMark::Every { .. } = part.mark {
-            return Ok(self.every.push(operand)?);
+        if is_closed {
+            closed.push(operand.definition)?;
         }
-        let closed = self.closed.len();
-        let none = Field {
-            is_required: false,
-            operands: Vec::new(*self.closed.allocator()),
-            allowed: 0,
-        };
-        let field = self.labelled.entry(part.label.as_str())?.or_insert(none);
-        field.is_required |= matches!(part.mark, FieldMark::Regular | FieldMark::Required);
-        let is_next = is_closed && field.allowed == closed;
-        field.allowed = field.allowed.saturating_add(usize::from(is_next));
-        Ok(field.operands.push(operand)?)
     }
-
-    /// The first key that is required and that a closed struct doesn't allow, with the definition of the first such struct.
-    fn missing_key(&self) -> Option<Reason<'a>> {
-        for (key, field) in &self.labelled {
-            if field.is_required
-                && let Some(closed) = self.closed.get(field.allowed).copied()
-            {
-                return Some(Reason::MissingKey { key: *key, closed });
-            }
-        }
-        None
-    }
+    Ok((fields, closed))
 }
 
 /// The one kind of documents that an expression admits, where its form says so; none where it says nothing or admits several.
 fn kind_of(shape: &Shape) -> Option<JsonKind> {
-    let simple = match shape.inside() {
-        Inside::Simple(simple) => simple,
-        Inside::List { .. } => return Some(JsonKind::Array),
-        Inside::Struct { .. } => return Some(JsonKind::Object),
-        Inside::Definition(_) | Inside::And(_) | Inside::Or(_) => return None,
-    };
-    Some(match simple {
-        Simple::Top | Simple::Bottom | Simple::Excluded(Literal::Null) => return None,
-        Simple::Literal(literal) | Simple::Excluded(literal) => match literal {
-            Literal::Null => JsonKind::Null,
-            Literal::Bool(_) => JsonKind::Boolean,
-            Literal::Int(_) => JsonKind::Integer,
-            Literal::Text(_) => JsonKind::String,
-        },
-        Simple::Kind(Kind::Bool) => JsonKind::Boolean,
-        Simple::Kind(Kind::Text) => JsonKind::String,
-        Simple::Kind(Kind::Int | Kind::Number) | Simple::Range { .. } | Simple::Bound { .. } => {
-            JsonKind::Integer
-        }
+    Some(match shape {
+        Shape::Null => JsonKind::Null,
+        Shape::Bool(_) | Shape::Kind(Kind::Bool) => JsonKind::Boolean,
+        Shape::Text(_) | Shape::NotText(_) | Shape::Kind(Kind::Text) => JsonKind::String,
+        Shape::Int(_) | Shape::NotInt(_) | Shape::Kind(_) => JsonKind::Integer,
+        Shape::Range { .. } | Shape::Bound { .. } => JsonKind::Integer,
+        Shape::List { .. } => JsonKind::Array,
+        Shape::Struct { .. } => JsonKind::Object,
+        _ => return None,
     })
 }
 
-/// The integers that an expression admits, by their ends; those of an empty interval where there is none.
+/// The integers that an expression admits, or the lengths of its lists, by their ends; those of an empty interval where there is none.
 fn ends_of(shape: &Shape) -> (i64, i64) {
     let (none, least, greatest) = ((i64::MAX, i64::MIN), i64::MIN, i64::MAX);
     match shape {
@@ -344,39 +259,42 @@ fn ends_of(shape: &Shape) -> (i64, i64) {
             Relation::More => limit.checked_add(1).map_or(none, |next| (next, greatest)),
             Relation::Less => limit.checked_sub(1).map_or(none, |last| (least, last)),
         },
+        Shape::List { front, end } => {
+            let length = i64::try_from(front.len()).unwrap_or(greatest);
+            let is_closed = matches!(end, ShapeEnd::Closed);
+            (length, if is_closed { length } else { greatest })
+        }
         _ => (least, greatest),
     }
 }
 
 /// Why no document meets all of the operands, as far as it is seen without looking at its parts.
 fn clash<'a>(operands: &[Operand<'a>]) -> Option<Reason<'a>> {
-    let mut kinds = operands.iter().filter_map(|operand| kind_of(operand.shape));
-    let kind = kinds.next()?;
-    if kinds.any(|other| other != kind) {
-        return Some(Reason::Kinds);
+    let (mut kind, mut named) = (None, None);
+    let (mut least, mut greatest) = (i64::MIN, i64::MAX);
+    for operand in operands {
+        let own = kind_of(operand.shape);
+        if own.or(kind) != kind.or(own) {
+            return Some(KINDS);
+        }
+        kind = kind.or(own);
+        named = named.or(operand.shape.literal());
+        let (first, last) = ends_of(operand.shape);
+        (least, greatest) = (first.max(least), last.min(greatest));
     }
-    // The integers that all operands admit, by their ends.
-    let ends = operands.iter().map(|operand| ends_of(operand.shape));
-    let both = |all: (i64, i64), other: (i64, i64)| (all.0.max(other.0), all.1.min(other.1));
-    let (least, greatest) = ends.fold((i64::MIN, i64::MAX), both);
-    let last = (least == greatest).then_some(Literal::Int(least));
-    let named = operands.iter().find_map(|operand| operand.shape.literal());
-    if let Some(value) = named.or(last) {
-        let is_left_out = |operand: &Operand<'_>| {
-            operand.shape.literal().unwrap_or(value) != value
-                || operand.shape.excluded() == Some(value)
-        };
-        let reason = match value {
-            Literal::Null => Reason::Kinds,
-            Literal::Bool(_) | Literal::Int(_) | Literal::Text(_) => Reason::Literals,
-        };
-        return (least > greatest || operands.iter().any(is_left_out)).then_some(reason);
-    }
-    if least > greatest {
-        return Some(Reason::Interval);
-    }
-    let (shortest, longest) = lengths_of(operands);
-    (shortest > longest).then_some(Reason::Lengths)
+    // The one value that is left.
+    let value = named.or((least == greatest).then_some(Literal::Int(least)));
+    let is_left_out = |operand: &Operand<'_>| {
+        let other = operand.shape.excluded();
+        operand.shape.literal().or(value) != value || other.is_some() && other == value
+    };
+    let reason = match (kind, value) {
+        (Some(JsonKind::Null), _) => KINDS,
+        (_, Some(_)) => Reason::Said("its operands are different values"),
+        (Some(JsonKind::Array), None) => Reason::Said("its lists have different lengths"),
+        (_, None) => Reason::Said("its limits leave no integer"),
+    };
+    (least > greatest || operands.iter().any(is_left_out)).then_some(reason)
 }
 
 /// The name of a definition with its `#`, and its bodies; nothing where there is no such definition.
@@ -418,43 +336,34 @@ impl<'a, 'e> Search<'a, 'e> {
         self.why(operands, MOST_DEPTH)
     }
 
-    /// The operands in the place of references and conjunctions, as far as the steps are enough, and until one is found that has no instance
+    /// Adds the operands in the place of references and conjunctions, as far as the steps are enough, and until one is found that has no instance
     /// by itself: then why.
-    fn open(
-        &mut self,
-        mut waiting: Vec<Operand<'a>>,
-    ) -> Made<(Vec<Operand<'a>>, Option<Reason<'a>>)> {
-        let mut opened = Vec::new(self.alloc);
+    fn open(&mut self, mut waiting: Vec<Operand<'a>>, opened: &mut Vec<Operand<'a>>) -> Found<'a> {
         let mut never = None;
         // The definitions that were referred to.
         let mut seen = BTreeSet::new(self.alloc);
         for place in 0..self.left {
-            let Some(operand) = waiting.get(place).copied() else {
+            let goes_on = self.left > 0 && never.is_none();
+            let Some(operand) = waiting.get(place).copied().filter(|_| goes_on) else {
                 break;
             };
             self.left = self.left.saturating_sub(operand.cost());
             match operand.shape {
-                Shape::Bottom => never = Some(Reason::Bottom),
+                Shape::Bottom => never = Some(Reason::Said("it asks for `_|_`")),
+                Shape::Definition(number) if *number == self.root => never = Some(ITSELF),
                 Shape::Definition(number) => {
                     let (name, bodies) = definition_at(self.package, *number);
-                    if self.empty.get(*number) != Some(&true) {
-                        if seen.insert(*number)? {
-                            put_shapes(&mut waiting, bodies, name)?;
-                        }
-                    } else if *number == self.root {
-                        never = Some(Reason::Itself);
-                    } else {
+                    if self.empty.get(*number) == Some(&true) {
                         never = Some(Reason::Through { name });
+                    } else if seen.insert(*number)? {
+                        put_shapes(&mut waiting, bodies, name)?;
                     }
                 }
                 Shape::And(shapes) => put_shapes(&mut waiting, shapes, operand.definition)?,
                 _ => opened.push(operand)?,
             }
-            if self.left == 0 || never.is_some() {
-                break;
-            }
         }
-        Ok((opened, never))
+        Ok(never)
     }
 
     /// Why no document meets all of these operands.
@@ -463,7 +372,8 @@ impl<'a, 'e> Search<'a, 'e> {
         if depth == 0 || self.left == 0 {
             return Ok(None);
         }
-        let (opened, never) = self.open(operands)?;
+        let mut opened = Vec::new(self.alloc);
+        let never = self.open(operands, &mut opened)?;
         let known = clash(&opened).or(never);
         if known.is_some() || self.left == 0 {
             return Ok(known);
@@ -477,24 +387,38 @@ impl<'a, 'e> Search<'a, 'e> {
     /// Why nothing may stand at a place of a list, or under a required key, where all operands admit documents of one kind.
     #[cycle(why)]
     fn why_inside(&mut self, operands: &[Operand<'a>], depth: usize) -> Found<'a> {
-        let (length, _) = lengths_of(operands);
-        for place in 0..length.min(self.left) {
-            let asked = elements_at(self.alloc, operands, place)?;
+        let lengths = operands.iter().map(|operand| match operand.shape {
+            Shape::List { front, .. } => front.len(),
+            _ => 0,
+        });
+        for place in 0..lengths.fold(0, usize::max).min(self.left) {
+            let mut asked = Vec::new(self.alloc);
+            for element in operands.iter().filter_map(|list| list.element_at(place)) {
+                asked.push(element)?;
+            }
             if let Some(reason) = self.why(asked, depth)? {
                 return Ok(Some(reason.around(Reason::Element { place })));
             }
         }
-        let fields = Fields::of(self.alloc, operands)?;
-        if let Some(reason) = fields.missing_key() {
-            return Ok(Some(reason));
+        let (fields, closed) = fields_of(self.alloc, operands)?;
+        for (label, field) in &fields {
+            if let Some(key) = label.filter(|_| field.is_required)
+                && let Some(closed) = closed.get(field.allowed).copied()
+            {
+                return Ok(Some(Reason::MissingKey { key, closed }));
+            }
         }
-        for (key, field) in fields.labelled {
-            if field.is_required {
-                let mut asked = field.operands;
-                asked.extend_from_slice(&fields.every)?;
-                if let Some(reason) = self.why(asked, depth)? {
-                    return Ok(Some(reason.around(Reason::Field { key })));
-                }
+        let every = fields.get(&None);
+        for (label, field) in &fields {
+            let Some(key) = label.filter(|_| field.is_required) else {
+                continue;
+            };
+            let mut asked = field.operands.clone()?;
+            if let Some(every) = every {
+                asked.extend_from_slice(&every.operands)?;
+            }
+            if let Some(reason) = self.why(asked, depth)? {
+                return Ok(Some(reason.around(Reason::Field { key })));
             }
         }
         Ok(None)
@@ -519,7 +443,7 @@ impl<'a, 'e> Search<'a, 'e> {
             }
         }
         Ok(match common {
-            Some(reason) if others.is_empty() => Some(reason.around(Reason::Alternatives)),
+            Some(reason) if others.is_empty() => Some(reason.around(NO_ALTERNATIVE)),
             Some(_) | None => common,
         })
     }
