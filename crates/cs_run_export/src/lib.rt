@@ -25,16 +25,6 @@ fn is_shaped(call: Call<'_, '_>) -> bool {
     flags.iter().any(is_asked) || ["output", "profile"].iter().any(is_given)
 }
 
-/// How the words ask for a schema.
-fn layout_of(call: Call<'_, '_>) -> Layout {
-    Layout {
-        is_described: call.words.get_flag("describe"),
-        has_defaults: call.profile() == Profile::Wide,
-        is_openapi: call.words.get_flag("openapi"),
-        is_pretty: call.words.get_flag("pretty"),
-    }
-}
-
 /// The status of an export where nothing more is asked for.
 fn export_plainly(call: Call<'_, '_>) -> Status {
     let root = String::from_str(call.alloc(), call.word("root"))?;
@@ -69,7 +59,13 @@ fn put_schema<W: Write>(
     sources: &[&[u8]],
     output: &mut W,
 ) -> Result<(), Fault> {
-    let (alloc, profile, layout) = (call.alloc(), call.profile(), layout_of(call));
+    let (alloc, profile) = (call.alloc(), call.profile());
+    let layout = Layout {
+        is_described: call.words.get_flag("describe"),
+        has_defaults: profile == Profile::Wide,
+        is_openapi: call.words.get_flag("openapi"),
+        is_pretty: call.words.get_flag("pretty"),
+    };
     match call.words.get_str("root") {
         Some(root) => write_root_in(alloc, profile, sources, root, layout, output),
         None => write_all_in(alloc, profile, sources, layout, output),
