@@ -11,7 +11,7 @@ ghost use Rattle.cs_question.specs.Cases.{IsCovered, Continues, Covers, NoOther}
 use crate::fault::{Effort, MOST_STEPS, Made, SearchFault, Searched};
 use crate::lists::list_of;
 use crate::maps::map_of;
-use crate::nodes::{Literal, Node, Nodes, add, are_same, part_of, without};
+use crate::nodes::{Literal, Node, Nodes, add, are_same, part_of, with, without};
 use crate::scalars::{integer_of, may_meet_all, text_of};
 use crate::sides::{Sign, are_alike, sign_of};
 use crate::table::{Found, Table};
@@ -104,11 +104,15 @@ fn parts_of<'n>(nodes: &'n Nodes<'_>, literal: Literal) -> Option<&'n [usize]> {
 fn opened_at(nodes: &Nodes<'_>, asked: &[Literal]) -> Option<(usize, Literal)>
     ensures { IfSome result (λ t. slice_get asked.now t.0 ≡ Some t.1) }
 {
-    let place = asked
-        .iter()
-        .rposition(|literal| parts_of(nodes, *literal).is_some())?;
-    let literal = asked.get(place)?;
-    Some((place, *literal))
+    let mut place = asked.len();
+    while place > 0 {
+        place -= 1;
+        let literal = asked[place];
+        if parts_of(nodes, literal).is_some() {
+            return Some((place, literal));
+        }
+    }
+    None
 }
 
 /// Puts a case among the others, unless it is there.
@@ -149,7 +153,8 @@ fn put_all(
     put(nodes, cases, asked)
 }
 
-/// Puts a case for each part of a rule, in which that is as the rule is.
+/// Puts a case for each part of a rule, in which that is as the rule is. There is none where that is a constant or a range that
+/// isn't to be met.
 fn put_each<'n>(
     nodes: &Nodes<'n>,
     cases: &mut BTreeSet<Case>,
@@ -165,31 +170,13 @@ fn put_each<'n>(
     let refused = refused_of(nodes, asked)?;
     for part in parts {
         let one = part_of(literal, *part);
-        put_with(nodes, cases, &refused, asked, one, effort)?;
+        if alike(&refused, nodes, asked, one).is_none() {
+            effort.take(cost_of_copying(asked.len()))?;
+            let case = with(effort.alloc, asked, Some(one))?;
+            put(nodes, cases, case)?;
+        }
     }
     Ok(())
-}
-
-/// Puts the case in which one more is asked. There is none where that is a constant or a range that isn't to be met.
-fn put_with<'n>(
-    nodes: &Nodes<'n>,
-    cases: &mut BTreeSet<Case>,
-    refused: &Refused<'n>,
-    asked: &[Literal],
-    literal: Literal,
-    effort: &mut Effort,
-) -> Searched<()>
-    ensures kept { OnOk result (Continues cases.old.keys cases.new.keys) }
-    ensures there { OnOk result ((J : Judgement) (x : Document) → IsMeaning nodes.now J → meets_all J x asked.now ≡ true → meets J x literal ≡ true
-        → IsCovered J x cases.new.keys) }
-{
-    if alike(refused, nodes, asked, literal).is_some() {
-        return Ok(());
-    }
-    effort.take(cost_of_copying(asked.len()))?;
-    let mut one = Vec::from_slice(effort.alloc, asked)?;
-    add(&mut one, literal)?;
-    put(nodes, cases, one)
 }
 
 /// Opens what is asked at a place.

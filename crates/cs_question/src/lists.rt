@@ -41,38 +41,19 @@ fn longest_front(nodes: &Nodes<'_>, asked: &[Literal]) -> usize {
     longest
 }
 
-/// Whether one rule is met by longer lists alone.
-fn asks_for_more(nodes: &Nodes<'_>, literal: Literal, count: usize) -> bool
-    ensures { IsTrue result → (J : Judgement) (ds : Documents) → IsMeaning nodes.now J → meets J (list ds) literal ≡ true → count < length (elements ds) }
-{
-    match nodes.of(literal) {
-        Some(Node::List { front, .. }) => literal.holds && front.len() > count,
-        _ => false,
-    }
-}
-
 /// Whether a rule that is met asks for more than so many elements.
-fn some_ask_for_more(nodes: &Nodes<'_>, asked: &[Literal], count: usize) -> bool
+fn asks_for_more(nodes: &Nodes<'_>, asked: &[Literal], count: usize) -> bool
     ensures { IsTrue result → (J : Judgement) (ds : Documents) → IsMeaning nodes.now J
         → meets_all J (list ds) asked.now ≡ true → count < length (elements ds) }
 {
-    asked.iter().any(|rule| asks_for_more(nodes, *rule, count))
-}
-
-/// Adds what is asked of an element.
-fn ask_element(further: &mut Further, literal: Literal, element: NodeEnd) -> Made<()>
-    requires { literal.holds ≡ true }
-    ensures { OnOk result ((J : Judgement) (n : ℕ) (y : Document) → fits (λ z p. J literal.side p z) (end_of element) y ≡ true
-        → IsFurther J n further.old y → IsFurther J n further.new y) }
-{
-    match element {
-        NodeEnd::Closed => {
-            further.is_barred = true;
-            Ok(())
+    for literal in asked {
+        if let Some(Node::List { front, .. }) = nodes.of(*literal) {
+            if literal.holds && front.len() > count {
+                return true;
+            }
         }
-        NodeEnd::Any => Ok(()),
-        NodeEnd::Each(rule) => add(&mut further.asked, part_of(literal, rule)),
     }
+    false
 }
 
 /// Adds what one rule asks of the element at a place, or of each one from there on, where its front ends before.
@@ -87,11 +68,18 @@ fn ask_place(
         → meets J (list ds) literal ≡ true → IsFrom place is_behind i → slice_get (elements ds) i ≡ Some y
         → IsFurther J n further.old y → IsFurther J n further.new y) }
 {
-    match nodes.of(literal) {
-        Some(Node::List { front, end }) if literal.holds && (!is_behind || front.len() <= place) =>
-            { ask_element(further, literal, element_in(front, *end, place)) }
-        _ => Ok(()),
+    let Some(Node::List { front, end }) = nodes.of(literal) else {
+        return Ok(());
+    };
+    if !literal.holds || (is_behind && front.len() > place) {
+        return Ok(());
     }
+    match element_in(front, *end, place) {
+        NodeEnd::Closed => further.is_barred = true,
+        NodeEnd::Any => {}
+        NodeEnd::Each(rule) => add(&mut further.asked, part_of(literal, rule))?,
+    }
+    Ok(())
 }
 
 /// What the rules that are met ask of the element at a place, or of each one from there on.
@@ -176,25 +164,6 @@ fn list_ways<'a>(
     Ok(ways)
 }
 
-/// Adds the ways to fail of one rule that isn't met, unless it asks for more elements.
-fn add_rule<'a>(
-    rules: &mut Vec<Vec<Way<'a>>>,
-    nodes: &Nodes<'_>,
-    literal: Literal,
-    count: usize,
-) -> Made<()>
-    ensures { OnOk result ((J : Judgement) (ds : Documents) → IsMeaning nodes.now J → meets J (list ds) literal ≡ true → count ≤ length (elements ds)
-        → AllByRecursion (λ w. AreTaken J (spread_list count (elements ds)) w.items) rules.old.items
-        → AllByRecursion (λ w. AreTaken J (spread_list count (elements ds)) w.items) rules.new.items) }
-{
-    match nodes.of(literal) {
-        Some(Node::List { front, end }) if !literal.holds && front.len() <= count => {
-            Ok(rules.push(list_ways(nodes.alloc, literal, front, *end, count)?)?)
-        }
-        _ => Ok(()),
-    }
-}
-
 /// The ways to fail of each rule that isn't met, but for those that ask for more elements.
 fn rules_of<'a>(nodes: &Nodes<'_>, asked: &[Literal], count: usize) -> Made<Vec<Vec<Way<'a>>>>
     ensures { IfOk result (λ v. (J : Judgement) (ds : Documents) → IsMeaning nodes.now J
@@ -203,7 +172,12 @@ fn rules_of<'a>(nodes: &Nodes<'_>, asked: &[Literal], count: usize) -> Made<Vec<
 {
     let mut rules = Vec::new(nodes.alloc);
     for literal in asked {
-        add_rule(&mut rules, nodes, *literal, count)?;
+        match nodes.of(*literal) {
+            Some(Node::List { front, end }) if !literal.holds && front.len() <= count => {
+                rules.push(list_ways(nodes.alloc, *literal, front, *end, count)?)?;
+            }
+            _ => {}
+        }
     }
     Ok(rules)
 }
@@ -219,7 +193,7 @@ fn list_of_length<'a>(
 ) -> Searched<Option<Found<'a>>>
     ensures { IfOk result (λ o. IsNone o → NoLength nodes.now table.now asked.now (IsOfLength is_longer count)) }
 {
-    if !is_longer && some_ask_for_more(nodes, asked, count) {
+    if !is_longer && asks_for_more(nodes, asked, count) {
         return Ok(None);
     }
     effort.take(asked.len().saturating_mul(count) / LOOKS_OF_STEP)?;

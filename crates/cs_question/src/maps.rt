@@ -20,14 +20,6 @@ use cs_flat::Item;
 use cs_instance::{Field, Fields, is_for_every_key, may_be_absent};
 use std::alloc::Global;
 
-/// Whether some declaration allows a key.
-fn is_allowed(fields: &Fields<'_>, key: &str) -> bool
-    ensures { result ≡ list_any (λ d. constraint.allows d key.now) (map field_of fields.now.all.items) }
-{
-    let mut next = 0;
-    fields.allow(key, &mut next)
-}
-
 /// Whether some declaration is for every key.
 fn has_every(fields: &[Field<'_>]) -> bool
     ensures { result ≡ list_any (λ d. is_every d.mark) (map field_of fields.now) }
@@ -40,25 +32,12 @@ fn has_every(fields: &[Field<'_>]) -> bool
     false
 }
 
-/// Whether a key is one of these labels, which are in order.
-fn is_one_of(labels: &[&str], key: &str) -> bool
-    ensures { IsTrue result → is_among labels.now key.now ≡ true }
-{
-    let Ok(place) = labels.binary_search(&key) else {
-        return false;
-    };
-    match labels.get(place) {
-        Some(label) => key == *label,
-        None => false,
-    }
-}
-
-/// Whether each key that the declarations are for is one of these: none of them is for every key.
-fn are_all_among(labels: &[&str], fields: &[Field<'_>]) -> bool
+/// Whether each key that the declarations are for is one of these labels, which are in order: none of them is for every key.
+fn are_all_among<'a>(labels: &[&'a str], fields: &[Field<'a>]) -> bool
     ensures { IsTrue result → (k : List ℕ) → list_any (λ d. constraint.allows d k) (map field_of fields.now) ≡ true → is_among labels.now k ≡ true }
 {
     for field in fields {
-        if is_for_every_key(field.mark) || !is_one_of(labels, field.label) {
+        if is_for_every_key(field.mark) || labels.binary_search(&field.label).is_err() {
             return false;
         }
     }
@@ -71,19 +50,9 @@ fn bar_others<'a>(places: &mut Vec<Place<'a>>, labels: &[&'a str], fields: &Fiel
         list_all (λ m. list_any (λ d. constraint.allows d m.0) (map field_of fields.now.all.items)) ms ≡ true)) }
 {
     for label in labels {
-        if !is_allowed(fields, *label) {
+        if !fields.allow(*label, &mut 0) {
             take(places, &Way::Absent(Key::Label(*label)))?;
         }
-    }
-    Ok(())
-}
-
-/// Asks the same of what is at each of the places of the labels.
-fn ask_each<'a>(places: &mut Vec<Place<'a>>, labels: &[&'a str], value: Literal) -> Made<()>
-    ensures { OnOk result (KeepsPlaces places.old.items places.new.items (λ J ms. (k : List ℕ) → IfSome (under k ms) (IsSuch J (Some value)))) }
-{
-    for label in labels {
-        take(places, &Way::Optional(Key::Label(*label), value))?;
     }
     Ok(())
 }
@@ -101,7 +70,10 @@ fn ask_field<'a>(
 {
     let value = part_of(literal, field.value);
     if is_for_every_key(field.mark) {
-        return ask_each(places, labels, value);
+        for label in labels {
+            take(places, &Way::Optional(Key::Label(*label), value))?;
+        }
+        return Ok(());
     }
     let key = Key::Label(field.label);
     if may_be_absent(field.mark) {
@@ -110,34 +82,25 @@ fn ask_field<'a>(
     take(places, &Way::Present(key, Some(value)))
 }
 
-/// Adds to the places of the labels what declarations ask of them.
+/// Adds to the places of the labels, and to what is asked under further keys, what declarations ask of them.
 fn ask_fields<'a>(
-    places: &mut Vec<Place<'a>>,
+    demands: &mut Demands<'a>,
     labels: &[&'a str],
     literal: Literal,
     fields: &[Field<'a>],
 ) -> Made<()>
     requires { literal.holds ≡ true }
-    ensures { OnOk result (KeepsPlaces places.old.items places.new.items (λ J ms.
+    ensures rules { demands.new.rules ≡ demands.old.rules }
+    ensures places { OnOk result (KeepsPlaces demands.old.places.items demands.new.places.items (λ J ms.
         list_all (λ d. constraint.declaration_holds (λ y p. J literal.side p y) d ms) (map field_of fields.now) ≡ true)) }
-{
-    for field in fields {
-        ask_field(places, labels, literal, field)?;
-    }
-    Ok(())
-}
-
-/// Adds what declarations ask of the values under further keys.
-fn ask_further(further: &mut Further, literal: Literal, fields: &[Field<'_>]) -> Made<()>
-    requires { literal.holds ≡ true }
-    ensures barred { further.new.is_barred ≡ further.old.is_barred }
-    ensures asked { OnOk result ((J : Judgement) (n : ℕ) (ms : List (Entry Document)) (m : Entry Document)
+    ensures further { OnOk result ((J : Judgement) (n : ℕ) (ms : List (Entry Document)) (m : Entry Document)
         → list_all (λ d. constraint.declaration_holds (λ y p. J literal.side p y) d ms) (map field_of fields.now) ≡ true
-        → Contains ms m → IsFurther J n further.old m.1 → IsFurther J n further.new m.1) }
+        → Contains ms m → IsFurther J n demands.old.further m.1 → IsFurther J n demands.new.further m.1) }
 {
     for field in fields {
+        ask_field(&mut demands.places, labels, literal, field)?;
         if is_for_every_key(field.mark) {
-            add(&mut further.asked, part_of(literal, field.value))?;
+            add(&mut demands.further.asked, part_of(literal, field.value))?;
         }
     }
     Ok(())
@@ -184,7 +147,7 @@ fn extra_ways<'a>(labels: &[&'a str], fields: &Fields<'a>, ways: &mut Vec<Way<'a
         list_all (λ m. list_any (λ d. constraint.allows d m.0) (map field_of fields.now.all.items)) ms ≡ false)) }
 {
     for label in labels {
-        if !is_allowed(fields, *label) {
+        if !fields.allow(*label, &mut 0) {
             ways.push(Way::Present(Key::Label(*label), None))?;
         }
     }
@@ -278,8 +241,7 @@ fn ask_rule<'a>(
             demands.further.is_barred = true;
         }
     }
-    ask_fields(&mut demands.places, labels, literal, &fields.all)?;
-    ask_further(&mut demands.further, literal, &fields.all)
+    ask_fields(demands, labels, literal, &fields.all)
 }
 
 /// What the rules ask of the places of the labels, and of further keys, and the ways to fail those that aren't to be met.

@@ -65,24 +65,16 @@ fn mark_range(marks: &mut Vec<i64>, least: i64, greatest: Option<i64>) -> Made<(
     }
 }
 
-/// Marks what an expression that looks at no part compares integers with.
-fn mark_shape(marks: &mut Vec<i64>, shape: &Shape) -> Made<()>
-    ensures told { OnOk result (IsToldBy (test_of (expression_of [] shape.now)) marks.new.items) }
-    ensures more { OnOk result (HasMore marks.old.items marks.new.items) }
-{
-    match shape.comparison() {
-        Comparison::Integer(integer) => Ok(marks.push(integer)?),
-        Comparison::Range { least, greatest } => mark_range(marks, least, greatest),
-        Comparison::Nothing | Comparison::Text(_) => Ok(()),
-    }
-}
-
 fn mark(marks: &mut Vec<i64>, nodes: &Nodes<'_>, literal: Literal) -> Made<()>
     ensures told { OnOk result (IsOneMarked nodes.now literal marks.new.items) }
     ensures more { OnOk result (HasMore marks.old.items marks.new.items) }
 {
     match nodes.of(literal) {
-        Some(Node::Simple(shape)) => mark_shape(marks, shape),
+        Some(Node::Simple(shape)) => match shape.comparison() {
+            Comparison::Integer(integer) => Ok(marks.push(integer)?),
+            Comparison::Range { least, greatest } => mark_range(marks, least, greatest),
+            Comparison::Nothing | Comparison::Text(_) => Ok(()),
+        },
         Some(Node::Within { least, greatest }) => mark_range(marks, *least, *greatest),
         _ => Ok(()),
     }
@@ -139,16 +131,6 @@ pub(crate) fn integer_of(nodes: &Nodes<'_>, asked: &[Literal]) -> Made<Option<i6
     Ok(None)
 }
 
-/// The text that an expression that looks at no part compares with.
-fn mark_of<'a>(shape: &'a Shape) -> Option<&'a str>
-    ensures { IsToldByText (test_of (expression_of [] shape.now)) result }
-{
-    match shape.comparison() {
-        Comparison::Text(text) => Some(text),
-        Comparison::Nothing | Comparison::Integer(_) | Comparison::Range { .. } => None,
-    }
-}
-
 /// Marks the text that a rule compares with.
 fn mark_text<'a>(marks: &mut Vec<&'a str>, nodes: &Nodes<'a>, literal: Literal) -> Made<()>
     ensures told { OnOk result (IsOneMarkedText nodes.now literal marks.new.items) }
@@ -157,9 +139,9 @@ fn mark_text<'a>(marks: &mut Vec<&'a str>, nodes: &Nodes<'a>, literal: Literal) 
     let Some(Node::Simple(shape)) = nodes.of(literal) else {
         return Ok(());
     };
-    match mark_of(shape) {
-        Some(text) => Ok(marks.push(text)?),
-        None => Ok(()),
+    match shape.comparison() {
+        Comparison::Text(text) => Ok(marks.push(text)?),
+        Comparison::Nothing | Comparison::Integer(_) | Comparison::Range { .. } => Ok(()),
     }
 }
 

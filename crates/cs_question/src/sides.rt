@@ -131,15 +131,6 @@ fn is_same_field(first: &Field<'_>, second: &Field<'_>) -> bool
         && is_same_mark(first.mark, second.mark)
 }
 
-fn is_same_at(first: &[Field<'_>], second: &[Field<'_>], place: usize) -> bool
-    ensures { IsTrue result → slice_get (map field_of first.now) place ≡ slice_get (map field_of second.now) place }
-{
-    match (first.get(place), second.get(place)) {
-        (Some(field), Some(other)) => is_same_field(field, other),
-        _ => false,
-    }
-}
-
 fn are_same_fields(first: &[Field<'_>], second: &[Field<'_>]) -> bool
     ensures { IsTrue result → map field_of first.now ≡ map field_of second.now }
 {
@@ -147,7 +138,7 @@ fn are_same_fields(first: &[Field<'_>], second: &[Field<'_>]) -> bool
         return false;
     }
     for i in 0..first.len() {
-        if !is_same_at(first, second, i) {
+        if !is_same_field(&first[i], &second[i]) {
             return false;
         }
     }
@@ -222,19 +213,9 @@ fn narrowed(nodes: &[Node<'_>], limits: Limits, others: &[usize]) -> Option<Limi
 {
     let mut all = limits;
     for other in others {
-        let next = limits_at(nodes, *other)?;
-        all = in_both(all, next);
+        all = in_both(all, limits_at(nodes, *other)?);
     }
     Some(all)
-}
-
-/// The limits of a conjunction of these rules, where each of them is a range.
-fn limits_of_all(nodes: &[Node<'_>], parts: &[usize]) -> Option<Limits>
-    ensures { IfSome result (λ l. AreBetween (map asked_of nodes.now) (λ J x. list_all (λ p. J p x) parts.now) l.0 l.1) }
-{
-    let first = parts.first()?;
-    let limits = limits_at(nodes, *first)?;
-    narrowed(nodes, limits, parts)
 }
 
 /// The rule at a place as one range, where it is a conjunction of ranges that has a least integer.
@@ -245,30 +226,10 @@ fn range_at<'a>(nodes: &[Node<'a>], place: usize) -> Option<Node<'a>>
     let Some(Node::All(parts)) = nodes.get(place) else {
         return None;
     };
-    let (least, greatest) = limits_of_all(nodes, parts)?;
+    let limits = limits_at(nodes, *parts.first()?)?;
+    let (least, greatest) = narrowed(nodes, limits, parts)?;
     let least = least?;
     Some(Node::Within { least, greatest })
-}
-
-/// Makes a conjunction of ranges at a place one range.
-fn fold_at(nodes: &mut Vec<Node<'_>>, place: usize)
-    ensures { Says (map asked_of nodes.old.items) (map asked_of nodes.new.items) }
-{
-    let Some(range) = range_at(nodes, place) else {
-        return;
-    };
-    if place < nodes.len() {
-        nodes[place] = range;
-    }
-}
-
-/// Makes each conjunction of ranges one range.
-fn fold(nodes: &mut Vec<Node<'_>>)
-    ensures { Says (map asked_of nodes.old.items) (map asked_of nodes.new.items) }
-{
-    for place in 0..nodes.len() {
-        fold_at(nodes, place);
-    }
 }
 
 /// How often rules that are the same are looked for, each time by the numbers that the last one gave their parts. So structs and
@@ -325,7 +286,11 @@ fn folded<'a>(alloc: Global, rules: &[Rule<'a>], inner: &[usize]) -> Made<Vec<No
     ensures { IfOk result (λ v. Says (map (numbered inner.now) rules.now) (map asked_of v.items)) }
 {
     let mut nodes = nodes_of(alloc, rules, inner)?;
-    fold(&mut nodes);
+    for place in 0..nodes.len() {
+        if let Some(range) = range_at(&nodes, place) {
+            nodes[place] = range;
+        }
+    }
     Ok(nodes)
 }
 

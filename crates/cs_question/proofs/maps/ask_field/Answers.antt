@@ -7,13 +7,14 @@ use Rattle.cs_question.proofs.Declared.{every_told, plain_told}
 use Rattle.cs_question.proofs.Taken.{met_all, some_and}
 use Rattle.cs_question.proofs.maps.ask_field.Goals as goal
 
+pub loop-label-preserved : goal.loop-label-preserved
+loop-label-preserved c = λ J n ms f h. c.in_ok-take.ensures J n (spread_map [] ms) (c.loop-label.invariant J n ms f h) (f _)
+
 pub returns-then-is_for_every_key : goal.returns-then-is_for_every_key
-returns-then-is_for_every_key c =
+returns-then-is_for_every_key c = λ J n ms holds held.
     let l = c.args.literal in
     let field = c.args.field.now in
-    on_ok_weaker c.ask_each.result (λ f J n ms holds held.
-    f J n ms (λ k. met_all J l field.value c.part_of-value.result (under k ms) c.requires c.part_of-value.ensures (every_told (λ y p. J l.side p y) ms (field_of field) k (sym c.is_for_every_key.ensures ∙ c.if-is_for_every_key.true) holds)) held)
-    c.ask_each.ensures
+    c.loop-label.invariant J n ms (λ k. met_all J l field.value c.part_of-value.result (under k ms) c.requires c.part_of-value.ensures (every_told (λ y p. J l.side p y) ms (field_of field) k (sym c.is_for_every_key.ensures ∙ c.if-is_for_every_key.true) holds)) held
 
 pub returns-then-may_be_absent : goal.returns-then-may_be_absent
 returns-then-may_be_absent c =

@@ -25,31 +25,31 @@ returns-then-not-literal-clause-rules c = λ J ms m are met before.
 pub returns-clause-places : goal.returns-clause-places
 returns-clause-places c =
     let s = c.in-Some-Struct in
-    on_ok_weaker c.ask_further.result (λ f J n ms m met held.
+    on_ok_weaker c.ask_fields.result (λ f J n ms m met held.
     let ds = map field_of s.fields.all.items in
     let P : Declaration ℕ → Bool = λ d. declaration_holds (λ y p. J c.args.literal.side p y) d (entries ms) in
     let allowed = list_all (λ (e : Entry Document). list_any (λ d. allows d e.0) ds) (entries ms) in
     let parts = and_parts (list_all P ds) (s.opened || allowed) (struct_is c.args.nodes.now J m c.args.literal true c.if-not-literal.false s.fields s.opened ms (s.ensures ∙ ap Some s.field-0-is) met) in
-    c.in_ok-ask_fields.ensures J n (entries ms) (ap (λ fs. list_all P (map field_of fs)) c.deref-2.ensures.value ∙ parts.0)
+    f J n (entries ms) (ap (λ fs. list_all P (map field_of fs)) c.deref-2.ensures.value ∙ parts.0)
     (elim c.if-not-opened.branch [
       | then-not-opened+in_ok-bar_others+then-are_all_among w ↦ subst (λ (d : Demands). HoldsPlaces J n (spread_map [] (entries ms)) d.places.items) (sym w.demands-is) (w.in_ok-bar_others.ensures J n (entries ms) (or_false s.opened allowed w.if-not-opened.true parts.1) held)
       | then-not-opened+in_ok-bar_others+else-are_all_among w ↦ subst (λ (d : Demands). HoldsPlaces J n (spread_map [] (entries ms)) d.places.items) (sym w.demands-is) (w.in_ok-bar_others.ensures J n (entries ms) (or_false s.opened allowed w.if-not-opened.true parts.1) held)
       | else-not-opened w ↦ subst (λ (d : Demands). HoldsPlaces J n (spread_map [] (entries ms)) d.places.items) (sym w.demands-is) held
     ]))
-    c.ask_further.ensures.asked
+    c.ask_fields.ensures.places
 
 pub returns-clause-further : goal.returns-clause-further
 returns-clause-further c =
     let s = c.in-Some-Struct in
-    on_ok_weaker c.ask_further.result (λ f J n ms e m met there other held.
+    on_ok_weaker c.ask_fields.result (λ f J n ms e m met there other held.
     let ds = map field_of s.fields.all.items in
     let P : Declaration ℕ → Bool = λ d. declaration_holds (λ y p. J c.args.literal.side p y) d (entries ms) in
     let A : Entry Document → Bool = λ (k : Entry Document). list_any (λ d. allows d k.0) ds in
     let parts = and_parts (list_all P ds) (s.opened || list_all A (entries ms)) (struct_is c.args.nodes.now J m c.args.literal true c.if-not-literal.false s.fields s.opened ms (s.ensures ∙ ap Some s.field-0-is) met) in
-    f J n (entries ms) e (ap (λ fs. list_all P (map field_of fs)) c.deref-3.ensures.value ∙ parts.0) there
+    f J n (entries ms) e (ap (λ fs. list_all P (map field_of fs)) c.deref-2.ensures.value ∙ parts.0) there
     (elim c.if-not-opened.branch [
       | then-not-opened+in_ok-bar_others+then-are_all_among w ↦ absurd (true≢false (sym (w.are_all_among.ensures w.if-are_all_among.true e.0 (ap (λ fs. list_any (λ d. allows d e.0) (map field_of fs)) w.deref.ensures.value ∙ all_contained A (entries ms) e (or_false s.opened (list_all A (entries ms)) w.if-not-opened.true parts.1) there)) ∙ other))
       | then-not-opened+in_ok-bar_others+else-are_all_among w ↦ subst (λ (d : Demands). IsFurther J n d.further e.1) (sym w.demands-is) held
       | else-not-opened w ↦ subst (λ (d : Demands). IsFurther J n d.further e.1) (sym w.demands-is) held
     ]))
-    c.ask_further.ensures.asked
+    c.ask_fields.ensures.further

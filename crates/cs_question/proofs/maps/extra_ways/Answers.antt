@@ -11,24 +11,24 @@ use Rattle.cs_question.proofs.Loops.{some_or}
 use Rattle.cs_question.proofs.Declared.{extra_told, every_allows}
 use Rattle.cs_question.proofs.Taken.{some_any}
 use Rattle.cs_question.proofs.maps.extra_ways.Goals as goal
-use Rattle.cs_question.proofs.maps.extra_ways.Goals.{then-not-is_allowed+in_ok-push, else-not-is_allowed}
+use Rattle.cs_question.proofs.maps.extra_ways.Goals.{then-not-allow+in_ok-push, else-not-allow}
 
 pub loop-label-preserved : goal.loop-label-preserved
 loop-label-preserved c = record {
-  kept = λ J s h. elim c.if-not-is_allowed.branch [
-    | then-not-is_allowed+in_ok-push w ↦ subst (λ v. AreTaken J s v.items) (sym w.ways-is) (subst (AreTaken J s) (sym w.in_ok-push.ensures.items) (some_front (IsTaken J s) c.loop-label.ways.items _ (c.loop-label.invariant.kept J s h)))
-    | else-not-is_allowed w ↦ subst (λ v. AreTaken J s v.items) (sym w.ways-is) (c.loop-label.invariant.kept J s h)
+  kept = λ J s h. elim c.if-not-allow.branch [
+    | then-not-allow+in_ok-push w ↦ subst (λ v. AreTaken J s v.items) (sym w.ways-is) (subst (AreTaken J s) (sym w.in_ok-push.ensures.items) (some_front (IsTaken J s) c.loop-label.ways.items _ (c.loop-label.invariant.kept J s h)))
+    | else-not-allow w ↦ subst (λ v. AreTaken J s v.items) (sym w.ways-is) (c.loop-label.invariant.kept J s h)
   ];
   taken = λ J ms ls h.
       let s = spread_map ls ms in
-      some_or (λ k. IsSome (under k.now ms) × (list_any (λ d. allows d k.now) (map field_of c.args.fields.now.all.items) ≡ false)) c.args.labels.now c.loop-label.label-index _ c.loop-label-test.true (AreTaken J s c.if-not-is_allowed.ways.items)
-      (λ k. elim c.if-not-is_allowed.branch [
-        | then-not-is_allowed+in_ok-push w ↦ subst (λ v. AreTaken J s v.items) (sym w.ways-is) (subst (AreTaken J s) (sym w.in_ok-push.ensures.items) (some_front (IsTaken J s) c.loop-label.ways.items _ (c.loop-label.invariant.taken J ms ls k)))
-        | else-not-is_allowed w ↦ subst (λ v. AreTaken J s v.items) (sym w.ways-is) (c.loop-label.invariant.taken J ms ls k)
+      some_or (λ k. IsSome (under k.now ms) × (list_any (λ d. allows d k.now) (map field_of c.args.fields.now.all.items) ≡ false)) c.args.labels.now c.loop-label.label-index _ c.loop-label-test.true (AreTaken J s c.if-not-allow.ways.items)
+      (λ k. elim c.if-not-allow.branch [
+        | then-not-allow+in_ok-push w ↦ subst (λ v. AreTaken J s v.items) (sym w.ways-is) (subst (AreTaken J s) (sym w.in_ok-push.ensures.items) (some_front (IsTaken J s) c.loop-label.ways.items _ (c.loop-label.invariant.taken J ms ls k)))
+        | else-not-allow w ↦ subst (λ v. AreTaken J s v.items) (sym w.ways-is) (c.loop-label.invariant.taken J ms ls k)
       ])
-      (λ k. elim c.if-not-is_allowed.branch [
-        | then-not-is_allowed+in_ok-push w ↦ subst (λ v. AreTaken J s v.items) (sym w.ways-is) (subst (AreTaken J s) (sym w.in_ok-push.ensures.items) (some_back (IsTaken J s) c.loop-label.ways.items _ (inl (some_any J _ k.0))))
-        | else-not-is_allowed w ↦ absurd (true≢false (sym w.if-not-is_allowed.false ∙ c.is_allowed.ensures ∙ k.1))
+      (λ k. elim c.if-not-allow.branch [
+        | then-not-allow+in_ok-push w ↦ subst (λ v. AreTaken J s v.items) (sym w.ways-is) (subst (AreTaken J s) (sym w.in_ok-push.ensures.items) (some_back (IsTaken J s) c.loop-label.ways.items _ (inl (some_any J _ k.0))))
+        | else-not-allow w ↦ absurd (true≢false (sym w.if-not-allow.false ∙ c.allow.ensures ∙ k.1))
       ]) h;
 }
 

@@ -6,7 +6,7 @@ use Rattle.cs_instance.specs.Constraint.{declaration_holds, allows}
 use Rattle.cs_instance.specs.Steps.{field_of}
 use Rattle.cs_question.specs.Nodes.{Judgement}
 use Rattle.cs_question.specs.Spread.{HoldsPlaces, IsSuch, spread_map}
-use Rattle.cs_question.proofs.maps.ask_each.Given as goal
+use Rattle.cs_question.proofs.maps.ask_field.Given as goal
 
 abbrev pub invariant-loop-label : goal.invariant-loop-label
 invariant-loop-label l = (J : Judgement) (n : ℕ) (ms : List (Entry Document)) → ((k : List ℕ) → IfSome (under k ms) (IsSuch J (Some l.value))) → HoldsPlaces J n (spread_map [] ms) l.initial.places.items → HoldsPlaces J n (spread_map [] ms) l.places.items
