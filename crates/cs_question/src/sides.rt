@@ -1,19 +1,18 @@
 // The rules of one side as few as they are told apart: a conjunction of ranges is one range, and values, ranges, structs and lists that
 // are the same are one rule where they are asked of parts.
-ghost use Rattle.std.specs.Prelude.{◌≡◌, [], IsTrue, map, ◌&&◌, ℕ, ℤ, Bool, IfSome, slice_get, slice_index, IfOk};
-ghost use Rattle.std.specs.List.{list_all};
-ghost use Rattle.cs_package.specs.View.{expression_of, mark_of, relation_of};
-ghost use Rattle.cs_instance.specs.Constraint.{Outline, outline, is_integer, is_related, is_satisfied, at_most_or_any};
+ghost use Rattle.std.specs.Prelude.{◌≡◌, [], IsTrue, map, ◌&&◌, ℕ, ℤ, Bool, IfSome, slice_index, IfOk};
+ghost use Rattle.cs_package.specs.View.{expression_of, relation_of};
+ghost use Rattle.cs_instance.specs.Constraint.{Outline, is_related, is_satisfied};
 ghost use Rattle.cs_instance.specs.Steps.{test_of, field_of, numbered};
 ghost use Rattle.cs_document.specs.Document.{Document};
 ghost use Rattle.cs_document.specs.Opened.{opened};
 ghost use Rattle.cs_question.specs.Nodes.{asked_of, AreAlike, IsSide, Says};
-ghost use Rattle.cs_question.specs.Between.{at_least_or_any, is_between, IsRange, AreBetween};
+ghost use Rattle.cs_question.specs.Between.{is_between, IsRange, AreBetween};
 
 use crate::fault::Made;
 use crate::nodes::{Node, NodeEnd, nodes_of};
-use cs_instance::{Field, Rule};
-use cs_package::{FieldMark, Kind, Literal, Relation, Shape, Simple};
+use cs_instance::{Field, Rule, is_for_every_key};
+use cs_package::{Kind, Literal, Relation, Shape, Simple};
 use std::alloc::Global;
 use std::collections::BTreeMap;
 
@@ -89,9 +88,7 @@ fn form_of<'a>(alloc: Global, node: &Node<'a>) -> Made<Vec<Sign<'a>>> {
             }
         }
         Node::Simple(_) | Node::Within { .. } | Node::All(_) | Node::Any(_) => {
-            if let Some(sign) = sign_of(node) {
-                form.push(sign)?;
-            }
+            form.extend(sign_of(node))?;
         }
     }
     Ok(form)
@@ -111,24 +108,13 @@ fn are_same_parts(first: &Node<'_>, second: &Node<'_>) -> bool
     }
 }
 
-fn is_same_mark(first: FieldMark, second: FieldMark) -> bool
-    ensures { IsTrue result → mark_of first ≡ mark_of second }
-{
-    matches!(
-        (first, second),
-        (FieldMark::Regular, FieldMark::Regular)
-            | (FieldMark::Optional, FieldMark::Optional)
-            | (FieldMark::Required, FieldMark::Required)
-            | (FieldMark::Every { .. }, FieldMark::Every { .. })
-    )
-}
-
 fn is_same_field(first: &Field<'_>, second: &Field<'_>) -> bool
     ensures { IsTrue result → field_of first.now ≡ field_of second.now }
 {
+    let are_every = is_for_every_key(first.mark) && is_for_every_key(second.mark);
     first.value == second.value
         && first.label == second.label
-        && is_same_mark(first.mark, second.mark)
+        && (are_every || first.mark == second.mark)
 }
 
 fn are_same_fields(first: &[Field<'_>], second: &[Field<'_>]) -> bool
@@ -148,29 +134,12 @@ fn are_same_fields(first: &[Field<'_>], second: &[Field<'_>]) -> bool
 /// The least and the greatest integer of a range, where it has them.
 type Limits = (Option<i64>, Option<i64>);
 
-fn greater(first: Option<i64>, second: Option<i64>) -> Option<i64>
-    ensures { (z : ℤ) → at_least_or_any result z ≡ at_least_or_any first z && at_least_or_any second z }
-{
-    match (first, second) {
-        (Some(a), Some(b)) => Some(a.max(b)),
-        (limit, None) | (None, limit) => limit,
-    }
-}
-
-fn lesser(first: Option<i64>, second: Option<i64>) -> Option<i64>
-    ensures { (z : ℤ) → at_most_or_any result z ≡ at_most_or_any first z && at_most_or_any second z }
-{
-    match (first, second) {
-        (Some(a), Some(b)) => Some(a.min(b)),
-        (limit, None) | (None, limit) => limit,
-    }
-}
-
-/// The limits of what two ranges have in common.
+/// The limits of what two ranges have in common. A limit that isn't there counts as less than each other one.
 fn in_both(first: Limits, second: Limits) -> Limits
     ensures { (z : ℤ) → is_between result.0 result.1 z ≡ is_between first.0 first.1 z && is_between second.0 second.1 z }
 {
-    (greater(first.0, second.0), lesser(first.1, second.1))
+    let greatest = first.1.min(second.1).or(first.1.max(second.1));
+    (first.0.max(second.0), greatest)
 }
 
 /// The limits that a bound sets, where they are integers of 64 bits.
@@ -206,18 +175,6 @@ fn limits_at(nodes: &[Node<'_>], rule: usize) -> Option<Limits>
     limits_of(nodes.get(rule)?)
 }
 
-/// The limits of what a range has in common with each of these rules, where each of them is a range.
-fn narrowed(nodes: &[Node<'_>], limits: Limits, others: &[usize]) -> Option<Limits>
-    ensures { IfSome result (λ l. AreBetween (map asked_of nodes.now) (λ J x.
-        is_integer (is_between limits.0 limits.1) (outline (opened x)) && list_all (λ p. J p x) others.now) l.0 l.1) }
-{
-    let mut all = limits;
-    for other in others {
-        all = in_both(all, limits_at(nodes, *other)?);
-    }
-    Some(all)
-}
-
 /// The rule at a place as one range, where it is a conjunction of ranges that has a least integer.
 fn range_at<'a>(nodes: &[Node<'a>], place: usize) -> Option<Node<'a>>
     ensures { IfSome result (λ n. (J : ℕ → Document → Bool) → IsSide (map asked_of nodes.now) J → (x : Document) → J place x
@@ -226,8 +183,12 @@ fn range_at<'a>(nodes: &[Node<'a>], place: usize) -> Option<Node<'a>>
     let Some(Node::All(parts)) = nodes.get(place) else {
         return None;
     };
-    let limits = limits_at(nodes, *parts.first()?)?;
-    let (least, greatest) = narrowed(nodes, limits, parts)?;
+    let first = *parts.first()?;
+    let mut limits = limits_at(nodes, first)?;
+    for part in parts {
+        limits = in_both(limits, limits_at(nodes, *part)?);
+    }
+    let (least, greatest) = limits;
     let least = least?;
     Some(Node::Within { least, greatest })
 }
@@ -236,17 +197,7 @@ fn range_at<'a>(nodes: &[Node<'a>], place: usize) -> Option<Node<'a>>
 /// lists are one rule where they differ in what so many levels down asks the same.
 const LEVELS: usize = 8;
 
-/// Whether two rules by their numbers are the same value, range, struct or list.
-fn are_same(nodes: &[Node<'_>], first: usize, second: usize) -> bool
-    ensures { IsTrue result → (J : ℕ → Document → Bool) → IsSide (map asked_of nodes.now) J → (x : Document) → J first x ≡ J second x }
-{
-    match (nodes.get(first), nodes.get(second)) {
-        (Some(node), Some(other)) => are_alike(node, other) || are_same_parts(node, other),
-        _ => false,
-    }
-}
-
-/// The number of the first rule that is the same as one, of those that were seen.
+/// The number of the first rule of those that were seen that is the same value, range, struct or list as one.
 fn first_of<'a>(
     alloc: Global,
     nodes: &[Node<'a>],
@@ -261,10 +212,9 @@ fn first_of<'a>(
     let form = form_of(alloc, node)?;
     let first = firsts.get(&form).copied().unwrap_or(rule);
     let _ = firsts.insert(form, first)?;
-    if are_same(nodes, first, rule) {
-        Ok(first)
-    } else {
-        Ok(rule)
+    match nodes.get(first) {
+        Some(other) if are_alike(other, node) || are_same_parts(other, node) => Ok(first),
+        _ => Ok(rule),
     }
 }
 
