@@ -3,7 +3,7 @@ use Rattle.std.proofs.Common.{◌≡◌, ℕ, Bool, true, false, true≢false, �
 use Rattle.std.specs.Prelude.{IsSome, IsNone, IfSome, IsSomeAnd, slice_get, ◌<◌, take}
 use Rattle.cs_question.proofs.Some.{beq_same}
 use Rattle.cs_question.proofs.Listed.{got_taken}
-use Rattle.std.specs.List.{list_all, AllByRecursion as Each}
+use Rattle.std.specs.List.{list_all, AllZip, AllByRecursion as Each}
 use Rattle.cs_document.specs.Document.{Document}
 use Rattle.cs_question.specs.declared.nodes.Literal.{Literal}
 use Rattle.cs_question.specs.declared.places.Key.{Key}
@@ -104,6 +104,13 @@ pub held_copy : (J : Judgement) (n : ℕ) (s : Spread) (p q : Place) → q.key �
 held_copy J n s p q key needed barred asked h =
     subst (λ k. HoldsAt J n (s.at (name_of k)) q) (sym key)
     (record { needed = λ e. h.needed (sym needed ∙ e); barred = λ e. h.barred (sym barred ∙ e); asked = subst (λ ls. IfSome (s.at (name_of p.key)) (λ y. IsInner n y × (meets_all J y ls ≡ true))) (sym asked) h.asked })
+
+-- copies of elements, where a fact of each element is one of its copy
+pub each_cloned : {X : Type 0} (R : X → X → Type 0) (P : X → Type 0) → ((x y : X) → R x y → P x → P y) → (xs ys : List X) → AllZip R xs ys → Each P xs → Each P ys
+each_cloned R P f [] [] e h = tt
+each_cloned R P f [] (y ∷ ys) e h = absurd e
+each_cloned R P f (x ∷ xs) [] e h = absurd e
+each_cloned R P f (x ∷ xs) (y ∷ ys) e h = (f x y e.0 h.0, each_cloned R P f xs ys e.1 h.1)
 
 -- nothing is asked of a place yet
 pub held_first : (J : Judgement) (n : ℕ) (o : Option Document) (p : Place) → p.is_needed ≡ false → p.is_barred ≡ false → p.asked.items ≡ [] → IfSome o (IsInner n) → HoldsAt J n o p

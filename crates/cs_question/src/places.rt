@@ -2,7 +2,7 @@
 ghost use Rattle.std.specs.Prelude.{◌≡◌, ℕ, [], IfOk, IsNone, IsTrue, OnOk};
 ghost use Rattle.std.specs.List.{AllByRecursion};
 ghost use Rattle.cs_question.specs.Nodes.{Judgement};
-ghost use Rattle.cs_question.specs.Spread.{name_of, Spread, SomeOf, ByTable, HoldsPlace, HoldsPlaces, HoldsState, HoldsFurther, PutsState};
+ghost use Rattle.cs_question.specs.Spread.{Spread, SomeOf, ByTable, HoldsPlace, HoldsPlaces, HoldsState, HoldsFurther, PutsState};
 ghost use Rattle.cs_question.specs.Spread.{AreTaken, IsTaken, IsBehind};
 
 use crate::fault::{Effort, MOST_STEPS, Made, SearchFault, Searched};
@@ -18,22 +18,12 @@ pub(crate) enum Key<'a> {
 }
 
 /// A place, what is asked of a value there, and whether there has to be one or can't be one.
-#[derive(Drop)]
+#[derive(Clone, Drop)]
 pub(crate) struct Place<'a> {
     pub(crate) key: Key<'a>,
     pub(crate) is_needed: bool,
     pub(crate) is_barred: bool,
     pub(crate) asked: Vec<Literal>,
-}
-
-impl<'a> Place<'a> {
-    pub(crate) fn copy(&self, alloc: Global) -> Made<Place<'a>>
-        ensures { IfOk result (λ p. (p.key ≡ self.now.key) × (p.is_needed ≡ self.now.is_needed)
-            × (p.is_barred ≡ self.now.is_barred) × (p.asked.items ≡ self.now.asked.items)) }
-    {
-        let asked = Vec::from_slice(alloc, &self.asked)?;
-        Ok(Place { asked, ..*self })
-    }
 }
 
 /// All values that are at none of the places: what is asked of each of them, and whether there can't be any.
@@ -123,7 +113,7 @@ pub(crate) fn is_shut(
     let Some(place) = places.get(number) else {
         return Ok(false);
     };
-    let mut changed = place.copy(effort.alloc)?;
+    let mut changed = place.clone()?;
     change(&mut changed, way)?;
     is_dead(table, &changed, effort)
 }
@@ -140,26 +130,11 @@ pub(crate) fn take<'a>(places: &mut Vec<Place<'a>>, way: &Way<'a>) -> Made<()>
 }
 
 /// The ways that were chosen at the places, which rules have no way yet, and the values at none of the places.
-#[derive(Drop)]
+#[derive(Clone, Drop)]
 pub(crate) struct State<'a> {
     chosen: Vec<Way<'a>>,
     left: Vec<usize>,
     further: Vec<Vec<Literal>>,
-}
-
-impl<'a> State<'a> {
-    /// The same with a way more.
-    fn with(&self, alloc: Global, way: Way<'a>) -> Made<State<'a>>
-        ensures { IfOk result (λ t. (J : Judgement) (s : Spread) → HoldsState J s self.now → IsTaken J s way.entry → HoldsState J s t) }
-    {
-        let mut state = State {
-            chosen: Vec::from_slice(alloc, &self.chosen)?,
-            left: self.left.clone()?,
-            further: self.further.clone()?,
-        };
-        state.chosen.push(way)?;
-        Ok(state)
-    }
 }
 
 /// Whether nothing can be as some place asks.
@@ -221,10 +196,8 @@ fn count_open(
     }
     let mut count = 0;
     for way in ways {
-        if count >= most {
-            break;
-        }
-        if !matches!(way, Way::Behind(_)) && !is_shut(table, places, way, effort)? {
+        let is_looked_at = count < most && !matches!(way, Way::Behind(_));
+        if is_looked_at && !is_shut(table, places, way, effort)? {
             count += 1;
         }
     }
@@ -271,41 +244,12 @@ fn push_open<'a>(
 {
     for way in ways {
         if !matches!(way, Way::Behind(_)) && !is_shut(table, places, way, effort)? {
-            states.push(state.with(effort.alloc, *way)?)?;
+            let mut next = state.clone()?;
+            next.chosen.push(*way)?;
+            states.push(next)?;
         }
     }
     Ok(())
-}
-
-/// Puts the states that a rule's ways make of a state, which has left the places so.
-fn push_states<'a>(
-    table: &Table<'_>,
-    places: &[Place<'a>],
-    mut state: State<'a>,
-    demands: &Demands<'a>,
-    ways: &[Way<'a>],
-    states: &mut Vec<State<'a>>,
-    effort: &mut Effort,
-) -> Made<()>
-    ensures { OnOk result (ByTable table.now (λ t s. PutsState t.J s states.old.items states.new.items
-        (λ some. HoldsPlaces t.J t.n s places.now → HoldsState t.J s state.entry → HoldsFurther t.J t.n s demands.now.further
-        → AreTaken t.J s ways.now → some))) }
-{
-    if let Some(asked) = first_free(table, &demands.further, ways, effort)? {
-        state.further.push(asked)?;
-        return Ok(states.push(state)?);
-    }
-    push_open(table, places, &state, ways, states, effort)
-}
-
-fn copy_places<'a>(alloc: Global, places: &[Place<'a>]) -> Made<Vec<Place<'a>>>
-    ensures { IfOk result (λ v. (J : Judgement) (n : ℕ) (s : Spread) → HoldsPlaces J n s places.now → HoldsPlaces J n s v.items) }
-{
-    let mut copies = Vec::with_capacity(alloc, places.len())?;
-    for place in places {
-        copies.push(place.copy(alloc)?)?;
-    }
-    Ok(copies)
 }
 
 /// The places where ways were taken.
@@ -313,7 +257,7 @@ fn places_after<'a>(alloc: Global, places: &[Place<'a>], chosen: &[Way<'a>]) -> 
     ensures { IfOk result (λ v. (J : Judgement) (n : ℕ) (s : Spread) → HoldsPlaces J n s places.now
         → AllByRecursion (IsTaken J s) chosen.now → HoldsPlaces J n s v.items) }
 {
-    let mut all = copy_places(alloc, places)?;
+    let mut all = places.to_vec(alloc)?;
     for way in chosen {
         take(&mut all, way)?;
     }
@@ -360,7 +304,12 @@ fn step<'a>(
         return Ok(Some(chosen_of(effort.alloc, places, state.further)?));
     };
     state.left.retain(|left| *left != rule);
-    push_states(table, &places, state, demands, ways, states, effort)?;
+    if let Some(asked) = first_free(table, &demands.further, ways, effort)? {
+        state.further.push(asked)?;
+        states.push(state)?;
+        return Ok(None);
+    }
+    push_open(table, &places, &state, ways, states, effort)?;
     Ok(None)
 }
 

@@ -1,22 +1,25 @@
-use Rattle.std.proofs.Common.{◌≡◌, true, true≢false, inl, sym, ◌∙◌, subst, take_all}
+use Rattle.std.proofs.Common.{◌≡◌, true, true≢false, inl, [], ◌∷◌, sym, ◌∙◌, subst, take_all}
+use Rattle.std.specs.List.{AllByRecursion as Each}
+use Rattle.std.proofs.lemmas.List.Elements.{same_from_all_zip}
+use Rattle.cs_document.proofs.Each.{each_append}
 use Rattle.cs_question.specs.Spread.{SomeOf, IsBehind, IsTaken, HoldsState}
 use Rattle.cs_question.proofs.Some.{some_front, some_back}
 use Rattle.cs_question.proofs.Loops.{some_or}
 use Rattle.cs_question.proofs.places.push_open.Goals as goal
 use Rattle.cs_question.proofs.places.push_open.Goals.{in-Behind, in_default}
-use Rattle.cs_question.proofs.places.push_open.Goals.{then-not-matches+in_ok-is_shut+then-not-branch+in_ok-with+in_ok-push, else-not-matches, else-not-matches-via-then-not-matches+in_ok-is_shut+else-not-branch, else-not-matches-via-else-not-matches}
+use Rattle.cs_question.proofs.places.push_open.Goals.{then-not-matches+in_ok-is_shut+then-not-branch+in_ok-next+in_ok-push+in_ok-push-2, else-not-matches, else-not-matches-via-then-not-matches+in_ok-is_shut+else-not-branch, else-not-matches-via-else-not-matches}
 
 pub loop-way-preserved : goal.loop-way-preserved
 loop-way-preserved c = λ ended t s.
     let P = HoldsState t.J s in
     let old = c.loop-way.invariant ended t s in
     elim c.if-not-matches.branch [
-      | then-not-matches+in_ok-is_shut+then-not-branch+in_ok-with+in_ok-push w ↦ (
-        λ h. subst (λ v. SomeOf P v.items) (sym w.states-is) (subst (SomeOf P) (sym w.in_ok-push.ensures.items) (some_front P c.loop-way.states.items _ (old.0 h))),
+      | then-not-matches+in_ok-is_shut+then-not-branch+in_ok-next+in_ok-push+in_ok-push-2 w ↦ (
+        λ h. subst (λ v. SomeOf P v.items) (sym w.states-is) (subst (SomeOf P) (sym w.in_ok-push-2.ensures.items) (some_front P c.loop-way.states.items _ (old.0 h))),
         λ places h some. subst (λ v. SomeOf P v.items) (sym w.states-is)
             (some_or (λ w. (IsBehind w → ⊥) × IsTaken t.J s w) c.args.ways.now c.loop-way.way-index _ c.loop-way-test.true (SomeOf P _)
-            (λ k. subst (SomeOf P) (sym w.in_ok-push.ensures.items) (some_front P c.loop-way.states.items _ (old.1 places h k)))
-            (λ k. subst (SomeOf P) (sym w.in_ok-push.ensures.items) (some_back P c.loop-way.states.items _ (inl (w.in_ok-with.ensures t.J s h k.1)))) some),
+            (λ k. subst (SomeOf P) (sym w.in_ok-push-2.ensures.items) (some_front P c.loop-way.states.items _ (old.1 places h k)))
+            (λ k. subst (SomeOf P) (sym w.in_ok-push-2.ensures.items) (some_back P c.loop-way.states.items _ (inl (subst (Each (IsTaken t.J s)) (sym w.in_ok-push.ensures.items) (each_append (IsTaken t.J s) w.in_ok-next.next.chosen.items (_ ∷ []) (subst (Each (IsTaken t.J s)) (sym (same_from_all_zip _ c.args.state.now.chosen.items w.in_ok-next.next.chosen.items w.in_ok-next.ensures.cases.0.0 (λ x y e. e))) h) (k.1, tt)))))) some),
       )
       | else-not-matches w ↦ (
         λ h. subst (λ v. SomeOf P v.items) (sym w.states-is) (old.0 h),
