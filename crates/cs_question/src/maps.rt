@@ -1,5 +1,5 @@
 // A map that is all that is asked, and what the declarations of struct literals ask of it.
-ghost use Rattle.std.specs.Prelude.{◌≡◌, ℕ, List, true, false, Some, map, IfSome, IsTrue, OnOk, Contains, ◌≤◌, [], IfOk, IsNone};
+ghost use Rattle.std.specs.Prelude.{◌≡◌, ℕ, List, true, false, Some, map, IsTrue, OnOk, Contains, ◌≤◌, [], IfOk, IsNone};
 ghost use Rattle.std.specs.List.{list_all, list_any, AllByRecursion};
 ghost use Rattle.cs_document.specs.Document.{Document, Entry, under, Members, object, AreMembers, depth, entries};
 ghost use Rattle.cs_package.specs.Expression.{is_every};
@@ -7,7 +7,7 @@ ghost use Rattle.cs_instance.specs.Constraint as constraint;
 ghost use Rattle.cs_instance.specs.Steps.{field_of};
 ghost use Rattle.cs_instance.specs.Constraint.{fields_hold};
 ghost use Rattle.cs_question.specs.Nodes.{Judgement, IsMeaning};
-ghost use Rattle.cs_question.specs.Spread.{KeepsPlaces, FailsBy, IsSuch, IsFurther, AddsWays, is_among, HoldsPlaces, HoldsFurther, AreTaken, spread_map};
+ghost use Rattle.cs_question.specs.Spread.{KeepsPlaces, FailsBy, IsFurther, AddsWays, is_among, HoldsPlaces, HoldsFurther, AreTaken, spread_map};
 ghost use Rattle.cs_question.specs.Asked.{meets, meets_all};
 ghost use Rattle.cs_question.specs.Truth.{NoMap};
 
@@ -106,18 +106,6 @@ fn ask_fields<'a>(
     Ok(())
 }
 
-/// Adds the ways in which a map fails to have each value as `[string]` asks.
-fn every_ways<'a>(labels: &[&'a str], value: Literal, ways: &mut Vec<Way<'a>>) -> Made<()>
-    requires { value.holds ≡ false }
-    ensures kept { OnOk result (AddsWays ways.old.items ways.new.items) }
-    ensures all { OnOk result (FailsBy labels.now ways.new.items (λ J ms. list_all (λ m. J value.side value.rule m.1) ms ≡ false)) }
-{
-    for label in labels {
-        ways.push(Way::Present(Key::Label(*label), Some(value)))?;
-    }
-    Ok(ways.push(Way::Behind(Some(value)))?)
-}
-
 /// Adds the ways in which a map fails to meet a declaration.
 fn field_ways<'a>(
     labels: &[&'a str],
@@ -132,7 +120,10 @@ fn field_ways<'a>(
 {
     let value = part_of(literal, field.value);
     if is_for_every_key(field.mark) {
-        return every_ways(labels, value, ways);
+        for label in labels {
+            ways.push(Way::Present(Key::Label(*label), Some(value)))?;
+        }
+        return Ok(ways.push(Way::Behind(Some(value)))?);
     }
     if !may_be_absent(field.mark) {
         ways.push(Way::Absent(Key::Label(field.label)))?;

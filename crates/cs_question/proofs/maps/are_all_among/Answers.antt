@@ -24,4 +24,4 @@ pub loop-field-preserved : goal.loop-field-preserved
 loop-field-preserved c = λ k h.
     any_then field_of c.args.fields.now c.loop-field.field-index (λ d. allows d k) _ c.loop-field-test.true (is_among c.args.labels.now k ≡ true)
     (λ a. c.loop-field.invariant k a)
-    (λ b. among_label c.args.labels.now k _ (or_false _ _ (sym c.is_for_every_key.ensures ∙ c.if-is_for_every_key.false) b) (among c.args.labels.now _ c.binary_search.result (sym c.is_err.ensures ∙ c.if-is_err.false) c.binary_search.ensures.bound c.binary_search.ensures.ok)) h
+    (λ b. among_label c.args.labels.now k _ (or_false _ _ (sym c.is_for_every_key.ensures ∙ c.if-is_for_every_key.false) b) (among c.args.labels.now _ c.binary_search.result (sym c.is_err.ensures.value ∙ c.if-is_err.false) c.binary_search.ensures.bound c.binary_search.ensures.ok)) h

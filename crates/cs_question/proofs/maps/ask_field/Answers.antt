@@ -20,10 +20,10 @@ pub returns-then-may_be_absent : goal.returns-then-may_be_absent
 returns-then-may_be_absent c =
     let l = c.args.literal in
     let field = c.args.field.now in
-    on_ok_weaker c.take.result (λ f J n ms holds held.
+    on_ok_weaker c.take-then-may_be_absent.result (λ f J n ms holds held.
     let told = plain_told (λ y p. J l.side p y) ms (field_of field) (sym c.is_for_every_key.ensures ∙ c.if-is_for_every_key.false) holds in
     f J n (spread_map [] ms) held (met_all J l field.value c.part_of-value.result (under field.label.now ms) c.requires c.part_of-value.ensures told.0))
-    c.take.ensures
+    c.take-then-may_be_absent.ensures
 
 pub returns : goal.returns
 returns c =

@@ -3,7 +3,7 @@ use Rattle.std.specs.Prelude.{IsSomeAnd}
 use Rattle.cs_document.specs.Document.{Document, Entry, under}
 use Rattle.cs_question.specs.Nodes.{Judgement}
 use Rattle.cs_question.specs.Spread.{SomeOf, AreTaken, AddsWays, spread_map}
-use Rattle.cs_question.proofs.maps.every_ways.Given as goal
+use Rattle.cs_question.proofs.maps.field_ways.Given as goal
 
 abbrev pub invariant-loop-label : goal.invariant-loop-label
 invariant-loop-label l = record {
