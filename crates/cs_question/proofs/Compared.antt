@@ -1,10 +1,19 @@
 -- What simple expressions compare integers and texts with.
-use Rattle.std.proofs.Common.{◌≡◌, ℕ, ℤ, Bool, true, false, not, List, Bor, refl, ap, subst}
+use Rattle.std.proofs.Common.{◌≡◌, ℕ, ℤ, Bool, true, false, not, List, [], Bor, Some, refl, sym, ap, ◌∙◌, subst}
+use Rattle.std.specs.Prelude.{slice_get}
 use Rattle.std.specs.Str.{bytes_eq}
 use Rattle.cs_document.specs.Opened.{an_integer, a_text}
 use Rattle.cs_package.specs.Expression.{Expression, atom, kind, range, integer, text, bound, not_integer, not_text, int, number, string, bool}
 use Rattle.cs_package.specs.Inside.{ComparedWith, compared_with, with_nothing, with_text, with_integer, with_range}
+use Rattle.cs_package.specs.View.{expression_of}
+use Rattle.cs_package.specs.declared.shape.Shape.{Shape}
+use Rattle.cs_instance.specs.Constraint.{Outline}
 use Rattle.cs_instance.specs.Steps.{test_of}
+use Rattle.cs_question.specs.declared.nodes.Literal.{Literal}
+use Rattle.cs_question.specs.declared.nodes.Node.TheVariants as node
+use Rattle.cs_question.specs.declared.nodes.Nodes.{Nodes}
+use Rattle.cs_question.specs.Nodes.{nodes_on}
+use Rattle.cs_question.specs.Outlines.{agrees, node_verdict, may}
 
 -- whether integers are compared, and texts
 abbrev pub compares_integers : ComparedWith → Bool
@@ -42,3 +51,10 @@ pub text_told : (e : Expression) (u : Bor (List ℕ)) → with_text u.now ≡ co
 text_told (atom (text v)) u h s t q = let is : u.now ≡ v = cc in subst (λ v. bytes_eq v s ≡ bytes_eq v t) is q
 text_told (atom (not_text v)) u h s t q = let is : u.now ≡ v = cc in ap not (subst (λ v. bytes_eq v s ≡ bytes_eq v t) is q)
 text_told _ u h s t q = cc
+
+-- a rule of an expression that looks at no part tells outlines apart where the expression does
+pub simple_marked : (ns : Nodes) (l : Literal) (s : Bor Shape) → slice_get (nodes_on ns l.side) l.rule ≡ Some (node.Simple s) → (o p : Outline) → test_of (expression_of [] s.now) o ≡ test_of (expression_of [] s.now) p → may ns o l ≡ may ns p l
+simple_marked ns l s at o p same =
+    ap (λ n. agrees l.holds (node_verdict n o)) at
+    ∙ ap (λ b. agrees l.holds (Some b)) same
+    ∙ sym (ap (λ n. agrees l.holds (node_verdict n p)) at)

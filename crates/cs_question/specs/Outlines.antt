@@ -83,11 +83,6 @@ SameTexts marks s t = AllByRecursion (λ u. bytes_eq u.now s ≡ bytes_eq u.now 
 abbrev pub AreMarkedTexts : Nodes → List Literal → List (Bor (List ℕ)) → Type 0
 AreMarkedTexts ns ls marks = (s t : List ℕ) → SameTexts marks s t → AllByRecursion (λ l. may ns (a_text s) l ≡ may ns (a_text t) l) ls
 
--- a test compares texts with this one alone, if there is one
-abbrev pub IsToldByText : (Outline → Bool) → Option (Bor (List ℕ)) → Type 0
-IsToldByText test None = (s t : List ℕ) → test (a_text s) ≡ test (a_text t)
-IsToldByText test (Some u) = (s t : List ℕ) → bytes_eq u.now s ≡ bytes_eq u.now t → test (a_text s) ≡ test (a_text t)
-
 abbrev pub IsOneMarkedText : Nodes → Literal → List (Bor (List ℕ)) → Type 0
 IsOneMarkedText ns l marks = (s t : List ℕ) → SameTexts marks s t → may ns (a_text s) l ≡ may ns (a_text t) l
 

@@ -47,10 +47,9 @@ fn asks_for_more(nodes: &Nodes<'_>, asked: &[Literal], count: usize) -> bool
         → meets_all J (list ds) asked.now ≡ true → count < length (elements ds) }
 {
     for literal in asked {
-        if let Some(Node::List { front, .. }) = nodes.of(*literal) {
-            if literal.holds && front.len() > count {
-                return true;
-            }
+        match nodes.of(*literal) {
+            Some(Node::List { front, .. }) if literal.holds && front.len() > count => return true,
+            _ => {}
         }
     }
     false
@@ -68,18 +67,20 @@ fn ask_place(
         → meets J (list ds) literal ≡ true → IsFrom place is_behind i → slice_get (elements ds) i ≡ Some y
         → IsFurther J n further.old y → IsFurther J n further.new y) }
 {
-    let Some(Node::List { front, end }) = nodes.of(literal) else {
-        return Ok(());
-    };
-    if !literal.holds || (is_behind && front.len() > place) {
-        return Ok(());
+    match nodes.of(literal) {
+        Some(Node::List { front, end }) if literal.holds && (!is_behind || front.len() <= place) =>
+            {
+                match element_in(front, *end, place) {
+                    NodeEnd::Closed => {
+                        further.is_barred = true;
+                        Ok(())
+                    }
+                    NodeEnd::Any => Ok(()),
+                    NodeEnd::Each(rule) => add(&mut further.asked, part_of(literal, rule)),
+                }
+            }
+        _ => Ok(()),
     }
-    match element_in(front, *end, place) {
-        NodeEnd::Closed => further.is_barred = true,
-        NodeEnd::Any => {}
-        NodeEnd::Each(rule) => add(&mut further.asked, part_of(literal, rule))?,
-    }
-    Ok(())
 }
 
 /// What the rules that are met ask of the element at a place, or of each one from there on.

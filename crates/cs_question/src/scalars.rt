@@ -1,14 +1,13 @@
 // What rules say of a document by its outline: its kind, and the value of a scalar; and an integer and a text that are all that is asked.
-ghost use Rattle.std.specs.Prelude.{◌≡◌, ℤ, [], false, FitsSigned, IfOk, IsNone, OnOk, ◌<◌, ◌≤◌, ℕ, List, length, string_bytes, All};
+ghost use Rattle.std.specs.Prelude.{◌≡◌, ℤ, false, FitsSigned, IfOk, IsNone, OnOk, ◌<◌, ℕ, List, length, string_bytes, All};
 ghost use Rattle.std.specs.Int.{w64};
 ghost use Rattle.cs_flat.specs.View.{item_view};
 ghost use Rattle.cs_instance.specs.Constraint.{outline};
 ghost use Rattle.cs_document.specs.Opened.{an_integer, a_text};
 ghost use Rattle.cs_package.specs.Expression.{range};
-ghost use Rattle.cs_package.specs.View.{expression_of};
 ghost use Rattle.cs_instance.specs.Steps.{test_of};
 ghost use Rattle.cs_question.specs.Nodes.{asked_of};
-ghost use Rattle.cs_question.specs.Outlines.{verdict_of, may, may_all, AreMarked, IsToldBy, HasMore, IsNoneBeside, IsOneMarked, AreMarkedTexts, IsToldByText};
+ghost use Rattle.cs_question.specs.Outlines.{verdict_of, may, may_all, AreMarked, IsToldBy, HasMore, IsNoneBeside, IsOneMarked, AreMarkedTexts};
 ghost use Rattle.cs_question.specs.Outlines.{IsOneMarkedText, HasMoreTexts};
 
 use crate::fault::Made;
@@ -38,11 +37,8 @@ fn verdict(node: &Node<'_>, item: &Item<'_>) -> Option<bool>
 fn may_meet(nodes: &Nodes<'_>, literal: Literal, item: &Item<'_>) -> bool
     ensures { result ≡ may nodes.now (outline (item_view item.now)) literal }
 {
-    let Some(node) = nodes.of(literal) else {
-        return true;
-    };
-    match verdict(node, item) {
-        Some(verdict) => verdict == literal.holds,
+    match nodes.of(literal) {
+        Some(node) => verdict(node, item) != Some(!literal.holds),
         None => true,
     }
 }
