@@ -1,5 +1,5 @@
 // The cases of a question: what is asked of the same document is opened, alternative by alternative, and then a document is looked for.
-ghost use Rattle.std.specs.Prelude.{◌≡◌, true, IsTrue, IfOk, IsNone, ◌<◌, IfSome, OnOk, slice_get, Some};
+ghost use Rattle.std.specs.Prelude.{◌≡◌, true, IfOk, IsNone, ◌<◌, IfSome, OnOk, slice_get, Some};
 ghost use Rattle.std.specs.List.{list_all, list_any};
 ghost use Rattle.cs_document.specs.Document.{Document};
 ghost use Rattle.cs_question.specs.Asked.{meets, meets_all};
@@ -104,9 +104,7 @@ fn parts_of<'n>(nodes: &'n Nodes<'_>, literal: Literal) -> Option<&'n [usize]> {
 fn opened_at(nodes: &Nodes<'_>, asked: &[Literal]) -> Option<(usize, Literal)>
     ensures { IfSome result (λ t. slice_get asked.now t.0 ≡ Some t.1) }
 {
-    let mut place = asked.len();
-    while place > 0 {
-        place -= 1;
+    for place in (0..asked.len()).rev() {
         let literal = asked[place];
         if parts_of(nodes, literal).is_some() {
             return Some((place, literal));

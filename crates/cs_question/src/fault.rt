@@ -170,8 +170,7 @@ impl Effort {
     pub(crate) fn look(&mut self, asked: usize) {
         const COPIES: usize = 8;
         const COMPARISONS: usize = 2;
-        let steps = self.steps.saturating_add(asked / COPIES);
-        self.steps = steps.saturating_add(COMPARISONS);
+        self.steps = self.steps.saturating_add(asked / COPIES + COMPARISONS);
     }
 
     /// So many steps more, and no more than there may be.

@@ -38,14 +38,12 @@ pub(crate) fn part_of(literal: Literal, rule: usize) -> Literal
 pub(crate) fn met(alloc: Global, rule: usize) -> Made<Vec<Literal>>
     ensures { IfOk result (λ v. (p : Literal → Bool) → p (record { side = Side.Admitting; rule = rule; holds = true }) ≡ true → list_all p v.items ≡ true) }
 {
-    let mut asked = Vec::new(alloc);
     let literal = Literal {
         side: Side::Admitting,
         rule,
         holds: true,
     };
-    add(&mut asked, literal)?;
-    Ok(asked)
+    Ok(vec![in alloc; literal]?)
 }
 
 /// Adds what is asked, where it isn't asked yet: in order, each once.
@@ -128,11 +126,6 @@ impl<'a> Nodes<'a> {
             Side::Admitting => self.admitting.get(literal.rule),
             Side::Refusing => self.refusing.get(literal.rule),
         }
-    }
-
-    /// How many rules there are on both sides.
-    pub(crate) fn count(&self) -> usize {
-        self.admitting.len().saturating_add(self.refusing.len())
     }
 }
 

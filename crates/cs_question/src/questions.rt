@@ -75,13 +75,14 @@ fn document_for(nodes: &Nodes<'_>, asked: &[Literal], budget: &mut Budget) -> Se
     ensures none { IfOk result (λ o. IsNone o → IsMetByNoDocument nodes.now asked.now) }
     ensures read { IfOk result (λ o. IfSome o (λ d. IsReadAgain (doc_view d))) }
 {
-    budget.spend(nodes.count());
+    let rules = nodes.admitting.len().saturating_add(nodes.refusing.len());
+    budget.spend(rules);
     let table = explored(nodes, asked, budget)?;
     if table.is_shut_at(0, asked) {
         return Ok(None);
     }
     let (doc, values) = table.witness()?;
-    budget.spend(nodes.count().saturating_mul(values) / PAIRS_OF_STEP);
+    budget.spend(rules.saturating_mul(values) / PAIRS_OF_STEP);
     let text = write_doc(nodes.alloc, &doc)?;
     // That is so where it nests no deeper than documents are read.
     if is_read_as(nodes.alloc, &text, &doc)? {

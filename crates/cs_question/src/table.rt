@@ -83,31 +83,20 @@ impl<'a> Table<'a> {
         }
     }
 
-    /// Where a question is.
-    pub(crate) fn place(&self, asked: &Vec<Literal>) -> Option<usize> {
-        self.places.get(asked).copied()
-    }
-
     /// What was found to answer a question.
     fn found(&self, asked: &Vec<Literal>) -> Option<&(Found<'a>, Extent)> {
-        let place = self.place(asked)?;
-        self.entries.get(place)?.found.as_ref()
+        let place = self.places.get(asked)?;
+        self.entries.get(*place)?.found.as_ref()
     }
 
     /// The extent of a document around all of its parts, which were found before.
     fn extent_of(&self, found: &Found<'a>) -> Extent {
-        let parts = match found {
-            Found::Scalar(_) => return Extent {
-                values: 1,
-                depth: 0,
-            },
-            Found::List(parts) => parts,
-            Found::Map { chosen, .. } => &chosen.parts,
+        let (parts, depth): (&[Vec<Literal>], usize) = match found {
+            Found::Scalar(_) => (&[], 0),
+            Found::List(parts) => (parts.as_slice(), 1),
+            Found::Map { chosen, .. } => (chosen.parts.as_slice(), 1),
         };
-        let mut extent = Extent {
-            values: 1,
-            depth: 1,
-        };
+        let mut extent = Extent { values: 1, depth };
         for part in parts {
             if let Some((_, inner)) = self.found(part) {
                 extent.values = extent.values.saturating_add(inner.values);
@@ -119,7 +108,7 @@ impl<'a> Table<'a> {
 
     /// Where a question is, which is added unless it is there, and looked at later. There may be no room for it.
     pub(crate) fn ask(&mut self, asked: Vec<Literal>) -> Made<Option<usize>> {
-        let known = self.place(&asked);
+        let known = self.places.get(&asked).copied();
         let place = self.entries.len();
         if known.is_some() || place >= MOST_QUESTIONS {
             return Ok(known);
@@ -146,23 +135,6 @@ impl<'a> Table<'a> {
         }
     }
 
-    /// The next one to look at.
-    pub(crate) fn next(&mut self) -> Option<usize> {
-        let place = self.queue.pop_front()?;
-        if let Some(entry) = self.entries.get_mut(place) {
-            entry.is_queued = false;
-        }
-        Some(place)
-    }
-
-    /// Lets one question wait for the answer of another one.
-    fn wait(&mut self, waiting: usize, awaited: usize) -> Made<()> {
-        match self.entries.get_mut(awaited) {
-            Some(entry) => Ok(entry.waiting.push(waiting)?),
-            None => Ok(()),
-        }
-    }
-
     /// Keeps what was found to answer the question at a place, and puts those that wait for it.
     pub(crate) fn answer(&mut self, place: usize, found: Found<'a>) -> Made<()> {
         let extent = self.extent_of(&found);
@@ -182,7 +154,7 @@ impl<'a> Table<'a> {
         ensures { IfOk result (λ b. IsTrue b → self.now.is_final ≡ true → IsShut self.now.entries.items asked.now.items) }
     {
         effort.look(asked.len());
-        let Some(place) = self.place(asked) else {
+        let Some(place) = self.places.get(asked).copied() else {
             effort.wanted.push(asked.clone()?)?;
             return Ok(!self.is_final);
         };
@@ -208,12 +180,14 @@ impl<'a> Table<'a> {
     /// # Errors
     /// `TooManyCases` where there is no room in the table for that.
     fn wait_for_all(&mut self, place: usize, effort: Effort) -> Searched<()> {
-        for awaited in &effort.unanswered {
-            self.wait(place, *awaited)?;
-        }
+        let mut all = effort.unanswered;
         for asked in effort.wanted.into_iter().rev() {
-            let awaited = self.ask(asked)?.ok_or(SearchFault::TooManyCases)?;
-            self.wait(place, awaited)?;
+            all.push(self.ask(asked)?.ok_or(SearchFault::TooManyCases)?)?;
+        }
+        for awaited in &all {
+            if let Some(entry) = self.entries.get_mut(*awaited) {
+                entry.waiting.push(place)?;
+            }
         }
         Ok(())
     }
@@ -246,9 +220,12 @@ impl<'a> Table<'a> {
     fn explore(&mut self, nodes: &Nodes<'a>, budget: &mut Budget) -> Searched<()> {
         // Each look takes a step, or leaves an answer.
         for _ in 0..2 * MOST_STEPS {
-            let Some(place) = self.next() else {
+            let Some(place) = self.queue.pop_front() else {
                 return Ok(());
             };
+            if let Some(entry) = self.entries.get_mut(place) {
+                entry.is_queued = false;
+            }
             self.look_at(nodes, place, budget)?;
         }
         Err(SearchFault::TooManyCases)
