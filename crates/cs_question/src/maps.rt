@@ -2,7 +2,7 @@
 ghost use Rattle.std.specs.Prelude.{◌≡◌, ℕ, List, true, false, Some, map, IsTrue, OnOk, Contains, ◌≤◌, [], IfOk, IsNone};
 ghost use Rattle.std.specs.List.{list_all, list_any, AllByRecursion};
 ghost use Rattle.cs_document.specs.Document.{Document, Entry, under, Members, object, AreMembers, depth, entries};
-ghost use Rattle.cs_package.specs.Expression.{is_every};
+ghost use Rattle.cs_package.specs.Expression.{is_every, mark_of};
 ghost use Rattle.cs_instance.specs.Constraint as constraint;
 ghost use Rattle.cs_instance.specs.Steps.{field_of};
 ghost use Rattle.cs_instance.specs.Constraint.{fields_hold};
@@ -22,14 +22,9 @@ use std::alloc::Global;
 
 /// Whether some declaration is for every key.
 fn has_every(fields: &[Field<'_>]) -> bool
-    ensures { result ≡ list_any (λ d. is_every d.mark) (map field_of fields.now) }
+    ensures { result ≡ list_any (λ f. is_every (mark_of f.mark)) fields.now }
 {
-    for field in fields {
-        if is_for_every_key(field.mark) {
-            return true;
-        }
-    }
-    false
+    fields.iter().any(|field| is_for_every_key(field.mark))
 }
 
 /// Whether each key that the declarations are for is one of these labels, which are in order: none of them is for every key.

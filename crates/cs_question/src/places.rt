@@ -56,13 +56,7 @@ pub(crate) struct Demands<'a> {
 pub(crate) fn is_dead(table: &Table<'_>, place: &Place<'_>, effort: &mut Effort) -> Made<bool>
     ensures { IfOk result (λ b. IsTrue b → ByTable table.now (λ t s. HoldsPlace t.J t.n s place.now → ⊥)) }
 {
-    if !place.is_needed {
-        return Ok(false);
-    }
-    if place.is_barred {
-        return Ok(true);
-    }
-    table.is_shut(&place.asked, effort)
+    Ok(place.is_needed && (place.is_barred || table.is_shut(&place.asked, effort)?))
 }
 
 /// Takes a way at a place, if it is about that.

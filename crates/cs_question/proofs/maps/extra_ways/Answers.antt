@@ -1,4 +1,4 @@
-use Rattle.std.proofs.Common.{◌≡◌, ℕ, Bool, false, true, inl, inr, List, Bor, map, sym, ap, ◌∙◌, subst, true≢false, take_all}
+use Rattle.std.proofs.Common.{◌≡◌, ℕ, Bool, false, true, ◌||◌, inl, inr, List, [], ◌∷◌, Bor, map, refl, sym, ap, ◌∙◌, subst, true≢false, take_all}
 use Rattle.std.specs.Prelude.{IsSome, None}
 use Rattle.std.specs.List.{list_any}
 use Rattle.cs_document.specs.Document.{Document, entries, under}
@@ -12,6 +12,10 @@ use Rattle.cs_question.proofs.Declared.{extra_told, every_allows}
 use Rattle.cs_question.proofs.Taken.{some_any}
 use Rattle.cs_question.proofs.maps.extra_ways.Goals as goal
 use Rattle.cs_question.proofs.maps.extra_ways.Goals.{then-not-allow+in_ok-push, else-not-allow}
+
+any_mapped : {X Y : Type 0} (p : Y → Bool) (f : X → Y) (xs : List X) → list_any p (map f xs) ≡ list_any (λ x. p (f x)) xs
+any_mapped p f [] = refl
+any_mapped p f (x ∷ xs) = ap (λ b. p (f x) || b) (any_mapped p f xs)
 
 pub loop-label-preserved : goal.loop-label-preserved
 loop-label-preserved c = record {
@@ -49,7 +53,7 @@ pub returns-else-not-has_every-clause-all : goal.returns-else-not-has_every-clau
 returns-else-not-has_every-clause-all c = λ J ms are h.
     let ds = map field_of c.args.fields.now.all.items in
     let P : Bor (List ℕ) → Type 0 = λ k. IsSome (under k.now (entries ms)) × (list_any (λ d. allows d k.now) ds ≡ false) in
-    let every = ap (λ fs. list_any (λ (d : Declaration ℕ). is_every d.mark) (map field_of fs)) (sym c.deref.ensures.value) ∙ sym c.has_every.ensures ∙ c.if-not-has_every.false in
+    let every = ap (λ fs. list_any (λ (d : Declaration ℕ). is_every d.mark) (map field_of fs)) (sym c.deref.ensures.value) ∙ any_mapped (λ (d : Declaration ℕ). is_every d.mark) field_of c.deref.result.now ∙ sym c.has_every.ensures ∙ c.if-not-has_every.false in
     elim (extra_told ds c.args.labels.now ms are h) [
       | inl k ↦ c.loop-label.invariant.taken J (entries ms) c.args.labels.now (subst (SomeOf P) (sym (take_all c.loop-label.label-index c.args.labels.now c.loop-label-test.false)) k)
       | inr k ↦ absurd (each_of_none _ (others c.args.labels.now (entries ms)) (λ y f. true≢false (sym (every_allows ds f.0 every) ∙ f.1)) k)
