@@ -11,7 +11,7 @@ ghost use Rattle.cs_question.specs.Cases.{IsCovered, Continues, Covers, NoOther}
 use crate::fault::{Effort, MOST_STEPS, Made, SearchFault, Searched};
 use crate::lists::list_of;
 use crate::maps::map_of;
-use crate::nodes::{Literal, Node, Nodes, add, are_same, part_of, with, without};
+use crate::nodes::{Literal, Node, Nodes, add, part_of, with, without};
 use crate::scalars::{integer_of, may_meet_all, text_of};
 use crate::sides::{Sign, are_alike, sign_of};
 use crate::table::{Found, Table};
@@ -114,22 +114,12 @@ fn opened_at(nodes: &Nodes<'_>, asked: &[Literal]) -> Option<(usize, Literal)>
 }
 
 /// Puts a case among the others, unless it is there.
-///
-/// # Errors
-/// `TooManyCases` where another case has its place in the order, which none has.
 fn put(nodes: &Nodes<'_>, cases: &mut BTreeSet<Case>, asked: Vec<Literal>) -> Searched<()>
     ensures kept { OnOk result (Continues cases.old.keys cases.new.keys) }
     ensures there { OnOk result (Covers asked.items cases.new.keys) }
 {
     let opened = opened_at(nodes, &asked).map(|(_place, literal)| literal);
-    let case = (opened, asked);
-    if let Some(same) = cases.get(&case) {
-        if are_same(&same.1, &case.1) {
-            return Ok(());
-        }
-        return Err(SearchFault::TooManyCases);
-    }
-    cases.insert(case)?;
+    cases.insert((opened, asked))?;
     Ok(())
 }
 
