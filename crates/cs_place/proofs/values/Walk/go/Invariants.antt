@@ -1,5 +1,5 @@
 use Rattle.std.proofs.Common.{length}
-use Rattle.cs_place.proofs.values.walk.Walk.go.Given as goal
+use Rattle.cs_place.proofs.values.Walk.go.Given as goal
 
 abbrev pub decreases-loop-token : goal.decreases-loop-token
 decreases-loop-token l = length l.reader
