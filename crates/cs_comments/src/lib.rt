@@ -6,7 +6,7 @@ mod texts;
 use crate::texts::{Texts, add_lines, texts_of};
 use cs_describe::Notes;
 use cs_document::Doc;
-use cs_grammar::{Declaration, Expr, Field, FieldMark, ListEnd, Profile, Wide, atom, bound};
+use cs_grammar::{Declaration, Expr, Field, FieldMark, ListEnd, Profile, Wide, atom};
 use cs_placed::{Placed, placed_files, spelled_files};
 use cs_sources::Made;
 use std::alloc::Global;
@@ -84,7 +84,11 @@ impl<'a> Comments<'a> {
             Expr::Paren(value)
             | Expr::Wide(Wide::Shut { value, .. })
             | Expr::Wide(Wide::Marked { value, .. }) => return self.notes_of(value),
-            Expr::Struct { fields, .. } => self.add_fields(fields, &mut notes)?,
+            Expr::Struct { fields, .. } => {
+                for field in fields {
+                    self.add_field(field, &mut notes)?;
+                }
+            }
             // It is met only where nothing is put together: its own fields.
             Expr::Wide(Wide::Merged { declarations, .. }) => {
                 for declaration in declarations {
@@ -118,15 +122,6 @@ impl<'a> Comments<'a> {
             each.push(self.notes_of(value)?)?;
         }
         Ok(each)
-    }
-
-    /// Adds the fields of a struct to its notes.
-    #[cycle(values)]
-    fn add_fields(&mut self, fields: &[Field], to: &mut Notes) -> Made<()> {
-        for field in fields {
-            self.add_field(field, to)?;
-        }
-        Ok(())
     }
 
     /// Adds a field to the notes of a struct: the comment on its first declaration, the notes of its value, and the comments on its other
@@ -208,17 +203,7 @@ impl<'a> Comments<'a> {
                 }
                 Some(Doc::List(items))
             }
-            Expr::Text(_)
-            | Expr::Struct { .. }
-            | Expr::List { .. }
-            | Expr::Top
-            | Expr::Bottom
-            | Expr::Name { .. }
-            | Expr::Reference { .. }
-            | bound!()
-            | Expr::And(_)
-            | Expr::Or(_)
-            | Expr::Wide(_) => None,
+            _ => None,
         })
     }
 }
@@ -261,9 +246,8 @@ pub fn notes_of(alloc: Global, profile: Profile, sources: &[&[u8]]) -> Made<ByNa
             return Ok(notes);
         }
     }
-    let Some(spelled) = spelled_files(alloc, sources)? else {
-        return Ok(BTreeMap::new(alloc));
-    };
-    let (notes, _) = notes_in(alloc, &spelled, &texts)?;
-    Ok(notes)
+    match spelled_files(alloc, sources)? {
+        Some(spelled) => Ok(notes_in(alloc, &spelled, &texts)?.0),
+        None => Ok(BTreeMap::new(alloc)),
+    }
 }

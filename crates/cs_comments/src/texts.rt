@@ -1,8 +1,7 @@
 // The texts of definitions and fields: comments, by the lines of a source.
 ghost use Rattle.std.specs.Prelude.{◌≡◌, IfOk, reverse, string_bytes};
-ghost use Rattle.std.specs.List.{list_all};
 ghost use Rattle.std.specs.Option.{option_copied, option_map};
-ghost use Rattle.cs_comments.specs.Comments.{above, comment_on, comments_at, is_newline, some_text, text_at};
+ghost use Rattle.cs_comments.specs.Comments.{above, comment_on, comments_at, some_text, text_at};
 ghost use Rattle.cs_comments.specs.Views.{each_text, texts_of};
 
 use cs_grammar::{Profile, Token};
@@ -28,24 +27,21 @@ pub enum Line<'a> {
 pub fn lines_of<'a>(alloc: Global, source: &'a str, tokens: &[Token<'_>]) -> Made<Vec<Line<'a>>> {
     let mut lines = Vec::new(alloc);
     let mut start = 0usize;
-    let mut next = 0;
     for text in source.split('\n') {
         let end = start.saturating_add(text.len());
         let behind = tokens.partition_point(|token| token.start < end);
-        let here = tokens.get(next..behind).unwrap_or(&[]);
-        lines.push(line_of(text, start, here))?;
+        lines.push(line_of(text, start, tokens.get(..behind).unwrap_or(&[])))?;
         start = end.saturating_add(1);
-        next = behind;
     }
     Ok(lines)
 }
 
-/// A line by its text, where it starts, and the tokens on it. No token has a newline in it, so what is behind the last one is blanks or a comment.
+/// A line by its text, where it starts, and the tokens up to its end. No token has a newline in it, so what is behind the last one is blanks or a comment.
 fn line_of<'a>(text: &'a str, start: usize, tokens: &[Token<'_>]) -> Line<'a> {
     let last = tokens.iter().rev().find(|token| !token.text.is_empty());
-    let end = last.map_or(start, |token| end_of(*token));
+    let end = last.map_or(0, |token| end_of(*token));
     match text.get(end.saturating_sub(start)..).and_then(comment_of) {
-        Some(comment) if last.is_none() => Line::Alone(comment),
+        Some(comment) if end <= start => Line::Alone(comment),
         Some(comment) => Line::Behind(comment),
         None => Line::Plain,
     }
@@ -98,18 +94,11 @@ fn comments_at<'a>(alloc: Global, lines: &[Line<'a>], at: usize) -> Made<Vec<&'a
     Ok(comments)
 }
 
-/// Whether a text has no character but newlines.
-fn is_newlines(text: &[u8]) -> bool
-    ensures { result ≡ list_all is_newline text.now }
-{
-    text.iter().all(|byte| *byte == b'\n')
-}
-
 /// A text, where it has a character that is no newline: lines that are all empty say nothing.
 fn some_text(text: String) -> Option<String>
     ensures { option_map string_bytes result ≡ some_text (string_bytes text) }
 {
-    let is_empty = is_newlines(text.as_bytes());
+    let is_empty = text.as_bytes().iter().all(|byte| *byte == b'\n');
     if is_empty { None } else { Some(text) }
 }
 
