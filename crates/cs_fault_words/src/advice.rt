@@ -1,5 +1,5 @@
 // What is said of a form at its place, with the names that the source has there.
-use crate::lines::{put_around, put_filled, put_tokens};
+use crate::lines::{put_filled, put_tokens};
 use crate::packages::Names;
 use cs_forms::{Form, Found, kind_meant, said_of_form, said_of_shown};
 use cs_grammar::{Sort, Token};
@@ -55,7 +55,7 @@ pub fn put_advice(text: &mut String, declared: &Declared<'_, '_>, found: Found<'
         }
         Form::ExcludedDefault | Form::AbsentField => put_filled(text, said, &[shown; 3]),
         Form::StrayCharacter => text.push_str(said_of_shown(found.form, shown)),
-        form => put_around(text, said, shown, said_of_shown(form, shown)),
+        form => put_filled(text, said, &[shown, said_of_shown(form, shown), shown]),
     }
 }
 
@@ -100,29 +100,22 @@ fn put_hidden(text: &mut String, said: &str, near: Near<'_, '_>) -> Written {
             "a hidden field at the top of a file: a root is a definition, so write `#{}: ..`",
         Some(_) | None => said,
     };
-    put_filled(text, said, &[shown_name(name)])
-}
-
-/// A hidden name without the `_` before it, unless no letter follows, as it has to behind a `#`.
-fn shown_name(name: &str) -> &str {
+    // Behind a `#` a letter has to follow.
     let bare = name.trim_start_matches('_');
-    match bare.as_bytes() {
-        [b'A'..=b'Z' | b'a'..=b'z', ..] => bare,
-        _ => name,
-    }
+    let is_name = bare.starts_with(|first: char| first.is_ascii_alphabetic());
+    put_filled(text, said, &[if is_name { bare } else { name }])
 }
 
 /// Puts what something is that a struct embeds, or that the wide profile takes it, and what to write in its place, with what is beside it.
 fn put_embedded(text: &mut String, said: &str, found: Found<'_, '_>) -> Written {
     let Found { near, shown, .. } = found;
     let (front, remedy) = said.split_once(": ").unwrap_or(("", said));
-    if is_taken(near) {
-        text.push_str("`--profile wide` takes embeddings; without it ")?;
-    } else {
-        put_all(text, &[front, ": "])?;
-    }
+    let taken = ["`--profile wide` takes embeddings; without it ", ""];
+    let front = if is_taken(near) { taken } else { [front, ": "] };
+    put_all(text, &front)?;
     if matches!(found.form, Form::EmbeddedDefinition) {
-        return put_around(text, remedy, shown, other_fields(near).unwrap_or(".."));
+        let others = other_fields(near).unwrap_or("..");
+        return put_filled(text, remedy, &[shown, others, shown]);
     }
     let labels = labels_around(*text.allocator(), near, "")?;
     if labels.is_empty() || labels.len() > MOST_NAMED {
@@ -156,14 +149,12 @@ fn is_taken(near: Near<'_, '_>) -> bool {
 fn other_fields<'a>(near: Near<'_, 'a>) -> Option<&'a str> {
     let bracket = near.bracket()?;
     let next = near.behind(1);
-    if near.before(1).start != bracket.here().start || !separates(next) {
-        return None;
-    }
+    let is_first = near.before(1).start == bracket.here().start && separates(next);
     let closing = bracket.closing()?.here();
     let fields = near.source.text(end_of(next), closing.start).trim_ascii();
     let fields = fields.strip_suffix(",").unwrap_or(fields);
     let is_few = !fields.is_empty() && fields.len() <= MOST_SHOWN;
-    let is_shown = is_few && !fields.contains('\n') && !fields.ends_with("...");
+    let is_shown = is_first && is_few && !fields.contains('\n') && !fields.ends_with("...");
     is_shown.then_some(fields)
 }
 
@@ -185,7 +176,7 @@ fn labels_around<'s, 'a>(alloc: Global, near: Near<'s, 'a>, text: &str) -> Made<
     Ok(labels)
 }
 
-/// Puts that a name names a field, which is said first, and where that is.
+/// Puts that a name names a field, which is said first, and where the first struct around it has that.
 fn put_field_reference(text: &mut String, said: &str, near: Near<'_, '_>) -> Written {
     let name = near.here().text;
     if near.here().sort == Sort::Definition {
@@ -193,9 +184,10 @@ fn put_field_reference(text: &mut String, said: &str, near: Near<'_, '_>) -> Wri
         return put_filled(text, "a name in `{}` is a field there", &[name]);
     }
     put_filled(text, said, &[name])?;
-    if let Some(label) = field_named(near) {
-        let source = near.source;
-        let line = position_of(source.named.text, label.here().start).line;
+    let around = successors(near.bracket(), |inner| inner.bracket()).take(MOST_AROUND);
+    let mut structs = around.filter(|inner| inner.here().text == "{");
+    if let Some(label) = structs.find_map(|inner| inner.held()?.label(name)) {
+        let line = position_of(near.source.named.text, label.here().start).line;
         put_filled(text, " (line {})", &[Buffer::new().format(line)])?;
     }
     text.push_str(if KINDS.contains(&name) {
@@ -203,19 +195,6 @@ fn put_field_reference(text: &mut String, said: &str, near: Near<'_, '_>) -> Wri
     } else {
         ": give its value a definition and name it in both"
     })
-}
-
-/// The label of the same text as a name that it names, in a struct around it.
-fn field_named<'s, 'a>(near: Near<'s, 'a>) -> Option<Near<'s, 'a>> {
-    let mut inner = near;
-    for _ in 0..MOST_AROUND {
-        inner = inner.bracket()?;
-        let label = inner.held()?.label(near.here().text);
-        if inner.here().text == "{" && label.is_some() {
-            return label;
-        }
-    }
-    None
 }
 
 /// Puts that a name isn't declared, and what may have been meant by it; what is said of it where nothing is near.
@@ -274,11 +253,9 @@ fn put_not_opened(text: &mut String, declared: &Declared<'_, '_>, found: Found<'
 
 /// Whether a definition is one struct literal that ends with `...`, where it is declared first.
 fn is_opened(declared: &Declared<'_, '_>, base: Near<'_, '_>) -> bool {
-    let Some(closing) = declared.of(base.here().text).and_then(literal_end) else {
-        return false;
-    };
+    let closing = declared.of(base.here().text).and_then(literal_end);
     // A comma may be behind the `...`.
-    [closing.before(1).text, closing.before(2).text].contains(&"...")
+    closing.is_some_and(|end| end.before(1).text == "..." || end.before(2).text == "...")
 }
 
 /// The token that closes the struct literal at the front of a definition.
@@ -294,28 +271,23 @@ pub fn field_with<'a>(names: &Names<'_, 'a>, definition: &str, value: &str) -> O
         return None;
     }
     let held = closing.source.held(closing.source.own(closing.place));
-    for place in 0..=held.count(Comma) {
-        if let Some(label) = held.first_of(Comma, place)
-            && matches!(label.here().sort, Sort::Name | Sort::Text)
+    let label = held.find_first(Comma, |label| {
+        matches!(label.here().sort, Sort::Name | Sort::Text)
             && label.behind(1).text == ":"
             && label.behind(2).text == value
             && (separates(label.behind(3)) || label.behind(3).text == "}")
-        {
-            return Some(label.here().text);
-        }
-    }
-    None
+    });
+    Some(label?.here().text)
 }
 
 /// The definitions that the struct at a token is joined with, in the innermost conjunction that has any, the nearest one before it first.
 fn bases_of<'s, 'a>(alloc: Global, near: Near<'s, 'a>) -> Made<Vec<Near<'s, 'a>>> {
     let mut bases = Vec::new(alloc);
     for inner in successors(Some(near), |inner| inner.bracket()).take(MOST_AROUND) {
-        if let Some(operands) = inner.conjunction() {
+        if bases.is_empty()
+            && let Some(operands) = inner.conjunction()
+        {
             add_bases(&mut bases, operands, inner.place)?;
-        }
-        if !bases.is_empty() {
-            break;
         }
     }
     Ok(bases)
@@ -348,14 +320,12 @@ fn put_twice(text: &mut String, declared: &Declared<'_, '_>, found: Found<'_, '_
     let labels = labels_around(declared.alloc(), near, name)?;
     // Outside of all brackets it is a definition.
     let is_definition = labels.is_empty();
-    let times = labels.len().max(declared.named(name).len());
-    let parts = match (times, is_joined) {
-        (0 | 1, _) => return Ok(false),
-        (2, true) => ["both", name],
-        (2, false) => [name, "twice"],
-        (_, true) => ["all", name],
-        (_, false) => [name, "several times"],
+    let (all, more) = match labels.len().max(declared.named(name).len()) {
+        0 | 1 => return Ok(false),
+        2 => ("both", "twice"),
+        _ => ("all", "several times"),
     };
+    let parts = if is_joined { [all, name] } else { [name, more] };
     let said = match (is_joined, is_definition) {
         (true, true) =>
             "`--profile wide` puts {} bodies of `{}` together; without it join them to one, or end each of their structs with `...`",

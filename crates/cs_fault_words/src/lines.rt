@@ -18,19 +18,10 @@ const MOST_BESIDE: usize = 70;
 /// Puts words as they are shown, with these parts in place of each `{}` in them, in their order.
 pub fn put_filled(text: &mut String, words: &str, parts: &[&str]) -> Written {
     for (at, piece) in words.split("{}").enumerate() {
-        if let Some(before) = at.checked_sub(1)
-            && let Some(part) = parts.get(before)
-        {
-            put_line(text, &[*part])?;
-        }
-        put_line(text, &[piece])?;
+        let part = parts.get(at.wrapping_sub(1)).copied().unwrap_or("");
+        put_line(text, &[part, piece])?;
     }
     Ok(())
-}
-
-/// Puts words with these two parts and the first one again in place of the `{}`, of which there are three at most.
-pub fn put_around<'x>(text: &mut String, words: &str, part: &'x str, other: &'x str) -> Written {
-    put_filled(text, words, &[part, other, part])
 }
 
 /// Puts tokens in backquotes: before the last one of several these words, and before the others a comma.
@@ -79,10 +70,9 @@ fn sides(text: &[u8], offset: usize) -> (&str, &str) {
     let (before, behind) = text.split_at(offset.min(text.len()));
     let start = memrchr(b'\n', before).map_or(0, |newline| newline.saturating_add(1));
     let len = memchr(b'\n', behind).unwrap_or(behind.len());
-    let line = text.get(start..before.len().saturating_add(len));
-    let line = str::from_utf8(line.unwrap_or(b"")).unwrap_or("");
-    let at = before.len().saturating_sub(start);
-    (line.get(..at).unwrap_or(""), line.get(at..).unwrap_or(""))
+    let before = str::from_utf8(before.get(start..).unwrap_or(b""));
+    let behind = str::from_utf8(behind.get(..len).unwrap_or(b""));
+    before.ok().zip(behind.ok()).unwrap_or(("", ""))
 }
 
 /// Puts the line of an offset, cut where it is long, and below it a mark under the characters up to another offset; nothing where it is empty.

@@ -27,12 +27,10 @@ const MOST_LEVELS: usize = 28;
 
 impl<'a> Told<'a> {
     /// Tells where a source nests too deep (7), at the bracket or the definition with the first level that is too deep, if its tokens show one.
-    pub fn tell_too_high(&mut self, source: Option<&Source<'a>>) -> Written {
-        let Some(source) = source else { return Ok(()) };
+    pub fn tell_too_high(&mut self, source: &Source<'a>) -> Written {
         self.named = Some(source.named);
-        let Some(near) = first_too_high(*self.hint.allocator(), source)? else {
-            let mut places = 0..source.tokens.len();
-            let embeds = places.any(|place| Near { source, place }.begins_embedding());
+        let Some(near) = first_too_high(source) else {
+            let embeds = source.whole().any(|token| token.begins_embedding());
             let said =
                 "with what is embedded brackets, short fields, `&`, `|` and the value inside make more than 28 levels: give an inner part a definition";
             return self.hint.push_str(if embeds { said } else { "" });
@@ -48,23 +46,18 @@ impl<'a> Told<'a> {
         put_filled(&mut self.hint, said, &[part])
     }
 
-    /// Tells the package clause of a source and the first one of all sources, where they name different packages (8), at the name in this one.
-    pub fn tell_clause(&mut self, source: Option<&Source<'a>>, all: &[Source<'a>]) -> Written {
-        let Some(source) = source else { return Ok(()) };
-        self.named = Some(source.named);
-        let Some(name) = clause_of(source) else {
+    /// Tells the package clause of a source and the first one of all sources, which names another package (8), at the name in this one.
+    pub fn tell_clause(&mut self, source: &Source<'a>, all: &[Source<'a>]) -> Written {
+        let (Some(name), Some(first)) = (clause_of(source), all.iter().find_map(clause_of)) else {
             return Ok(());
         };
         self.place_at(name);
         let text = &mut self.hint;
-        let said = "this file is of the package `{}`";
+        let said = "this file is of the package `{}`, and ";
         put_filled(text, said, &[name.here().text])?;
-        if let Some(first) = all.iter().find_map(clause_of) {
-            text.push_str(", and ")?;
-            put_offset(text, first.source.named, first.here().start)?;
-            put_filled(text, "`{}`", &[first.here().text])?;
-        }
-        text.push_str("; give the files of one package, or correct the clause")
+        put_offset(text, first.source.named, first.here().start)?;
+        let said = "`{}`; give the files of one package, or correct the clause";
+        put_filled(text, said, &[first.here().text])
     }
 
     /// Puts the names that the sources declare, where the root is none of them (13), and the one that may have been meant.
@@ -109,11 +102,9 @@ impl<'a> Told<'a> {
         let (Fault::Cycle { names: way } | Fault::ChainTooLong { names: way }) = fault else {
             return Ok(());
         };
-        let names = Names::of(*self.hint.allocator(), declared)?;
-        let ([first, ..], [front @ .., last]) = (way.as_slice(), way.as_slice()) else {
-            return Ok(());
-        };
-        let Some(first) = names.first(first) else {
+        let names = Names::of(declared.alloc(), declared)?;
+        let first = way.first().and_then(|name| names.first(name));
+        let (Some(first), Some((last, front))) = (first, way.split_last()) else {
             return Ok(());
         };
         self.place_at(first);
@@ -153,20 +144,16 @@ impl<'a> Told<'a> {
 }
 
 /// The token that opens a bracket which is too deep, or else the one of the first part between commas that is too high, or outside of all its first token.
-fn first_too_high<'s, 'a>(alloc: Global, source: &'s Source<'a>) -> Made<Option<Near<'s, 'a>>> {
-    // Of what is around each bracket.
-    let mut heights: Vec<usize> = Vec::new(alloc);
+fn first_too_high<'s, 'a>(source: &'s Source<'a>) -> Option<Near<'s, 'a>> {
     let (mut first, mut found) = (usize::MAX, None);
     for (number, bracket) in source.brackets.iter().enumerate() {
         let opening = source.opening(number);
         if bracket.depth > MOST_LEVELS {
-            return Ok(opening);
+            return opening;
         }
-        let mut outer = heights.get(bracket.around).copied().unwrap_or(0);
-        if let Some(near) = opening {
-            outer = outer.saturating_add(own_height(near.part(), near.inside()));
-        }
-        heights.push(outer)?;
+        let around = successors(opening, |inner| inner.bracket()).take(MOST_LEVELS);
+        let heights = around.map(|near| own_height(near.part(), near.inside()));
+        let outer = heights.fold(0, |sum: usize, height| sum.saturating_add(height));
         if let Some(part) = part_too_high(source.held(number), bracket.inside, outer)
             && part.from < first
             && let Some(near) = opening.or(part.first())
@@ -174,7 +161,7 @@ fn first_too_high<'s, 'a>(alloc: Global, source: &'s Source<'a>) -> Made<Option<
             (first, found) = (part.from, Some(near));
         }
     }
-    Ok(found)
+    found
 }
 
 /// The first part between commas of what a bracket holds that is too high, with so many levels around it.
@@ -263,10 +250,8 @@ impl<'s, 'a> Names<'s, 'a> {
 
     /// Puts the name of a definition as its author declared it, or the selector that it stands for.
     pub fn put(&self, text: &mut String, name: &str) -> Made<()> {
-        match self.first(name) {
-            Some(first) => text.push_str(first.name_written()),
-            None => text.push_str(name),
-        }
+        let first = self.first(name);
+        text.push_str(first.map_or(name, |first| first.name_written()))
     }
 
     /// Puts names of definitions with their places, the first ones of many, with an arrow behind each.

@@ -11,7 +11,6 @@ use cs_place::{Named, Step, ValuePath, places, pointer_at};
 use cs_sources::{Declared, Made, Near, Source, declared_in, end_of};
 use cs_text::{Written, put_all, put_grouped, put_line};
 use cs_tool::Fault;
-use json::{Reader, Scratch, Token};
 use simdutf8::compat::from_utf8;
 use std::alloc::Global;
 use std::str;
@@ -110,19 +109,8 @@ impl<'a> Told<'a> {
 
     /// Tells what is known of a fault.
     fn tell(&mut self, fault: &Fault, about: About<'a>, declared: &Declared<'_, 'a>) -> Written {
-        let source = declared.sources.get(fault.file().unwrap_or(usize::MAX));
         let (schema, document) = (about.schema, about.document);
         match fault {
-            Fault::NotUtf8 { .. } => self.tell_not_utf8(source),
-            Fault::NoToken { .. }
-            | Fault::Syntax { .. }
-            | Fault::LeftOut { .. }
-            | Fault::IntegerRange { .. }
-            | Fault::UnknownName { .. }
-            | Fault::FieldReference { .. }
-            | Fault::NotOpened { .. } => self.put_form(fault, about.is_joined, declared),
-            Fault::TooHigh { .. } => self.tell_too_high(source),
-            Fault::PackageName { .. } => self.tell_clause(source, declared.sources),
             Fault::Cycle { .. } | Fault::ChainTooLong { .. } => self.tell_way(fault, declared),
             Fault::UnknownRoot => self.tell_no_root(declared, about.root),
             Fault::TooLarge { definitions } => self.tell_too_large(*definitions, declared.sources),
@@ -134,47 +122,44 @@ impl<'a> Told<'a> {
             }
             Fault::Keyword { place, name }
             | Fault::Shape { place, name }
-            | Fault::Reference { place, name } => self.tell_keyword(fault, schema, place, name),
+            | Fault::Reference { place, name } => self.tell_keyword(fault, about, place, name),
             Fault::Loop { names } => self.tell_loop(schema, names),
-            // These have no place in a text.
-            Fault::SourcesTooLong
-            | Fault::OutOfMemory
-            | Fault::TooManyCases
-            | Fault::InputTooLong
-            | Fault::ReadFailed
-            | Fault::WriteFailed => Ok(()),
+            _ => self.tell_cue(fault, about.is_joined, declared),
         }
+    }
+
+    /// Tells what is known of a fault in a source, as of the form of CUE there; nothing of one that is in no text.
+    fn tell_cue(&mut self, fault: &Fault, is_joined: bool, declared: &Declared<'_, 'a>) -> Written {
+        let Some(source) = declared.sources.get(fault.file().unwrap_or(usize::MAX)) else {
+            return Ok(());
+        };
+        let near = Near::at(source, fault.offset().unwrap_or(usize::MAX));
+        let found = match (fault, near) {
+            (Fault::NotUtf8 { .. }, _) => return self.tell_not_utf8(source.named),
+            (Fault::TooHigh { .. }, _) => return self.tell_too_high(source),
+            (Fault::PackageName { .. }, _) => return self.tell_clause(source, declared.sources),
+            (Fault::NoToken { offset, .. }, Some(near)) => form_stuck(near, *offset),
+            (Fault::IntegerRange { .. }, Some(near)) => Found::at(near, Form::LargeInteger),
+            (Fault::Syntax { .. }, Some(near)) => form_out_of_place(near),
+            (Fault::LeftOut { .. }, Some(near)) => form_left_out_in(near, declared)?,
+            (Fault::UnknownName { .. }, Some(near)) => form_unknown(near, declared),
+            (Fault::FieldReference { .. }, Some(near)) => form_of_field(near),
+            (Fault::NotOpened { .. }, Some(near)) if is_joined => Found::at(near, Form::Joined),
+            (Fault::NotOpened { .. }, Some(near)) => form_closed(near, declared)?,
+            _ => return Ok(()),
+        };
+        self.place(source.named, found.start, found.end);
+        self.form = Some(found.form);
+        put_advice(&mut self.hint, declared, found)
     }
 
     /// Tells where a source isn't UTF-8 (2).
-    fn tell_not_utf8(&mut self, source: Option<&Source<'a>>) -> Written {
-        let Some(source) = source else { return Ok(()) };
-        if let Err(error) = from_utf8(source.named.text) {
+    fn tell_not_utf8(&mut self, named: Named<'a>) -> Written {
+        if let Err(error) = from_utf8(named.text) {
             let place = error.valid_up_to();
-            self.place(source.named, place, place);
+            self.place(named, place, place);
         }
         self.hint.push_str("no UTF-8 from here: save the file as UTF-8, without a byte order mark")
-    }
-
-    /// Puts what is said of the form of CUE at the place of a fault; nothing where its source has no token there or behind.
-    fn put_form(&mut self, fault: &Fault, is_joined: bool, declared: &Declared<'_, 'a>) -> Written {
-        let Some(near) = near_of(fault, declared) else {
-            return Ok(());
-        };
-        let found = match fault {
-            Fault::NoToken { offset, .. } => form_stuck(near, *offset),
-            Fault::IntegerRange { .. } => Found::at(near, Form::LargeInteger),
-            Fault::Syntax { .. } => form_out_of_place(near),
-            Fault::LeftOut { .. } => form_left_out_in(near, declared)?,
-            Fault::UnknownName { .. } => form_unknown(near, declared),
-            Fault::FieldReference { .. } => form_of_field(near),
-            Fault::NotOpened { .. } if is_joined => Found::at(near, Form::Joined),
-            Fault::NotOpened { .. } => form_closed(near, declared)?,
-            _ => return Ok(()),
-        };
-        self.place(near.source.named, found.start, found.end);
-        self.form = Some(found.form);
-        put_advice(&mut self.hint, declared, found)
     }
 
     /// Tells why a text isn't JSON (20, 25): it shows at an offset, and a text that is cut off ends there.
@@ -224,25 +209,19 @@ impl<'a> Told<'a> {
     }
 
     /// Tells of a keyword of a schema, its value or a reference (21 to 23), at the keyword.
-    fn tell_keyword(
-        &mut self,
-        fault: &Fault,
-        schema: Option<Named<'a>>,
-        place: &str,
-        name: &str,
-    ) -> Written {
+    fn tell_keyword(&mut self, fault: &Fault, about: About<'a>, place: &str, key: &str) -> Written {
         let said = match fault {
-            Fault::Keyword { .. } if name == "default" =>
+            Fault::Keyword { .. } if key == "default" =>
                 "`--profile wide` takes `{}` as a note; without it take it out, since it says nothing of what is valid",
             Fault::Keyword { .. } =>
                 "`{}` isn't in the profile: say it by other keywords, or take it out where it says nothing",
-            Fault::Shape { .. } if name.is_empty() => "a schema is `true`, `false` or an object",
+            Fault::Shape { .. } if key.is_empty() => "a schema is `true`, `false` or an object",
             Fault::Shape { .. } => "the value of `{}` has another form in the profile",
             _ => "`$defs` doesn't have `{}`",
         };
-        put_filled(&mut self.hint, said, &[name])?;
+        put_filled(&mut self.hint, said, &[key])?;
         let is_reference = matches!(fault, Fault::Reference { .. });
-        self.place_key(schema, place, if is_reference { "$ref" } else { name })
+        self.place_key(about.schema, place, if is_reference { "$ref" } else { key })
     }
 
     /// Places it at a key behind a pointer into a schema; an empty one is none.
@@ -253,16 +232,10 @@ impl<'a> Told<'a> {
         let Some(schema) = schema else { return Ok(()) };
         let keys = keys_of(alloc, pointer, key)?;
         if let Some(offset) = offset_of(alloc, schema.text, &keys)? {
-            let end = text_end(alloc, schema.text, offset)?;
-            self.place(schema, offset, end);
+            self.place(schema, offset, text_end(schema.text, offset));
         }
         Ok(())
     }
-}
-
-/// The token at the place of a fault, or the next one behind it.
-fn near_of<'s, 'a>(fault: &Fault, declared: &Declared<'s, 'a>) -> Option<Near<'s, 'a>> {
-    Near::at(declared.sources.get(fault.file()?)?, fault.offset()?)
 }
 
 /// The keys of a pointer with their escapes undone (RFC 6901, section 3), and behind them a keyword that isn't empty.
@@ -293,22 +266,21 @@ fn offset_of(alloc: Global, text: &[u8], keys: &[String]) -> Made<Option<usize>>
         paths.push(ValuePath { parent, step })?;
         around = next;
     }
-    match places(alloc, text, &paths)?.last() {
-        Some(Some(place)) => Ok(Some(place.key.unwrap_or(place.value))),
-        Some(None) | None => Ok(None),
-    }
+    let last = places(alloc, text, &paths)?.last().copied().flatten();
+    Ok(last.map(|place| place.key.unwrap_or(place.value)))
 }
 
 /// The place behind the text of JSON that begins at an offset; the offset itself where none does.
-fn text_end(alloc: Global, text: &[u8], offset: usize) -> Made<usize> {
-    let rest = str::from_utf8(text.get(offset..).unwrap_or(&[])).unwrap_or("");
-    let mut scratch = Scratch::new(alloc);
-    let mut reader = Reader::new(rest, &mut scratch)?;
-    let Some(Token::Key(_) | Token::String(_)) = reader.next() else {
-        return Ok(offset);
+fn text_end(text: &[u8], offset: usize) -> usize {
+    let Some([b'"', rest @ ..]) = text.get(offset..) else {
+        return offset;
     };
-    // The reader has come to the next token, and no quote is between the text and that.
-    let passed = rest.get(..reader.offset()).unwrap_or(rest);
-    let last = passed.rfind('"').unwrap_or(0);
-    Ok(offset.saturating_add(last).saturating_add(1))
+    let mut is_escaped = false;
+    let goes_on = |byte: &&u8| {
+        let ends = **byte == b'"' && !is_escaped;
+        is_escaped = **byte == b'\\' && !is_escaped;
+        !ends
+    };
+    let len = rest.iter().take_while(goes_on).count();
+    offset.saturating_add(len).saturating_add(2)
 }
