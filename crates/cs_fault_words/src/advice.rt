@@ -71,10 +71,8 @@ fn field_without<'a>(mark: Near<'_, 'a>) -> Option<(&'a str, &'a str, &'a str)> 
     let before = source.text(end_of(colon.here()), here.start);
     let behind = source.text(end_of(here), mark.part().end());
     let is_long = before.len().saturating_add(behind.len()) > MOST_OF_VALUE;
-    if is_long || before.contains('\n') || behind.contains('\n') {
-        return Some((name.text, "", ".."));
-    }
     Some(match before.trim_ascii_start() {
+        _ if is_long || before.contains('\n') || behind.contains('\n') => (name.text, "", ".."),
         "" => (name.text, "", behind.trim_ascii_start()),
         before => (name.text, before, behind),
     })

@@ -109,10 +109,8 @@ fn put_characters(text: &mut String, line: &str, left: usize, are_shown: bool) -
 /// that no refusal has. Only memory can run out.
 pub fn explained(alloc: Global, number: u32) -> Made<Option<String>> {
     let mut text = String::new(alloc);
-    for row in EXPLANATIONS {
-        if row.number == number {
-            write!(text, "{number}: {}\n{}\n", row.meaning, row.remedy)?;
-        }
+    for row in EXPLANATIONS.iter().filter(|row| row.number == number) {
+        write!(text, "{number}: {}\n{}\n", row.meaning, row.remedy)?;
     }
     Ok(if text.is_empty() { None } else { Some(text) })
 }

@@ -141,9 +141,7 @@ pub fn put_listing_json(
     package: &Guarded,
     text: &mut Vec<u8>,
 ) -> Made<()> {
-    let Ok(definitions) = to_vec(alloc, &entries_of(alloc, sources, package)?) else {
-        return Err(AllocError);
-    };
+    let definitions = to_vec(alloc, &entries_of(alloc, sources, package)?).or(Err(AllocError))?;
     text.extend_from_slice(b"{\"definitions\":")?;
     text.extend_from_slice(&definitions)?;
     text.extend_from_slice(b"}\n")
