@@ -100,7 +100,7 @@ fn put_hidden(text: &mut String, said: &str, near: Near<'_, '_>) -> Written {
     };
     // Behind a `#` a letter has to follow.
     let bare = name.trim_start_matches('_');
-    let is_name = bare.starts_with(|first: char| first.is_ascii_alphabetic());
+    let is_name = matches!(bare.as_bytes(), [b'A'..=b'Z' | b'a'..=b'z', ..]);
     put_filled(text, said, &[if is_name { bare } else { name }])
 }
 

@@ -83,22 +83,13 @@ impl<'a> Positions<'a> {
         ensures text { self.new.text ≡ self.old.text }
     {
         let end = offset.min(self.text.len());
-        let (from, first) = self.nearest(end);
-        let position = behind(from, &self.text[first..end]);
+        let position = if end < self.offset {
+            position_of(self.text, end)
+        } else {
+            behind(self.position, &self.text[self.offset..end])
+        };
         self.position = position;
         self.offset = end;
         position
-    }
-
-    /// A place that is known, and its offset, which is not past another one.
-    fn nearest(&self, offset: usize) -> (Position, usize)
-        ensures up { result.1 ≤ offset }
-        ensures known { result.0 ≡ position_at self.now.text.now result.1 }
-    {
-        if offset < self.offset {
-            (FIRST, 0)
-        } else {
-            (self.position, self.offset)
-        }
     }
 }

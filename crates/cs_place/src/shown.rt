@@ -1,10 +1,9 @@
 // How texts that users wrote are shown to people: on their line, with nothing that a terminal obeys or that changes how what is
 // around them looks.
 ghost use Rattle.std.specs.Prelude.{◌≡◌, ◌++◌, ◌/◌, OnOk, string_bytes, encode_utf8_all};
-ghost use Rattle.cs_place.specs.Shown.{is_hidden, last_digit, letter_or_digits, shown_by, quoted_by, shown, quoted, place_text};
+ghost use Rattle.cs_place.specs.Shown.{is_hidden, last_digit, shown_by, quoted_by, shown, quoted, place_text};
 
 use crate::{Made, Written};
-use itoa::Buffer;
 use std::alloc::Global;
 use std::marker::Model;
 
@@ -33,13 +32,17 @@ fn hex_digit(number: u32) -> char
     char::from_digit(number % 16, 16).unwrap_or('0')
 }
 
-/// Puts what follows the backslash of an escape: a letter, or the number of the character in four digits (RFC 8259, section 7).
-fn put_escape(text: &mut String, hidden: char) -> Written
+/// Puts a character as it is shown: behind a backslash a letter, or the number of the character in four digits (RFC 8259, section 7).
+fn put_character(text: &mut String, character: char) -> Written
     ensures { OnOk result (string_bytes text.new
-        ≡ string_bytes text.old ++ encode_utf8_all (letter_or_digits hidden)) }
+        ≡ string_bytes text.old ++ encode_utf8_all (shown_by character)) }
 {
-    let number = hidden as u32;
-    match hidden {
+    if !is_hidden(character) {
+        return text.push(character);
+    }
+    text.push('\\')?;
+    let number = character as u32;
+    match character {
         '\n' => return text.push('n'),
         '\r' => return text.push('r'),
         '\t' => return text.push('t'),
@@ -49,18 +52,6 @@ fn put_escape(text: &mut String, hidden: char) -> Written
     text.push(hex_digit(number / 256))?;
     text.push(hex_digit(number / 16))?;
     text.push(hex_digit(number))
-}
-
-/// Puts a character as it is shown.
-fn put_character(text: &mut String, character: char) -> Written
-    ensures { OnOk result (string_bytes text.new
-        ≡ string_bytes text.old ++ encode_utf8_all (shown_by character)) }
-{
-    if !is_hidden(character) {
-        return text.push(character);
-    }
-    text.push('\\')?;
-    put_escape(text, character)
 }
 
 /// Puts a text as it is shown: each of its characters that isn't shown as it is in its escape (RFC 8259, section 7). Only memory can run out.
@@ -102,10 +93,7 @@ pub fn put_place(text: &mut String, name: &str, line: usize, column: usize) -> W
         ≡ string_bytes text.old ++ place_text name.now line column) }
 {
     put_shown(text, name)?;
-    text.push_str(":")?;
-    text.push_str(Buffer::new().format(line))?;
-    text.push_str(":")?;
-    text.push_str(Buffer::new().format(column))
+    write!(text, ":{line}:{column}")
 }
 
 /// A name that lines for people begin with. Contracts see the bytes of the name.
