@@ -1,5 +1,5 @@
 // What is said of a form at its place, with the names that the source has there.
-use crate::lines::{put_filled, put_tokens};
+use crate::lines::{put_around, put_filled, put_tokens};
 use crate::packages::Names;
 use cs_forms::{Form, Found, kind_meant, said_of_form, said_of_shown};
 use cs_grammar::{Sort, Token};
@@ -55,7 +55,7 @@ pub fn put_advice(text: &mut String, declared: &Declared<'_, '_>, found: Found<'
         }
         Form::ExcludedDefault | Form::AbsentField => put_filled(text, said, &[shown; 3]),
         Form::StrayCharacter => text.push_str(said_of_shown(found.form, shown)),
-        form => put_filled(text, said, &[shown, said_of_shown(form, shown), shown]),
+        form => put_around(text, said, shown, said_of_shown(form, shown)),
     }
 }
 
@@ -112,8 +112,7 @@ fn put_embedded(text: &mut String, said: &str, found: Found<'_, '_>) -> Written 
     let front = if is_taken(near) { taken } else { [front, ": "] };
     put_all(text, &front)?;
     if matches!(found.form, Form::EmbeddedDefinition) {
-        let others = other_fields(near).unwrap_or("..");
-        return put_filled(text, remedy, &[shown, others, shown]);
+        return put_around(text, remedy, shown, other_fields(near).unwrap_or(".."));
     }
     let labels = labels_around(*text.allocator(), near, "")?;
     if labels.is_empty() || labels.len() > MOST_NAMED {
@@ -185,7 +184,8 @@ fn put_field_reference(text: &mut String, said: &str, near: Near<'_, '_>) -> Wri
     let around = successors(near.bracket(), |inner| inner.bracket()).take(MOST_AROUND);
     let mut structs = around.filter(|inner| inner.here().text == "{");
     if let Some(label) = structs.find_map(|inner| inner.held()?.label(name)) {
-        let line = position_of(near.source.named.text, label.here().start).line;
+        let source = near.source;
+        let line = position_of(source.named.text, label.here().start).line;
         put_filled(text, " (line {})", &[Buffer::new().format(line)])?;
     }
     text.push_str(if KINDS.contains(&name) {

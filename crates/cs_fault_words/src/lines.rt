@@ -2,7 +2,7 @@
 use crate::told::{About, Told};
 use cs_forms::{Form, form_name};
 use cs_meanings::EXPLANATIONS;
-use cs_place::{Named, is_hidden, position_of, put_place};
+use cs_place::{Named, is_hidden, position_of, put_place, put_shown};
 use cs_sources::{Made, Near, Source, sources_of};
 use cs_text::{Written, put_all, put_count, put_line, put_string};
 use cs_tool::{Fault, write_fault_json, write_text};
@@ -18,10 +18,15 @@ const MOST_BESIDE: usize = 70;
 /// Puts words as they are shown, with these parts in place of each `{}` in them, in their order.
 pub fn put_filled(text: &mut String, words: &str, parts: &[&str]) -> Written {
     for (at, piece) in words.split("{}").enumerate() {
-        let part = parts.get(at.wrapping_sub(1)).copied().unwrap_or("");
-        put_line(text, &[part, piece])?;
+        put_shown(text, parts.get(at.wrapping_sub(1)).copied().unwrap_or(""))?;
+        put_shown(text, piece)?;
     }
     Ok(())
+}
+
+/// Puts words with these two parts and the first one again in place of the `{}`, of which there are three at most.
+pub fn put_around<'x>(text: &mut String, words: &str, part: &'x str, other: &'x str) -> Written {
+    put_filled(text, words, &[part, other, part])
 }
 
 /// Puts tokens in backquotes: before the last one of several these words, and before the others a comma.
