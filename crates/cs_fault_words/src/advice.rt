@@ -99,9 +99,9 @@ fn put_hidden(text: &mut String, said: &str, near: Near<'_, '_>) -> Written {
         Some(_) | None => said,
     };
     // Behind a `#` a letter has to follow.
-    let bare = name.trim_start_matches('_');
-    let is_name = matches!(bare.as_bytes(), [b'A'..=b'Z' | b'a'..=b'z', ..]);
-    put_filled(text, said, &[if is_name { bare } else { name }])
+    let bare = Some(name.trim_start_matches('_'));
+    let bare = bare.filter(|bare| matches!(bare.as_bytes(), [b'A'..=b'Z' | b'a'..=b'z', ..]));
+    put_filled(text, said, &[bare.unwrap_or(name)])
 }
 
 /// Puts what something is that a struct embeds, or that the wide profile takes it, and what to write in its place, with what is beside it.

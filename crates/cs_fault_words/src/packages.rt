@@ -29,7 +29,7 @@ impl<'a> Told<'a> {
     /// Tells where a source nests too deep (7), at the bracket or the definition with the first level that is too deep, if its tokens show one.
     pub fn tell_too_high(&mut self, source: &Source<'a>) -> Written {
         self.named = Some(source.named);
-        let Some(near) = first_too_high(source) else {
+        let Some(near) = first_too_high(*self.hint.allocator(), source)? else {
             let embeds = source.whole().any(|token| token.begins_embedding());
             let said =
                 "with what is embedded brackets, short fields, `&`, `|` and the value inside make more than 28 levels: give an inner part a definition";
@@ -144,16 +144,19 @@ impl<'a> Told<'a> {
 }
 
 /// The token that opens a bracket which is too deep, or else the one of the first part between commas that is too high, or outside of all its first token.
-fn first_too_high<'s, 'a>(source: &'s Source<'a>) -> Option<Near<'s, 'a>> {
+fn first_too_high<'s, 'a>(alloc: Global, source: &'s Source<'a>) -> Made<Option<Near<'s, 'a>>> {
+    // Of what is around each bracket.
+    let mut heights: Vec<usize> = Vec::new(alloc);
     let (mut first, mut found) = (usize::MAX, None);
     for (number, bracket) in source.brackets.iter().enumerate() {
         let opening = source.opening(number);
         if bracket.depth > MOST_LEVELS {
-            return opening;
+            return Ok(opening);
         }
-        let around = successors(opening, |inner| inner.bracket()).take(MOST_LEVELS);
-        let heights = around.map(|near| own_height(near.part(), near.inside()));
-        let outer = heights.fold(0, |sum: usize, height| sum.saturating_add(height));
+        let own = opening.map_or(0, |near| own_height(near.part(), near.inside()));
+        let around = heights.get(bracket.around).copied().unwrap_or(0);
+        let outer = around.saturating_add(own);
+        heights.push(outer)?;
         if let Some(part) = part_too_high(source.held(number), bracket.inside, outer)
             && part.from < first
             && let Some(near) = opening.or(part.first())
@@ -161,7 +164,7 @@ fn first_too_high<'s, 'a>(source: &'s Source<'a>) -> Option<Near<'s, 'a>> {
             (first, found) = (part.from, Some(near));
         }
     }
-    found
+    Ok(found)
 }
 
 /// The first part between commas of what a bracket holds that is too high, with so many levels around it.

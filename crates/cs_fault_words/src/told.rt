@@ -242,8 +242,7 @@ impl<'a> Told<'a> {
 fn keys_of(alloc: Global, pointer: &str, keyword: &str) -> Made<Vec<String>> {
     let mut keys = Vec::new(alloc);
     for key in pointer.split('/').skip(1) {
-        let key = key.replace(alloc, "~1", "/")?;
-        keys.push(key.replace(alloc, "~0", "~")?)?;
+        keys.push(key.replace(alloc, "~1", "/")?.replace(alloc, "~0", "~")?)?;
     }
     if !keyword.is_empty() {
         keys.push(String::from_str(alloc, keyword)?)?;

@@ -92,9 +92,8 @@ fn entries_of<'a>(alloc: Global, named: &[Named<'a>], package: &Guarded) -> Made
             continue;
         };
         let source = first.source;
-        if file != Some(source.file) {
+        if file.replace(source.file) != Some(source.file) {
             positions = Positions::new(source.named.text);
-            file = Some(source.file);
         }
         let Position { line, column } = positions.at(first.here().start);
         entries.push(Entry {

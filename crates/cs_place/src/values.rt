@@ -113,8 +113,7 @@ fn put_steps(pointer: &mut String, open: &[Level<'_>]) -> Written {
 /// Puts a key with the escapes of pointers (RFC 6901, section 3).
 fn put_key(pointer: &mut String, key: &str) -> Written {
     let alloc = *pointer.allocator();
-    let key = key.replace(alloc, "~", "~0")?;
-    let key = key.replace(alloc, "/", "~1")?;
+    let key = key.replace(alloc, "~", "~0")?.replace(alloc, "/", "~1")?;
     pointer.push_str(key.as_str())
 }
 
