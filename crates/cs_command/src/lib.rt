@@ -12,7 +12,12 @@ use std::alloc::{AllocError, Global};
 /// their words. Sources are the values of `FILE`, and for `compare` of `old` and `new`, in the order of the words.
 pub fn command<'a>(alloc: Global) -> Result<Command<'a>, AllocError> {
     let commands = commands_of(alloc, &COMMANDS)?;
-    program(alloc, commands)
+    Command::new(alloc, "cue2schema")
+        .about("Compiles CUE definitions to JSON Schema 2020-12, and judges documents by both")
+        .version("0.1.0")
+        .after_help("Example: cue2schema export --root '#Port' port.cue > port.schema.json")
+        .subcommand_required(true)
+        .subcommands(commands)
 }
 
 /// The commands as clap has them.
@@ -23,16 +28,6 @@ fn commands_of<'a>(alloc: Global, rows: &[Subcommand]) -> Result<Vec<Command<'a>
         commands.push(command)?;
     }
     Ok(commands)
-}
-
-/// The program with these commands.
-fn program<'a>(alloc: Global, commands: Vec<Command<'a>>) -> Result<Command<'a>, AllocError> {
-    Command::new(alloc, "cue2schema")
-        .about("Compiles CUE definitions to JSON Schema 2020-12, and judges documents by both")
-        .version("0.1.0")
-        .after_help("Example: cue2schema export --root '#Port' port.cue > port.schema.json")
-        .subcommand_required(true)
-        .subcommands(commands)
 }
 
 /// Words under one name: where it is needed, any of them will do.
@@ -109,31 +104,29 @@ struct Word {
 impl Word {
     /// The word as clap has it.
     fn arg<'a>(self, alloc: Global) -> Result<Arg<'a>, AllocError> {
-        let arg = self
-            .with_values(self.named(alloc))
-            .required(self.is_required);
+        let arg = self.alone(alloc);
         let arg = arg.required_unless_present_any(self.required_unless)?;
         let arg = arg.conflicts_with_all(self.conflicts_with)?;
         arg.requires_all(self.needs)
     }
 
-    fn named<'a>(self, alloc: Global) -> Arg<'a> {
-        let arg = Arg::new(alloc, self.id).help(self.help);
-        match (self.long, self.short) {
-            (Some(long), Some(short)) => arg.long(long).short(short),
-            (Some(long), None) => arg.long(long),
-            (None, _) => arg,
-        }
-    }
-
-    fn with_values<'a>(self, arg: Arg<'a>) -> Arg<'a> {
+    /// The same, whatever stands beside it.
+    fn alone<'a>(self, alloc: Global) -> Arg<'a> {
         let (least, most) = self.values;
-        arg.action(self.action)
+        let arg = Arg::new(alloc, self.id)
+            .help(self.help)
+            .action(self.action)
             .value_names(self.value_names)
             .num_args(least..=most)
             .value_parser(self.value_parser)
             .allow_hyphen_values(self.takes_hyphens)
             .require_equals(!self.missing_values.is_empty())
             .default_missing_values(self.missing_values)
+            .required(self.is_required);
+        match (self.long, self.short) {
+            (Some(long), Some(short)) => arg.long(long).short(short),
+            (Some(long), None) => arg.long(long),
+            (None, _) => arg,
+        }
     }
 }
