@@ -38,10 +38,8 @@ pub fn show(rt: &HostRuntime, error: &clap::Error) -> Result<u8, Fault> {
         let _ = rt.stderr().write_all(text.as_bytes());
         return Ok(COMMAND_LINE);
     }
-    match error.print(rt) {
-        Ok(()) => Ok(0),
-        Err(_) => Err(Fault::WriteFailed),
-    }
+    error.print(rt).or(Err(Fault::WriteFailed))?;
+    Ok(0)
 }
 
 /// What `clap` says of a fault of the command line, whose words stand in it: each line as it is shown.

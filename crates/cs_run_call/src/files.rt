@@ -9,25 +9,18 @@ use std::io::ErrorKind;
 /// The name of standard input.
 pub const STANDARD_INPUT: &str = "-";
 
-/// The bytes of the sources, in the order of their paths. `SourcesTooLong` as soon as they are too long together.
+/// The bytes of the sources, in the order of their paths, or of standard input as the one source where there is none. `SourcesTooLong` as
+/// soon as they are too long together.
 pub fn read_sources(rt: &HostRuntime, paths: &[&str]) -> Result<Vec<Vec<u8>>, Fault> {
     let mut sources = Vec::new(rt.alloc());
     let mut room = MOST_BYTES;
-    for path in paths {
-        let source = read_all(rt, Some(path), room)?.ok_or(Fault::SourcesTooLong)?;
+    for place in 0..paths.len().max(1) {
+        let path = paths.get(place).copied();
+        let source = read_all(rt, path, room)?.ok_or(Fault::SourcesTooLong)?;
         room = room.saturating_sub(source.len());
         sources.push(source)?;
     }
     Ok(sources)
-}
-
-/// The bytes of the sources that the words name, or of standard input as the one source where they name none.
-pub fn given_sources(call: Call<'_, '_>) -> Result<Vec<Vec<u8>>, Fault> {
-    if let Some(paths) = call.words.get_strs("FILE") {
-        return read_sources(call.rt, paths);
-    }
-    let source = read_all(call.rt, None, MOST_BYTES)?.ok_or(Fault::SourcesTooLong)?;
-    Ok(vec![in call.alloc(); source]?)
 }
 
 /// The bytes of a schema or a document: of a file, or of standard input where none is named.
@@ -73,17 +66,11 @@ pub fn sources_of(rules: &Rules) -> &[Vec<u8>] {
 }
 
 /// The path of a file that isn't read, and why, in words that are empty where that isn't known.
-type Unread<'m> = Option<(&'m str, &'m str)>;
+type Unread<'m> = Option<(&'m str, &'static str)>;
 
-/// The file that a fault of reading is about: the first one of those that these words of the call name, in the order in which they are read, that
-/// can't be read or is too long. `None` for other faults, and where it isn't found again. A pipe isn't opened again, since that may wait.
-pub(crate) fn unread_file<'m>(call: Call<'m, '_>, fault: &Fault, words: &[&str]) -> Unread<'m> {
-    let mut words = words.iter();
-    words.find_map(|word| first_unread(call, fault, word))
-}
-
-/// The same among the files of one word.
-fn first_unread<'m>(call: Call<'m, '_>, fault: &Fault, word: &str) -> Unread<'m> {
+/// The file that a fault of reading is about: the first one that the word of the call names and that can't be read or is too long. `None` for
+/// other faults, and where it isn't found again. A pipe isn't opened again, since that may wait.
+pub(crate) fn unread_file<'m>(call: Call<'m, '_>, fault: &Fault, word: &str) -> Unread<'m> {
     for path in call.paths(word) {
         if let Some(cause) = cause_of(call.rt, fault, path) {
             return Some((*path, cause));

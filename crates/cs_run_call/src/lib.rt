@@ -11,9 +11,7 @@ use cs_reason_words::{Form, Format};
 use cs_reasons::Telling;
 use cs_tool::{Fault, Rules, slices_of, write_text};
 use cs_widen::{Profile, schema_stands_for_in, stands_for_in};
-pub use files::{
-    STANDARD_INPUT, given_sources, named_sources, named_text, read_input, read_sources, sources_of,
-};
+pub use files::{STANDARD_INPUT, named_sources, named_text, read_input, read_sources, sources_of};
 use std::alloc::Global;
 pub use told::{about_unread, or_told, over_meant, over_sources, tell_refusal};
 

@@ -1,10 +1,10 @@
 // Refusals of commands, told as their words ask for it.
-use crate::files::{STANDARD_INPUT, given_sources, named_sources, sizes_of, unread_file};
+use crate::files::{STANDARD_INPUT, named_sources, read_sources, sizes_of, unread_file};
 use crate::{Call, Status};
 use cs_fault_words::{About, Profile, why_refused, write_refusal_json};
 use cs_place::Named;
 use cs_reason_words::Form;
-use cs_tool::{Fault, slices_of, write_fault, write_fault_json};
+use cs_tool::{Fault, slices_of, write_fault, write_fault_json, write_text};
 use cs_widen::stands_for_in;
 use std::alloc::{AllocError, Global};
 use std::io::Write;
@@ -20,7 +20,7 @@ pub fn over_sources<A: FnOnce(&[&[u8]], &[Named<'_>]) -> Status>(
 ) -> Status
     requires { A.IsAlwaysCallable answer }
 {
-    let sources = given_sources(call)?;
+    let sources = read_sources(call.rt, call.paths("FILE"))?;
     let named = named_sources(call.alloc(), call.paths("FILE"), &sources)?;
     let texts = slices_of(call.alloc(), &sources)?;
     let about = About::of(&named, call.word("root"));
@@ -92,10 +92,7 @@ struct Teller<'m, 'w> {
 impl<'m> Teller<'m, '_> {
     /// Tells a refusal of what was read in the profile that the words ask for, or of what couldn't be read, and gives its status.
     fn tell(self, fault: &Fault, about: About<'_>) -> Status {
-        if matches!(
-            fault,
-            Fault::SourcesTooLong | Fault::ReadFailed | Fault::InputTooLong
-        ) {
+        if let Fault::SourcesTooLong | Fault::ReadFailed | Fault::InputTooLong = fault {
             return self.tell_unread(fault);
         }
         let profile = self.call.profile();
@@ -106,10 +103,11 @@ impl<'m> Teller<'m, '_> {
 
     /// The same of a call whose input wasn't read, with the file at fault.
     fn tell_unread(self, fault: &Fault) -> Status {
-        let found = match self.side {
-            Some(side) => unread_file(self.call, fault, &[side]),
-            None => unread_file(self.call, fault, &["schema", "FILE", "doc"]),
-        };
+        // In the order in which they are read.
+        let words = ["schema", self.side.unwrap_or("FILE"), "doc"];
+        let found = words
+            .iter()
+            .find_map(|word| unread_file(self.call, fault, word));
         let cause = found.map_or("", |(_, cause)| cause);
         let path = found.map(|(path, _)| path);
         let sizes = match (fault, path) {
@@ -155,8 +153,7 @@ impl<'m> Teller<'m, '_> {
         // What can't be written changes no status.
         let _ = write_fault(fault, &mut errors);
         if let Some(side) = self.side {
-            let _ = errors.write_all(side.as_bytes());
-            let _ = errors.write_all(b": ");
+            let _ = write!(errors, "{side}: ");
         }
         let _ = errors.write_all(why.as_bytes());
         Ok(())
@@ -165,21 +162,17 @@ impl<'m> Teller<'m, '_> {
     /// Writes the object of a refusal with what it means, as the member of its side.
     fn tell_object(self, fault: &Fault, about: About<'_>) -> Result<(), Fault> {
         let (alloc, names) = (self.call.alloc(), self.names());
+        let output = &mut self.call.rt.stdout();
         let Some(side) = self.side else {
-            return write_refusal_json(alloc, fault, names, about, &mut self.call.rt.stdout());
+            return write_refusal_json(alloc, fault, names, about, output);
         };
-        let mut object = b"{\"".to_vec(alloc)?;
-        object.extend_from_slice(side.as_bytes())?;
-        object.extend_from_slice(b"\":")?;
+        let mut object = format!(in alloc; "{{\"{side}\":")?.into_bytes();
         // Only memory stops a write to a list.
-        if write_refusal_json(alloc, fault, names, about, &mut object).is_err() {
-            return Err(Fault::OutOfMemory);
-        }
+        write_refusal_json(alloc, fault, names, about, &mut object).or(Err(Fault::OutOfMemory))?;
         let end = object.trim_ascii_end().len();
         object.truncate(end);
         object.extend_from_slice(b"}\n")?;
-        self.call.print(&object)?;
-        Ok(())
+        write_text(output, &object)
     }
 }
 
