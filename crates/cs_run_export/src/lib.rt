@@ -7,7 +7,7 @@ use crate::replaced::replace_file;
 use cs_export::{Layout, Profile, write_all_in, write_root_in};
 use cs_run_call::{Call, Status, about_unread, or_told, over_sources, read_sources};
 use cs_tool::{Fault, Request, run};
-use std::io::{ErrorKind, Write};
+use std::io::{ErrorKind, Write, empty};
 
 /// The status of `export`. A refusal is told where the words ask for it.
 pub fn export(call: Call<'_, '_>) -> Status {
@@ -25,23 +25,12 @@ fn is_shaped(call: Call<'_, '_>) -> bool {
     flags.iter().any(is_asked) || ["output", "profile"].iter().any(is_given)
 }
 
-/// How the words ask for a schema.
-fn layout_of(call: Call<'_, '_>) -> Layout {
-    Layout {
-        is_described: call.words.get_flag("describe"),
-        has_defaults: call.profile() == Profile::Wide,
-        is_openapi: call.words.get_flag("openapi"),
-        is_pretty: call.words.get_flag("pretty"),
-    }
-}
-
 /// The status of an export where nothing more is asked for.
 fn export_plainly(call: Call<'_, '_>) -> Status {
     let root = String::from_str(call.alloc(), call.word("root"))?;
     let files = read_sources(call.rt, call.paths("FILE"))?;
     let request = Request::Export { files, root };
-    let (input, output) = (&mut call.rt.stdin(), &mut call.rt.stdout());
-    run(call.alloc(), request, input, output)?;
+    run(call.alloc(), request, &mut empty(), &mut call.rt.stdout())?;
     Ok(0)
 }
 
@@ -69,7 +58,13 @@ fn put_schema<W: Write>(
     sources: &[&[u8]],
     output: &mut W,
 ) -> Result<(), Fault> {
-    let (alloc, profile, layout) = (call.alloc(), call.profile(), layout_of(call));
+    let (alloc, profile) = (call.alloc(), call.profile());
+    let layout = Layout {
+        is_described: call.words.get_flag("describe"),
+        has_defaults: profile == Profile::Wide,
+        is_openapi: call.words.get_flag("openapi"),
+        is_pretty: call.words.get_flag("pretty"),
+    };
     match call.words.get_str("root") {
         Some(root) => write_root_in(alloc, profile, sources, root, layout, output),
         None => write_all_in(alloc, profile, sources, layout, output),

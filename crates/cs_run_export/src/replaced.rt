@@ -13,20 +13,10 @@ pub(crate) fn replace_file(rt: &HostRuntime, path: &str, text: &[u8]) -> io::Res
             File::options().write(true).open(rt, path)?;
             replaced(rt, path, text, Some(&old))
         }
-        Ok(_) => written(rt, path, text),
+        Ok(_) => fs::write(rt, path, text),
         Err(error) if error.kind() == ErrorKind::NotFound => replaced(rt, path, text, None),
         Err(error) => Err(error),
     }
-}
-
-/// Writes a text into what is there, or what a link leads to.
-fn written(rt: &HostRuntime, path: &str, text: &[u8]) -> io::Result<()> {
-    let mut file = File::options()
-        .write(true)
-        .truncate(true)
-        .create(true)
-        .open(rt, path)?;
-    file.write_all(text)
 }
 
 /// Writes a text beside a file, and puts it in its place.
