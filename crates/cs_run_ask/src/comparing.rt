@@ -1,17 +1,17 @@
 // The command that compares two editions of a definition.
+use crate::judging::why_of;
 use cs_compare::{
     CompareRefusal, Comparison, Side, Told, compare as compare_sources, write_both,
     write_comparison,
 };
 use cs_fault_words::About;
-use cs_judge::{Prepared, TextJudge, Why, Written, prepare};
+use cs_judge::{Written, prepare};
 use cs_place::Named;
 use cs_reason_words::Form;
 use cs_run_call::{
-    Call, Reasons, Status, named_sources, named_text, read_sources, sources_of, tell_refusal,
+    Call, Status, named_sources, named_text, read_sources, sources_of, tell_refusal,
 };
-use cs_tool::{Fault, Rules, slices_of};
-use std::alloc::Global;
+use cs_tool::{Rules, slices_of};
 
 /// The status of `breaking`.
 const BREAKING: u8 = 1;
@@ -60,9 +60,8 @@ fn rules_of_both(call: Call<'_, '_>) -> Compared<(Rules, Rules)> {
 /// The rules of a side, read from its files.
 fn rules_of(call: Call<'_, '_>, side: Side) -> Compared<Rules> {
     let root = String::from_str(call.alloc(), root_of(call, side))?;
-    let sources = read_sources(call.rt, call.paths(word_of(side))).map_err(
-        |fault| CompareRefusal::of(side, fault),
-    )?;
+    let of_side = |fault| CompareRefusal::of(side, fault);
+    let sources = read_sources(call.rt, call.paths(word_of(side))).map_err(of_side)?;
     Ok(Rules::Root { sources, root })
 }
 
@@ -129,9 +128,11 @@ fn write_answers(call: Call<'_, '_>, before: Edition<'_>, after: Edition<'_>) ->
 /// Whether each document of an edition is one of the other edition, and where it is asked for why one isn't.
 fn told_answer(call: Call<'_, '_>, from: Edition<'_>, to: Edition<'_>) -> Compared<Told> {
     let alloc = call.alloc();
-    let comparison = comparison_of(alloc, from, to)?;
+    let admitting = slices_of(alloc, sources_of(from.rules))?;
+    let refusing = slices_of(alloc, sources_of(to.rules))?;
+    let comparison = compare_sources(alloc, &admitting, from.root, &refusing, to.root)?;
     let reasons = match (&comparison, call.reasons()) {
-        (Comparison::Breaking(shown), Some(reasons)) => reasons_of(alloc, shown, to, reasons)?,
+        (Comparison::Breaking(shown), Some(asked)) => reasons_of(call, shown, to, asked.form)?,
         _ => Vec::new(alloc),
     };
     Ok(Told {
@@ -140,64 +141,16 @@ fn told_answer(call: Call<'_, '_>, from: Edition<'_>, to: Edition<'_>) -> Compar
     })
 }
 
-/// Whether each document of an edition is one of the other edition.
-fn comparison_of(alloc: Global, from: Edition<'_>, to: Edition<'_>) -> Compared<Comparison> {
-    let admitting = slices_of(alloc, sources_of(from.rules))?;
-    let refusing = slices_of(alloc, sources_of(to.rules))?;
-    compare_sources(alloc, &admitting, from.root, &refusing, to.root)
-}
-
 /// What an edition tells of the text of a document that it refuses: the lines below the verdict, or the object without its newline.
-fn reasons_of(
-    alloc: Global,
-    shown: &[u8],
-    to: Edition<'_>,
-    reasons: Reasons,
-) -> Result<Vec<u8>, Fault> {
-    let written = Written::of(alloc, reasons.form, to.named)?;
-    told_by(alloc, shown, to.rules, &written, reasons)
-}
-
-/// The same from these sources. What is read of rules, and the judge, are large: what makes one hands it on, so that it is let go at one
-/// place.
-fn told_by(
-    alloc: Global,
-    shown: &[u8],
-    rules: &Rules,
-    sources: &Written<'_>,
-    reasons: Reasons,
-) -> Result<Vec<u8>, Fault> {
-    let Reasons { form, telling } = reasons;
-    let why = Why {
-        sources,
-        form,
-        telling,
-    };
-    let prepared = prepare(alloc, rules)?;
-    told_of(alloc, shown, &prepared, why)
-}
-
-/// The same by rules that were read.
-fn told_of(
-    alloc: Global,
-    shown: &[u8],
-    prepared: &Prepared<'_>,
-    why: Why<'_>,
-) -> Result<Vec<u8>, Fault> {
+fn reasons_of(call: Call<'_, '_>, shown: &[u8], to: Edition<'_>, form: Form) -> Compared<Vec<u8>> {
+    let alloc = call.alloc();
+    let sources = Written::of(alloc, form, to.named)?;
+    let prepared = prepare(alloc, to.rules)?;
     let mut judge = prepared.judge(alloc)?;
-    told_from(alloc, shown, &mut judge, why)
-}
-
-/// The same from a judge.
-fn told_from(
-    alloc: Global,
-    shown: &[u8],
-    judge: &mut TextJudge<'_>,
-    why: Why<'_>,
-) -> Result<Vec<u8>, Fault> {
     let mut told = Vec::new(alloc);
-    judge.explain(named_text("document", shown), Some(why), &mut told)?;
-    let bare = match why.form {
+    let why = why_of(call, &sources);
+    judge.explain(named_text("document", shown), why, &mut told)?;
+    let bare = match form {
         Form::Object(_) => told.trim_ascii_end(),
         Form::Lines => told.strip_prefix(b"invalid\n").unwrap_or(&told),
     };

@@ -1,14 +1,11 @@
 // The commands that judge documents.
 use cs_fault_words::About;
-use cs_judge::{
-    LinesOutcome, TextJudge, Why, Written, prepare, run_document, run_lines, write_document,
-    write_unread,
-};
+use cs_judge::{Why, Written, prepare, run_document, run_lines, write_document, write_unread};
 use cs_place::{Label, Made, Named};
-use cs_reason_words::Form;
+use cs_reason_words::{Form, Format};
 use cs_run_call::{
-    Call, Reasons, STANDARD_INPUT, Status, given_sources, named_sources, named_text, or_told,
-    read_input, sources_of,
+    Call, Reasons, STANDARD_INPUT, Status, named_sources, named_text, or_told, read_input,
+    read_sources, sources_of,
 };
 use cs_tool::{Fault, Rules};
 use std::alloc::Global;
@@ -17,8 +14,6 @@ use std::io::Read;
 
 /// The status of `invalid`.
 const INVALID: u8 = 1;
-/// The status where a document was refused.
-const REFUSED: u8 = 2;
 /// The status where a file could not be read.
 const UNREAD: u8 = 4;
 
@@ -48,7 +43,7 @@ fn rules_of(call: Call<'_, '_>, command: &str) -> Result<Rules, Fault> {
         return Ok(Rules::Schema { schema });
     }
     let root = String::from_str(call.alloc(), call.word("root"))?;
-    let sources = given_sources(call)?;
+    let sources = read_sources(call.rt, call.paths("FILE"))?;
     Ok(match command {
         "agree" => Rules::Both { sources, root },
         _ => Rules::Root { sources, root },
@@ -67,10 +62,7 @@ fn document_of(call: Call<'_, '_>) -> Result<Option<Vec<u8>>, Fault> {
 fn judge_read(call: Call<'_, '_>, rules: &Rules, text: Option<&[u8]>) -> Status {
     let sources = named_sources(call.alloc(), call.paths("FILE"), sources_of(rules))?;
     let name = call.words.get_str("doc").unwrap_or(STANDARD_INPUT);
-    let document = match text {
-        Some(text) => Some(named_text(name, text)),
-        None => None,
-    };
+    let document = text.map(|text| named_text(name, text));
     let schema = match rules {
         Rules::Schema { schema } => Some(named_text(call.word("schema"), schema)),
         Rules::Root { .. } | Rules::Both { .. } => None,
@@ -80,29 +72,25 @@ fn judge_read(call: Call<'_, '_>, rules: &Rules, text: Option<&[u8]>) -> Status 
         document,
         ..About::of(&sources, call.word("root"))
     };
-    let answer = match call.meant_rules(rules) {
-        Ok(meant) => judge_meant(call, meant.as_ref().unwrap_or(rules), &sources, document),
-        Err(fault) => Err(fault),
-    };
-    or_told(call, about, answer)
+    or_told(call, about, judge_meant(call, rules, &sources, document))
 }
 
-/// The status by rules that are meant, which were read from these sources. They are looked at again where reasons are asked for.
+/// The status by what rules mean, which were read from these sources.
 fn judge_meant(
     call: Call<'_, '_>,
     rules: &Rules,
     sources: &[Named<'_>],
     document: Option<Named<'_>>,
 ) -> Status {
-    let (form, told): (Form, &[Named<'_>]) = match call.reasons() {
-        Some(reasons) => (reasons.form, sources),
-        None => (Form::Lines, &[]),
-    };
-    let written = Written::of(call.alloc(), form, told)?;
-    judge_by(call, rules, &written, document)
+    let meant = call.meant_rules(rules)?;
+    // Where no reasons are asked for, nothing is told of the sources, as in `flag`.
+    let form = call.told_form().unwrap_or(Form::Object(Format::Flag));
+    let written = Written::of(call.alloc(), form, sources)?;
+    judge_by(call, meant.as_ref().unwrap_or(rules), &written, document)
 }
 
-/// The status of the one document, or where there is none of those that the words name. Reasons are told from these sources.
+/// The status of the one document, or where there is none of those that the words name. These are opened before the rules are looked at.
+/// Reasons are told from these sources.
 fn judge_by(
     call: Call<'_, '_>,
     rules: &Rules,
@@ -110,11 +98,23 @@ fn judge_by(
     document: Option<Named<'_>>,
 ) -> Status {
     let why = why_of(call, sources);
-    Judging { call, rules, why }.judge(document)
+    let judging = Judging { call, rules, why };
+    if let Some(document) = document {
+        return judging.judge_document(document);
+    }
+    if let Some(paths) = call.words.get_strs("docs") {
+        let labels = labels_of(call.alloc(), paths)?;
+        return judging.judge_files(&labels);
+    }
+    let Some(path) = call.words.get_str("doc") else {
+        return judging.judge_lines(STANDARD_INPUT, &mut call.rt.stdin());
+    };
+    let mut file = File::open(call.rt, path).map_err(|_| Fault::ReadFailed)?;
+    judging.judge_lines(path, &mut file)
 }
 
 /// How the words ask for reasons, which are told from these sources.
-fn why_of<'a>(call: Call<'_, '_>, sources: &'a Written<'a>) -> Option<Why<'a>> {
+pub(crate) fn why_of<'a>(call: Call<'_, '_>, sources: &'a Written<'a>) -> Option<Why<'a>> {
     let Reasons { form, telling } = call.reasons()?;
     Some(Why {
         sources,
@@ -132,23 +132,6 @@ struct Judging<'m, 'w, 'r, 'y> {
 }
 
 impl Judging<'_, '_, '_, '_> {
-    /// The status of the one document, or where there is none of those that the words name. These are opened before the rules are looked at.
-    fn judge(self, document: Option<Named<'_>>) -> Status {
-        let Judging { call, .. } = self;
-        if let Some(document) = document {
-            return self.judge_document(document);
-        }
-        if let Some(paths) = call.words.get_strs("docs") {
-            let labels = labels_of(call.alloc(), paths)?;
-            return self.judge_files(&labels);
-        }
-        let Some(path) = call.words.get_str("doc") else {
-            return self.judge_lines(STANDARD_INPUT, &mut call.rt.stdin());
-        };
-        let mut file = File::open(call.rt, path).map_err(|_| Fault::ReadFailed)?;
-        self.judge_lines(path, &mut file)
-    }
-
     /// The status of the one document.
     fn judge_document(self, document: Named<'_>) -> Status {
         let Judging { call, rules, why } = self;
@@ -166,34 +149,29 @@ impl Judging<'_, '_, '_, '_> {
         let prepared = prepare(alloc, rules)?;
         let judge = prepared.judge(alloc)?;
         let outcome = run_lines(alloc, judge, name, why, input, output, notes)?;
-        Ok(status_of(outcome))
+        Ok(outcome as u8)
     }
 
     /// The status after the files of these labels.
     fn judge_files(self, labels: &[Label<'_>]) -> Status {
-        let alloc = self.call.alloc();
-        let prepared = prepare(alloc, self.rules)?;
+        let Judging { call, rules, why } = self;
+        let (alloc, output) = (call.alloc(), &mut call.rt.stdout());
+        let prepared = prepare(alloc, rules)?;
         let mut judge = prepared.judge(alloc)?;
         let mut status = 0;
         for label in labels {
-            status = status.max(self.judge_file(&mut judge, label)?);
+            let outcome = match read_input(call.rt, Some(label.name())) {
+                Ok(text) => write_document(alloc, &mut judge, &text, label, why, output)?,
+                Err(fault) => {
+                    if matches!(fault, Fault::ReadFailed) {
+                        status = UNREAD;
+                    }
+                    write_unread(alloc, fault, label, why, output)?
+                }
+            };
+            status = status.max(outcome as u8);
         }
         Ok(status)
-    }
-
-    /// The status after a file's document.
-    fn judge_file(self, judge: &mut TextJudge<'_>, label: &Label<'_>) -> Status {
-        let Judging { call, why, .. } = self;
-        let (alloc, output) = (call.alloc(), &mut call.rt.stdout());
-        let outcome = match read_input(call.rt, Some(label.name())) {
-            Ok(text) => write_document(alloc, judge, &text, label, why, output)?,
-            Err(Fault::ReadFailed) => {
-                write_unread(alloc, Fault::ReadFailed, label, why, output)?;
-                return Ok(UNREAD);
-            }
-            Err(fault) => write_unread(alloc, fault, label, why, output)?,
-        };
-        Ok(status_of(outcome))
     }
 }
 
@@ -204,12 +182,4 @@ fn labels_of<'a>(alloc: Global, paths: &[&'a str]) -> Made<Vec<Label<'a>>> {
         labels.push(Label::of(alloc, path)?)?;
     }
     Ok(labels)
-}
-
-fn status_of(outcome: LinesOutcome) -> u8 {
-    match outcome {
-        LinesOutcome::AllValid => 0,
-        LinesOutcome::SomeInvalid => INVALID,
-        LinesOutcome::SomeRefused => REFUSED,
-    }
 }

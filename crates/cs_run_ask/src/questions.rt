@@ -59,10 +59,9 @@ fn check_schema(call: Call<'_, '_>, path: &str) -> Status {
 fn write_findings(call: Call<'_, '_>, findings: &Findings, is_strict: bool) -> Status {
     call.print(findings.lines.as_bytes())?;
     Ok(match findings.checked {
-        Checked::Well => 0,
-        Checked::Warned if is_strict => WARNED,
-        Checked::Warned => 0,
         Checked::Faulty => FAULTY,
+        Checked::Warned if is_strict => WARNED,
+        Checked::Well | Checked::Warned => 0,
     })
 }
 
@@ -154,16 +153,13 @@ fn fault_of(fault: QuestionFault) -> Fault {
 /// are written as were asked for, more may be asked for.
 fn left_of(alloc: Global, found: &SampleTexts, most: usize) -> Result<String, AllocError> {
     let mut left = String::new(alloc);
-    if found.more > 0 {
-        let front = if found.is_complete { "" } else { "at least " };
-        write!(left, "{front}{} more; --most N tells more\n", found.more)?;
-    } else if !found.is_complete {
-        let end = if found.texts.len() >= most {
-            "--most N tells more"
-        } else {
-            "a limit was met"
-        };
-        write!(left, "maybe more; {end}\n")?;
+    let is_full = found.texts.len() >= most;
+    match (found.more, found.is_complete) {
+        (0, true) => {}
+        (0, false) if is_full => left.push_str("maybe more; --most N tells more\n")?,
+        (0, false) => left.push_str("maybe more; a limit was met\n")?,
+        (more, true) => write!(left, "{more} more; --most N tells more\n")?,
+        (more, false) => write!(left, "at least {more} more; --most N tells more\n")?,
     }
     if found.untried > 0 {
         write!(left, "rules without a document: {}\n", found.untried)?;
