@@ -20,15 +20,15 @@ use std::marker::Model;
 /// The line of an answer has at most these bytes: a number of 10 digits, and 7 bytes round it.
 const ANSWER_ROOM: usize = 32;
 
-/// What came of texts that were judged one after another.
+/// What came of texts that were judged one after another. Its number is the status of a program that judges them.
 #[derive(Clone, Copy)]
 pub enum LinesOutcome {
     /// Each is valid.
-    AllValid,
+    AllValid = 0,
     /// None is refused, and one at least is invalid.
-    SomeInvalid,
+    SomeInvalid = 1,
     /// One at least is refused.
-    SomeRefused,
+    SomeRefused = 2,
 }
 
 impl LinesOutcome {
@@ -152,10 +152,14 @@ fn write_told<W: Write>(
     ensures { IfOk answer.now (λ b. IsTold form b told.now) → WritesSome result (W.contents output.old) (W.contents output.new)
         (IsWrittenOf form label.now answer.now) }
 {
+    let mut room = [0u8; MEMBER_ROOM];
     match form {
         None => write_line(answer, label, told, output),
         Some(Form::Lines) => write_line(answer, label, told, output),
-        Some(Form::Object(_)) => write_object(alloc, answer, label.name(), told, output),
+        Some(Form::Object(_)) => {
+            let members = members_of(answer, told, &mut room);
+            write_object(alloc, label.name(), members, output)
+        }
     }
 }
 
@@ -163,38 +167,21 @@ fn write_told<W: Write>(
 fn write_line<W: Write>(answer: &Judged, label: &Label<'_>, told: &[u8], output: &mut W) -> Done
     ensures { Writes result (W.contents output.old) (W.contents output.new) (behind label.now (told_line answer.now told.now)) }
 {
+    let mut room = [0u8; ANSWER_ROOM];
+    write_part(output, label.shown().as_bytes())?;
+    write_part(output, b": ")?;
     match answer {
-        Ok(_) => write_behind(label, told, output),
-        Err(_) => {
-            let mut room = [0u8; ANSWER_ROOM];
-            write_behind(label, line_of(answer, &mut room), output)
-        }
+        Ok(_) => write_text(output, told),
+        Err(_) => write_text(output, line_of(answer, &mut room)),
     }
 }
 
-/// Writes a text behind a label; then flushes.
-fn write_behind<W: Write>(label: &Label<'_>, told: &[u8], output: &mut W) -> Done
-    ensures { Writes result (W.contents output.old) (W.contents output.new) (behind label.now told.now) }
+/// Writes these members behind the front of the object of a document of that name; then flushes.
+fn write_object<W: Write>(alloc: Global, name: &str, members: &[u8], output: &mut W) -> Done
+    ensures { WritesSome result (W.contents output.old) (W.contents output.new) (IsBehindFront name.now members.now) }
 {
-    write_part(output, label.shown().as_bytes())?;
-    write_part(output, b": ")?;
-    write_text(output, told)
-}
-
-/// Writes the object of an answer, whose name is its first member; then flushes.
-fn write_object<W: Write>(
-    alloc: Global,
-    answer: &Judged,
-    name: &str,
-    told: &[u8],
-    output: &mut W,
-) -> Done
-    ensures { WritesSome result (W.contents output.old) (W.contents output.new)
-        (IsBehindFront name.now (members_text answer.now told.now)) }
-{
-    let mut room = [0u8; MEMBER_ROOM];
     write_front(alloc, name, output)?;
-    write_text(output, members_of(answer, told, &mut room))
+    write_text(output, members)
 }
 
 /// Writes what the object of a document of that name begins with. The name is left out where memory runs out.

@@ -14,7 +14,7 @@ use cs_reason_words::Form;
 use cs_tool::{Fault, MEMBER_ROOM, MOST_INPUT_BYTES, put};
 use itoa::Buffer;
 use memchr::memchr;
-use std::alloc::{AllocError, Global};
+use std::alloc::Global;
 use std::io::{Read, Write};
 
 /// How many bytes are asked for at a time.
@@ -62,7 +62,17 @@ pub fn run_lines<R: Read, W: Write, E: Write>(
     ensures unread { IfErr result (λ e. IsOfRules e → (input.new ≡ input.old) × (output.new ≡ output.old)) }
     ensures only { IfErr result (λ e. (e ≡ Fault.OutOfMemory) ⊎ (e ≡ Fault.ReadFailed) ⊎ (e ≡ Fault.WriteFailed)) }
 {
-    let mut run = LineRun::new(alloc, name)?;
+    let bytes = Vec::new(alloc);
+    let (text, line, kept) = (b"", 1, Kept::All);
+    let held = HeldAnswers::new(alloc)?;
+    let mut run = LineRun {
+        begun: BegunLine { bytes, kept },
+        held,
+        outcome: LinesOutcome::AllValid,
+        line: Named { name, text, line },
+        told: Vec::new(alloc),
+        notes: HeldAnswers::new(alloc)?,
+    };
     let mut chunk = vec![in alloc; 0u8; CHUNK]?;
     answer_chunks(&mut judge, &mut run, why, &mut chunk, input, output, notes)
 }
@@ -101,26 +111,7 @@ fn answer_chunks<R: Read, W: Write, E: Write>(
     Err(Fault::ReadFailed)
 }
 
-impl<'a> LineRun<'a> {
-    /// A run before its first line.
-    fn new(alloc: Global, name: &'a str) -> Result<LineRun<'a>, AllocError>
-        ensures begun { IfOk result (λ r. HoldsFront r.begun []) }
-        ensures held { IfOk result (λ r. r.held ≡ []) }
-        ensures outcome { IfOk result (λ r. r.outcome ≡ LinesOutcome.AllValid) }
-        ensures first { IfOk result (λ r. r.line.line ≡ 1) }
-    {
-        let (bytes, kept) = (Vec::new(alloc), Kept::All);
-        let (text, line) = (b"", 1);
-        Ok(LineRun {
-            begun: BegunLine { bytes, kept },
-            held: HeldAnswers::new(alloc)?,
-            outcome: LinesOutcome::AllValid,
-            line: Named { name, text, line },
-            told: Vec::new(alloc),
-            notes: HeldAnswers::new(alloc)?,
-        })
-    }
-
+impl LineRun<'_> {
     /// Answers each line that ends in the chunk, and keeps the front of the line after them.
     fn answer_chunk<W: Write, E: Write>(
         &mut self,
@@ -161,10 +152,11 @@ impl<'a> LineRun<'a> {
         let answer = self
             .begun
             .finish(judge, piece, self.line, why, &mut self.told);
-        let outcome = outcome_of(&answer);
-        self.outcome = self.outcome.with(outcome);
+        self.outcome = self.outcome.with(outcome_of(&answer));
         let form = form_of(why);
-        note(&mut self.notes, form, &self.told, notes)?;
+        // What is told in the other forms doesn't begin so.
+        let reasons = self.told.strip_prefix(verdict_line(false)).unwrap_or(b"");
+        self.notes.hold_text(reasons, notes)?;
         let number = self.line.line;
         self.line.line = number.saturating_add(1);
         hold_told(&mut self.held, form, number, &answer, &self.told, output)
@@ -186,19 +178,6 @@ impl<'a> LineRun<'a> {
         }
         self.notes.write_out(notes)?;
         self.held.write_out(output)
-    }
-}
-
-/// Holds the reasons of a line, in lines.
-fn note<E: Write>(held: &mut HeldAnswers, form: Option<Form>, told: &[u8], notes: &mut E) -> Done
-    ensures kind { OnErr result (result ≡ Err Fault.WriteFailed) }
-{
-    match form {
-        Some(Form::Lines) => {
-            let reasons = told.strip_prefix(verdict_line(false));
-            held.hold_text(reasons.unwrap_or(b""), notes)
-        }
-        None | Some(Form::Object(_)) => Ok(()),
     }
 }
 
@@ -260,10 +239,7 @@ impl BegunLine {
         ensures tells { (front : List ℕ) → HoldsFront self.now front → IsTrue result ↔ (front ≡ []) }
         ensures begun { IsTrue result → HoldsFront self.now [] }
     {
-        match self.kept {
-            Kept::All => self.bytes.is_empty(),
-            _ => false,
-        }
+        matches!(self.kept, Kept::All) && self.bytes.is_empty()
     }
 
     /// Takes the next piece of the line. Where it can't be kept, no more is.

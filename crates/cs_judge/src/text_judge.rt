@@ -63,7 +63,6 @@ impl<'a> Model for Prepared<'a> {
 
 /// Judges texts one after another by the same rules. Its buffers and its table are used again.
 pub struct TextJudge<'a> {
-    alloc: Global,
     rules: &'a Rules,
     numbered: NumberedRules<'a>,
     scratch: Scratch,
@@ -73,7 +72,6 @@ pub struct TextJudge<'a> {
 impl Drop for TextJudge<'_> {
     fn drop(self) {
         let TextJudge {
-            alloc: _,
             rules: _,
             numbered: _,
             scratch: _,
@@ -111,14 +109,12 @@ pub fn prepare<'a>(alloc: Global, rules: &'a Rules) -> Result<Prepared<'a>, Faul
 {
     let read = match rules {
         Rules::Root { sources, root } => {
-            let sources = slices_of(alloc, sources)?;
-            let guarded = read_root(alloc, &sources, root)?;
+            let guarded = read_root(alloc, &slices_of(alloc, sources)?, root)?;
             ReadRules::Root(guarded, root)
         }
         Rules::Schema { schema } => ReadRules::Schema(read_schema_text(alloc, schema)?),
         Rules::Both { sources, root } => {
-            let sources = slices_of(alloc, sources)?;
-            let (guarded, schema) = read_both(alloc, &sources, root)?;
+            let (guarded, schema) = read_both(alloc, &slices_of(alloc, sources)?, root)?;
             ReadRules::Both(guarded, root, schema)
         }
     };
@@ -131,37 +127,22 @@ impl Prepared<'_> {
         ensures rules { IfOk result (λ j. j ≡ self.now) }
         ensures memory { IsOkUnless result Fault.OutOfMemory }
     {
-        let rules = self.rules;
-        let numbered = number_rules(alloc, rules, &self.read)?;
+        let numbered = match &self.read {
+            ReadRules::Root(guarded, root) => {
+                NumberedRules::Root(number_root(alloc, guarded, root)?)
+            }
+            ReadRules::Schema(schema) => NumberedRules::Schema(number_schema(alloc, schema)?),
+            ReadRules::Both(guarded, root, schema) => {
+                let root_side = number_root(alloc, guarded, root)?;
+                NumberedRules::Both(root_side, number_schema(alloc, schema)?)
+            }
+        };
         Ok(TextJudge {
-            alloc,
-            rules,
+            rules: self.rules,
             numbered,
             scratch: Scratch::new(alloc),
             table: Verdicts::new(alloc),
         })
-    }
-}
-
-fn number_rules<'a>(
-    alloc: Global,
-    rules: &Rules,
-    read: &'a ReadRules<'a>,
-) -> Result<NumberedRules<'a>, Fault>
-    requires { IsReadOf rules.now read.now }
-    ensures found { IfOk result (λ n. AreNumbersOf rules.now n) }
-    ensures memory { IsOkUnless result Fault.OutOfMemory }
-{
-    match read {
-        ReadRules::Root(guarded, root) => {
-            Ok(NumberedRules::Root(number_root(alloc, guarded, root)?))
-        }
-        ReadRules::Schema(schema) => Ok(NumberedRules::Schema(number_schema(alloc, schema)?)),
-        ReadRules::Both(guarded, root, schema) => {
-            let root_side = number_root(alloc, guarded, root)?;
-            let schema_side = number_schema(alloc, schema)?;
-            Ok(NumberedRules::Both(root_side, schema_side))
-        }
     }
 }
 
@@ -186,7 +167,7 @@ impl TextJudge<'_> {
         ensures told { IfOk result (λ b. Tells (asked_form why.entry) b output.old.items output.new.items) }
         ensures kept { OnErr result (output.new.items ≡ output.old.items) }
     {
-        let mut report = Vec::new(self.alloc);
+        let mut report = Vec::new(*output.allocator());
         let truth = self.answer(document, why, &mut report)?;
         tell(form_of(why), truth, &report, output)?;
         Ok(truth)
@@ -197,7 +178,8 @@ impl TextJudge<'_> {
         ensures verdict { IsCallVerdict (call_on self.old document.entry.text.now) (asked_form why.entry) report.old.items report.new.items result }
         ensures same { self.new ≡ self.old }
     {
-        let (alloc, rules, table) = (self.alloc, &self.numbered, &mut self.table);
+        let alloc = *report.allocator();
+        let (rules, table) = (&self.numbered, &mut self.table);
         match read_document(alloc, document.text, &mut self.scratch)? {
             Document::Listed(flat) => verdict(alloc, rules, document, &flat, why, table, report),
             Document::Tree(doc) => {
@@ -212,8 +194,7 @@ impl TextJudge<'_> {
 pub(crate) fn form_of(why: Option<Why<'_>>) -> Option<Form>
     ensures { result ≡ asked_form why.entry }
 {
-    let why = why?;
-    Some(why.form)
+    Some(why?.form)
 }
 
 /// The line of a verdict.

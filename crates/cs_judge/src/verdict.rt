@@ -67,8 +67,7 @@ enum Told<'a> {
 impl Drop for Told<'_> {
     fn drop(self) {
         match self {
-            Told::Root(_, _) => {}
-            Told::Schema(_, _) => {}
+            Told::Root(_, _) | Told::Schema(_, _) => {}
         }
     }
 }
@@ -95,9 +94,7 @@ pub(crate) fn verdict(
     match rules {
         NumberedRules::Root(rules) => Side::Root(rules).verdict(case, table, report),
         NumberedRules::Schema(rules) => Side::Schema(rules).verdict(case, table, report),
-        NumberedRules::Both(root_side, schema_side) => {
-            both_verdicts(root_side, schema_side, case, table, report)
-        }
+        NumberedRules::Both(root, schema) => both_verdicts(root, schema, case, table, report),
     }
 }
 
@@ -239,8 +236,7 @@ impl Told<'_> {
         match self {
             Told::Root(_, Some(reasons)) => (reasons.count, reasons.told.len()),
             Told::Schema(_, Explanation::Invalid(reasons)) => (reasons.count, reasons.told.len()),
-            Told::Root(_, None) => (0, 0),
-            Told::Schema(_, Explanation::Valid | Explanation::Untold) => (0, 0),
+            _ => (0, 0),
         }
     }
 }

@@ -30,4 +30,4 @@ returns-in-Some-Lines g c =
 
 pub returns-in-Some-Object : goal.returns-in-Some-Object
 returns-in-Some-Object g c =
-    rw c.in-Some-Object.is (in_object c.write_object.result _ _ c.args.label.now c.args.told.now c.args.answer.now _ c.name.ensures c.in-Some-Object.field-0 _ (rw c.in-Some-Object.is at c.in-Some-Object.field-0-is) c.write_object.ensures)
+    rw c.in-Some-Object.is (in_object c.write_object.result _ _ c.args.label.now c.args.told.now c.args.answer.now _ c.name.ensures c.in-Some-Object.field-0 _ (rw c.in-Some-Object.is at c.in-Some-Object.field-0-is) (rw c.members_of-members.ensures at c.write_object.ensures))

@@ -6,8 +6,8 @@ use Rattle.cs_judge.proofs.LineLists.{on_ok, on_err, on_error}
 use Rattle.cs_judge.proofs.LineRuns.{one_more, more_cut_off, none_written}
 use Rattle.cs_judge.proofs.lines.LineRun.answer_line.Goals as goal
 
-pub returns-in_err-note-clause-line : goal.returns-in_err-note-clause-line
-returns-in_err-note-clause-line g c = record {
+pub returns-in_err-hold_text-clause-line : goal.returns-in_err-hold_text-clause-line
+returns-in_err-hold_text-clause-line g c = record {
   all = search rules;
   front = λ start lines front a begun.
       let form = asked_form c.args.why in
@@ -28,7 +28,7 @@ returns-clause-line g c =
     let old = g.W.Write.contents c.args.output.now in
     let new = g.W.Write.contents c.hold_told.new.output in
     let is_told = all_told form answer _ _ c.deref-2.result.now c.clear.ensures.items c.deref-2.ensures.value told.told in
-    let outcome = c.with-self.ensures ∙ ap (worse c.args.self.now.outcome) c.outcome_of-outcome.ensures in
+    let outcome = c.with-self.ensures ∙ ap (worse c.args.self.now.outcome) c.outcome_of.ensures in
     let holds = rw c.form_of-form.ensures at c.hold_told.ensures in record {
       all = λ start lines front a begun.
           on_ok c.hold_told.result (λ h. one_more c.args.judge.now start _ _ lines (front ++ c.args.piece.now) answer h.0 c.args.self.now a (told.answer front begun) h.1 _ h.2 outcome c.saturating_add-self.ensures) (holds is_told).all;
