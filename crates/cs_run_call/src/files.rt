@@ -66,11 +66,17 @@ pub fn sources_of(rules: &Rules) -> &[Vec<u8>] {
 }
 
 /// The path of a file that isn't read, and why, in words that are empty where that isn't known.
-type Unread<'m> = Option<(&'m str, &'static str)>;
+type Unread<'m> = Option<(&'m str, &'m str)>;
 
-/// The file that a fault of reading is about: the first one that the word of the call names and that can't be read or is too long. `None` for
-/// other faults, and where it isn't found again. A pipe isn't opened again, since that may wait.
-pub(crate) fn unread_file<'m>(call: Call<'m, '_>, fault: &Fault, word: &str) -> Unread<'m> {
+/// The file that a fault of reading is about: the first one of those that these words of the call name, in the order in which they are read, that
+/// can't be read or is too long. `None` for other faults, and where it isn't found again. A pipe isn't opened again, since that may wait.
+pub(crate) fn unread_file<'m>(call: Call<'m, '_>, fault: &Fault, words: &[&str]) -> Unread<'m> {
+    let mut words = words.iter();
+    words.find_map(|word| first_unread(call, fault, word))
+}
+
+/// The same among the files of one word.
+fn first_unread<'m>(call: Call<'m, '_>, fault: &Fault, word: &str) -> Unread<'m> {
     for path in call.paths(word) {
         if let Some(cause) = cause_of(call.rt, fault, path) {
             return Some((*path, cause));

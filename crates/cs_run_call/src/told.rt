@@ -103,11 +103,8 @@ impl<'m> Teller<'m, '_> {
 
     /// The same of a call whose input wasn't read, with the file at fault.
     fn tell_unread(self, fault: &Fault) -> Status {
-        // In the order in which they are read.
         let words = ["schema", self.side.unwrap_or("FILE"), "doc"];
-        let found = words
-            .iter()
-            .find_map(|word| unread_file(self.call, fault, word));
+        let found = unread_file(self.call, fault, &words);
         let cause = found.map_or("", |(_, cause)| cause);
         let path = found.map(|(path, _)| path);
         let sizes = match (fault, path) {
