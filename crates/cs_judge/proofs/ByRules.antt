@@ -13,7 +13,7 @@ use Rattle.cs_judge.specs.Judged.{call_on, IsOf}
 use Rattle.cs_judge.specs.Prepared.{IsReadOf, AreNumbersOf}
 use Rattle.cs_judge.specs.Verdicts.{IsVerdict, IsReadAs, IsCallVerdict}
 use Rattle.cs_tool.specs.Runs.{agree}
-use Rattle.cs_tool.specs.Sides.{AreSidesOf}
+use Rattle.cs_tool.specs.Sides.{IsSchemaOf, AreSidesOf}
 use Rattle.cs_tool.specs.declared.fault.Fault.{Fault}
 use Rattle.cs_tool.specs.declared.fault.Fault.TheVariants.{OutOfMemory}
 use Rattle.cs_tool.specs.declared.rules.Rules.{Rules}
@@ -64,6 +64,21 @@ pub both_read : (R : Rules) (E : Environment) (r : Bor (List ℕ)) (s : SchemaDo
 both_read (rules.Both sources root) E r s is = let same : r.now ≡ string_bytes root = is.0 in rw same (_, is.1.0, is.1.1.declares)
 both_read (rules.Root sources root) E r s is = absurd is
 both_read (rules.Schema schema) E r s is = absurd is
+
+pub root_numbered : (R : Rules) (E : Environment) (r : Bor (List ℕ)) (root_side : Environment × List ℕ) → IsReadOf R (read.Root E r)
+    → ((ss : List (List ℕ)) (n : List ℕ) → DeclaresRoot ss r.now E n → DeclaresRoot ss r.now root_side.0 root_side.1) → AreNumbersOf R (numbered.Root root_side)
+root_numbered (rules.Root sources root) E r root_side is found =
+    let named : r.now ≡ string_bytes root = is.0 in
+    let ss = map (λ f. f.items) sources.items in
+    let declares = found ss is.1.0 (subst (λ n. DeclaresRoot ss n E is.1.0) (sym named) is.1.1) in
+    subst (λ n. DeclaresRoot ss n root_side.0 root_side.1) named declares
+root_numbered (rules.Schema schema) E r root_side is found = absurd is
+root_numbered (rules.Both sources root) E r root_side is found = absurd is
+
+pub schema_numbered : (R : Rules) (s : SchemaDoc) (schema_side : Document) → IsReadOf R (read.Schema s) → schema_side ≡ document_of s → AreNumbersOf R (numbered.Schema schema_side)
+schema_numbered (rules.Schema schema) s schema_side is same = subst (IsSchemaOf schema.items) (sym same) is
+schema_numbered (rules.Root sources root) s schema_side is same = absurd is
+schema_numbered (rules.Both sources root) s schema_side is same = absurd is
 
 pub both_numbered : (R : Rules) (E : Environment) (r : Bor (List ℕ)) (s : SchemaDoc) (root_side : Environment × List ℕ) (schema_side : Document) → IsReadOf R (read.Both E r s)
     → ((ss : List (List ℕ)) (n : List ℕ) → DeclaresRoot ss r.now E n → DeclaresRoot ss r.now root_side.0 root_side.1) → schema_side ≡ document_of s

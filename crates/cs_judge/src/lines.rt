@@ -154,9 +154,7 @@ impl LineRun<'_> {
             .finish(judge, piece, self.line, why, &mut self.told);
         self.outcome = self.outcome.with(outcome_of(&answer));
         let form = form_of(why);
-        // What is told in the other forms doesn't begin so.
-        let reasons = self.told.strip_prefix(verdict_line(false)).unwrap_or(b"");
-        self.notes.hold_text(reasons, notes)?;
+        note(&mut self.notes, &self.told, notes)?;
         let number = self.line.line;
         self.line.line = number.saturating_add(1);
         hold_told(&mut self.held, form, number, &answer, &self.told, output)
@@ -179,6 +177,14 @@ impl LineRun<'_> {
         self.notes.write_out(notes)?;
         self.held.write_out(output)
     }
+}
+
+/// Holds the reasons of a line, in lines: what is told in the other forms doesn't begin as these do.
+fn note<E: Write>(held: &mut HeldAnswers, told: &[u8], notes: &mut E) -> Done
+    ensures kind { OnErr result (result ≡ Err Fault.WriteFailed) }
+{
+    let reasons = told.strip_prefix(verdict_line(false));
+    held.hold_text(reasons.unwrap_or(b""), notes)
 }
 
 /// Holds what is written of the answer to a line of that number: its line, or in the forms for programs its object.

@@ -6,8 +6,8 @@ use Rattle.cs_judge.proofs.LineLists.{on_ok, on_err, on_error}
 use Rattle.cs_judge.proofs.LineRuns.{one_more, more_cut_off, none_written}
 use Rattle.cs_judge.proofs.lines.LineRun.answer_line.Goals as goal
 
-pub returns-in_err-hold_text-clause-line : goal.returns-in_err-hold_text-clause-line
-returns-in_err-hold_text-clause-line g c = record {
+pub returns-in_err-note-clause-line : goal.returns-in_err-note-clause-line
+returns-in_err-note-clause-line g c = record {
   all = search rules;
   front = λ start lines front a begun.
       let form = asked_form c.args.why in
