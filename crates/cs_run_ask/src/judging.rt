@@ -62,7 +62,10 @@ fn document_of(call: Call<'_, '_>) -> Result<Option<Vec<u8>>, Fault> {
 fn judge_read(call: Call<'_, '_>, rules: &Rules, text: Option<&[u8]>) -> Status {
     let sources = named_sources(call.alloc(), call.paths("FILE"), sources_of(rules))?;
     let name = call.words.get_str("doc").unwrap_or(STANDARD_INPUT);
-    let document = text.map(|text| named_text(name, text));
+    let document = match text {
+        Some(text) => Some(named_text(name, text)),
+        None => None,
+    };
     let schema = match rules {
         Rules::Schema { schema } => Some(named_text(call.word("schema"), schema)),
         Rules::Root { .. } | Rules::Both { .. } => None,
@@ -114,7 +117,7 @@ fn judge_by(
 }
 
 /// How the words ask for reasons, which are told from these sources.
-pub(crate) fn why_of<'a>(call: Call<'_, '_>, sources: &'a Written<'a>) -> Option<Why<'a>> {
+pub(crate) fn why_of<'a>(call: Call<'_, '_>, sources: &'a Written<'_>) -> Option<Why<'a>> {
     let Reasons { form, telling } = call.reasons()?;
     Some(Why {
         sources,
