@@ -6,8 +6,6 @@ ghost use Rattle.cs_judge.specs.Judged.{call_on};
 ghost use Rattle.cs_judge.specs.Prepared.{AreNumbersOf};
 ghost use Rattle.cs_judge.specs.Verdicts.{IsReadAs, IsVerdict, IsCallVerdict, accepts};
 ghost use Rattle.cs_reason_words.specs.Valid.{Reports};
-ghost use Rattle.cs_tool.specs.Runs.{agree};
-ghost use Rattle.cs_tool.specs.Sides.{AreSidesOf};
 ghost use Rattle.cs_tool.specs.declared.rules.Rules.{Rules};
 
 use crate::text_judge::{Judged, Why};
@@ -94,30 +92,18 @@ pub(crate) fn verdict(
     match rules {
         NumberedRules::Root(rules) => Side::Root(rules).verdict(case, table, report),
         NumberedRules::Schema(rules) => Side::Schema(rules).verdict(case, table, report),
-        NumberedRules::Both(root, schema) => both_verdicts(root, schema, case, table, report),
+        NumberedRules::Both(root, schema) => {
+            let (why, of_schema) = asked_of_sides(case.why);
+            let is_instance = Side::Root(root).verdict(Case { why, ..case }, table, report)?;
+            let why = of_schema;
+            let is_valid = Side::Schema(schema).verdict(Case { why, ..case }, table, report)?;
+            Ok(is_instance && is_valid)
+        }
     }
 }
 
-/// The verdict by both sides, as `agree` answers. The definition tells the reasons, or in the output formats of JSON Schema the schema.
-fn both_verdicts(
-    root_side: &RootRules<'_>,
-    schema_side: &SchemaRules<'_>,
-    case: Case<'_>,
-    table: &mut Verdicts,
-    report: &mut Vec<u8>,
-) -> Judged
-    ensures { (sources : List (List ℕ)) (root text : List ℕ) → AreSidesOf sources root root_side.now.0 root_side.now.1 schema_side.now
-        → IsReadAs text (document_in case.entry.flat.now)
-        → IsCallVerdict (agree sources root text) (asked_form case.entry.why) report.old.items report.new.items result }
-{
-    let (why, of_schema) = asked_of_sides(case.why);
-    let is_instance = Side::Root(root_side).verdict(Case { why, ..case }, table, report)?;
-    let why = of_schema;
-    let is_valid = Side::Schema(schema_side).verdict(Case { why, ..case }, table, report)?;
-    Ok(is_instance && is_valid)
-}
-
-/// What is asked of the definition and of the schema, where a document is judged by both: in the output formats of JSON Schema the schema.
+/// What is asked of the definition and of the schema, where a document is judged by both: the definition tells the reasons, or in the output
+/// formats of JSON Schema the schema.
 fn asked_of_sides<'a>(why: Option<Why<'a>>) -> (Option<Why<'a>>, Option<Why<'a>>)
     ensures root { asked_form result.0 ≡ root_form (asked_form why.entry) }
     ensures schema { asked_form result.1 ≡ schema_form (asked_form why.entry) }
