@@ -18,10 +18,7 @@ impl Form {
     pub fn is_standard(self) -> bool
         ensures { result ≡ asks_standard self }
     {
-        match self {
-            Form::Lines => false,
-            Form::Object(format) => format.is_standard(),
-        }
+        matches!(self, Form::Object(format) if format.is_standard())
     }
 
     /// Whether reasons are told in it at all ([`Format::has_reasons`]).
@@ -49,21 +46,17 @@ pub enum Format {
 /// The names of the formats that each command with reasons has.
 pub const NAMES: &[&str] = &["json"];
 
-/// The names of those that a command has which judges by a schema.
+/// The names of those that a command has which judges by a schema: all of them.
 pub const NAMES_BY_SCHEMA: &[&str] = &["json", "flag", "basic"];
 
-/// The formats by their names.
-const FORMATS: &[(&str, Format)] = &[
-    ("json", Format::Json),
-    ("flag", Format::Flag),
-    ("basic", Format::Basic),
-];
+/// The formats, in the order of their names there.
+const FORMATS: [Format; 3] = [Format::Json, Format::Flag, Format::Basic];
 
 impl Format {
     /// The format of a name.
     pub fn named(name: &str) -> Option<Format> {
-        let (_, format) = FORMATS.iter().find(|(known, _)| *known == name)?;
-        Some(*format)
+        let place = NAMES_BY_SCHEMA.iter().position(|known| *known == name)?;
+        FORMATS.get(place).copied()
     }
 
     /// Whether it is one of the output formats of JSON Schema (JSON Schema Core 2020-12, section 12.4). These tell reasons by the keywords
@@ -71,28 +64,19 @@ impl Format {
     pub fn is_standard(self) -> bool
         ensures { result ≡ is_standard self }
     {
-        match self {
-            Format::Json => false,
-            Format::Flag | Format::Basic => true,
-        }
+        matches!(self, Format::Flag | Format::Basic)
     }
 
     /// Whether reasons are told in it at all.
     pub fn has_reasons(self) -> bool
         ensures { result ≡ has_reasons self }
     {
-        match self {
-            Format::Flag => false,
-            Format::Json | Format::Basic => true,
-        }
+        !matches!(self, Format::Flag)
     }
 
     /// Whether it tells reasons as units of output (Core, section 12.4.2), by the keywords on their ways.
     pub fn has_units(self) -> bool {
-        match self {
-            Format::Json | Format::Flag => false,
-            Format::Basic => true,
-        }
+        matches!(self, Format::Basic)
     }
 
     /// The members behind the verdict where reasons aren't told.

@@ -4,13 +4,15 @@ use cs_flat::{Flat, Item};
 use cs_grammar::{Expr, Field, Site};
 use cs_instance::holds_simply;
 use cs_instance_reasons::InstanceCause;
-use cs_package::{FieldMark, Inside, Part, Shape};
-use cs_reason_words::{Made, item_at, number_under};
+use cs_package::{FieldMark, Part, Shape};
+use cs_reason_words::{Made, Way, item_at, number_under};
 use std::alloc::Global;
+use std::collections::BTreeSet;
 
 /// The alternative that is followed, of those that the conditions of a literal make.
 #[derive(Clone, Copy, Drop)]
 pub(crate) struct Choice<'t> {
+    flat: &'t Flat<'t>,
     /// The alternatives, and the same in the files that the sources stand for.
     shapes: &'t [Shape],
     trees: &'t [Expr],
@@ -51,17 +53,12 @@ pub(crate) fn key_at<'t>(flat: &'t Flat<'t>, item: usize, member: usize) -> Opti
     }
 }
 
-/// The value under a key, if there is one.
-fn member_of<'t>(flat: &'t Flat<'t>, item: usize, key: &str) -> Option<Item<'t>> {
-    Some(item_at(flat, number_under(item_at(flat, item), key)?))
-}
-
 /// Whether what a condition makes of a field, an expression without parts or the kinds of values that are none of a literal, admits a value.
 fn admits(shape: &Shape, value: &Item<'_>) -> bool {
-    if let Shape::Or(operands) = shape {
-        return operands.iter().any(|operand| admits_one(operand, value));
+    match shape {
+        Shape::Or(operands) => operands.iter().any(|operand| admits_one(operand, value)),
+        one => admits_one(one, value),
     }
-    admits_one(shape, value)
 }
 
 fn admits_one(shape: &Shape, value: &Item<'_>) -> bool {
@@ -74,34 +71,15 @@ fn admits_one(shape: &Shape, value: &Item<'_>) -> bool {
 
 /// Whether an expression without parts, or one of these, refuses a value.
 fn refuses(shape: &Shape, value: &Item<'_>) -> bool {
-    match shape.inside() {
-        Inside::Simple(_) => !holds_simply(shape, value),
-        Inside::Or(operands) => operands.iter().all(|operand| refuses_one(operand, value)),
-        Inside::And(operands) => operands.iter().any(|operand| refuses_one(operand, value)),
-        Inside::Definition(_) | Inside::Struct { .. } | Inside::List { .. } => false,
+    match shape {
+        Shape::Or(operands) => operands.iter().all(|operand| refuses_one(operand, value)),
+        Shape::And(operands) => operands.iter().any(|operand| refuses_one(operand, value)),
+        one => refuses_one(one, value),
     }
 }
 
 fn refuses_one(shape: &Shape, value: &Item<'_>) -> bool {
     shape.simple().is_some() && !holds_simply(shape, value)
-}
-
-/// Whether a map has what a condition makes of a field.
-fn is_met(flat: &Flat<'_>, item: usize, part: &Part) -> bool {
-    match member_of(flat, item, part.label.as_str()) {
-        Some(value) => admits(&part.value, &value),
-        None => matches!(part.mark, FieldMark::Optional),
-    }
-}
-
-/// Adds labels, but for those that are there already.
-fn add_new<'t>(labels: &mut Vec<&'t str>, others: &[&'t str]) -> Made<()> {
-    for label in others {
-        if !labels.contains(label) {
-            labels.push(*label)?;
-        }
-    }
-    Ok(())
 }
 
 fn is_same_site(site: &Site, other: &Site) -> bool {
@@ -122,30 +100,6 @@ impl<'t> Alternative<'t> {
         }
     }
 
-    /// The labels of the fields that conditions ask for, and that a map hasn't so.
-    fn unmet(self, alloc: Global, flat: &Flat<'_>, item: usize) -> Made<Vec<&'t str>> {
-        let mut labels = Vec::new(alloc);
-        for (part, field) in self.parts.iter().zip(self.fields) {
-            if field.asked && !is_met(flat, item, part) {
-                add_new(&mut labels, &[part.label.as_str()])?;
-            }
-        }
-        Ok(labels)
-    }
-
-    /// Of these labels those of fields that conditions ask for, each once, with their values in a map.
-    fn asked(self, labels: &Vec<&str>, flat: &'t Flat<'t>, item: usize) -> Made<Members<'t>> {
-        let mut asked: Members<'t> = Vec::new(*labels.allocator());
-        for (part, field) in self.parts.iter().zip(self.fields) {
-            let label = part.label.as_str();
-            let is_new = asked.iter().all(|other| other.0 != label);
-            if field.asked && is_new && labels.contains(&label) {
-                asked.push((label, member_of(flat, item, label)))?;
-            }
-        }
-        Ok(asked)
-    }
-
     fn has(self, sought: Sought<'_>) -> bool {
         let (mut parts, mut fields) = (self.parts.iter(), self.fields.iter());
         match sought {
@@ -160,45 +114,82 @@ impl<'t> Alternative<'t> {
 }
 
 impl<'t> Choice<'t> {
-    /// That of the alternative at a place, if conditions make these, those of a value that is a map, whose pointer has so many bytes.
+    /// That of the alternative at a place, if conditions make these, those of a value that is a map and that a way has led to.
     pub(crate) fn of(
+        flat: &'t Flat<'t>,
         shapes: &'t [Shape],
         spelled: Option<Spelled<'t>>,
         place: usize,
-        item: usize,
-        pointer: usize,
+        way: &Way,
     ) -> Option<Choice<'t>> {
         let trees = spelled?.alternatives();
         let followed = Alternative::at(shapes, trees, place)?;
         let mut fields = followed.fields.iter();
         fields.any(|field| field.asked).then_some(Choice {
+            flat,
             shapes,
             trees,
             followed,
-            item,
-            pointer,
+            item: way.item,
+            pointer: way.pointer.len(),
             declaration: None,
         })
     }
 
     /// How many declarations the alternatives have.
     pub(crate) fn size(self) -> usize {
-        let mut size = self.shapes.len();
-        for shape in self.shapes {
-            if let Shape::Struct { parts, .. } = shape {
-                size = size.saturating_add(parts.len());
+        let count = self.shapes.len();
+        self.shapes.iter().fold(count, |size, shape| match shape {
+            Shape::Struct { parts, .. } => size.saturating_add(parts.len()),
+            _ => size,
+        })
+    }
+
+    /// The value under a key of the map, if there is one.
+    fn member(self, key: &str) -> Option<Item<'t>> {
+        let number = number_under(item_at(self.flat, self.item), key)?;
+        Some(item_at(self.flat, number))
+    }
+
+    /// Whether the map has what a condition makes of a field.
+    fn meets(self, part: &Part) -> bool {
+        match self.member(part.label.as_str()) {
+            Some(value) => admits(&part.value, &value),
+            None => matches!(part.mark, FieldMark::Optional),
+        }
+    }
+
+    /// The labels of the fields that the conditions of an alternative ask for, and that the map hasn't so.
+    fn unmet(self, alloc: Global, asking: Alternative<'t>) -> Made<BTreeSet<&'t str>> {
+        let mut labels = BTreeSet::new(alloc);
+        for (part, field) in asking.parts.iter().zip(asking.fields) {
+            if field.asked && !self.meets(part) {
+                labels.insert(part.label.as_str())?;
             }
         }
-        size
+        Ok(labels)
+    }
+
+    /// Of these labels those of fields that conditions ask for, each once, with their values.
+    fn asked(self, alloc: Global, mut labels: BTreeSet<&str>) -> Made<Members<'t>> {
+        let Alternative { parts, fields, .. } = self.followed;
+        let mut asked = Vec::new(alloc);
+        for (part, field) in parts.iter().zip(fields) {
+            let label = part.label.as_str();
+            if field.asked && labels.remove(label) {
+                asked.push((label, self.member(label)))?;
+            }
+        }
+        Ok(asked)
     }
 
     /// What the alternative has, or hasn't, by which a cause refuses a value in it, or inside of it.
-    pub(crate) fn sought(self, flat: &'t Flat<'t>, cause: &InstanceCause) -> Option<Sought<'t>> {
+    pub(crate) fn sought(self, cause: &InstanceCause) -> Option<Sought<'t>> {
         let place = match (self.declaration, cause) {
             (Some(place), _) => place,
             (None, InstanceCause::Missing { declaration, .. }) => *declaration,
             (None, InstanceCause::Extra { member, .. }) => {
-                return Some(Sought::Key(key_at(flat, self.item, *member).unwrap_or("")));
+                return Some(Sought::Key(key_at(self.flat, self.item, *member)?));
             }
             (None, _) => return None,
         };
@@ -208,14 +199,9 @@ impl<'t> Choice<'t> {
     /// The fields that would have to be other ones for the alternative to have what is sought, where it hasn't, or the other way round: as few
     /// as may be, and none where all alternatives do the same. Nothing is known where the map fails its conditions, or meets those of one that
     /// does otherwise.
-    pub(crate) fn fields(
-        self,
-        alloc: Global,
-        flat: &'t Flat<'t>,
-        sought: Sought<'_>,
-    ) -> Made<Option<Members<'t>>> {
+    pub(crate) fn fields(self, alloc: Global, sought: Sought<'_>) -> Made<Option<Members<'t>>> {
         let has = self.followed.has(sought);
-        let mut labels = Vec::new(alloc);
+        let mut labels = BTreeSet::new(alloc);
         let mut least = usize::MAX;
         for place in 0..self.shapes.len() {
             let Some(other) = Alternative::at(self.shapes, self.trees, place) else {
@@ -224,29 +210,29 @@ impl<'t> Choice<'t> {
             if other.has(sought) == has {
                 continue;
             }
-            let unmet = other.unmet(alloc, flat, self.item)?;
+            let mut unmet = self.unmet(alloc, other)?;
             if unmet.len() < least {
                 least = unmet.len();
-                labels.truncate(0);
+                labels.clear();
             }
             if unmet.len() == least {
-                add_new(&mut labels, &unmet)?;
+                labels.append(&mut unmet)?;
             }
         }
-        let unmet = self.followed.unmet(alloc, flat, self.item)?;
+        let unmet = self.unmet(alloc, self.followed)?;
         if least == 0 || (least < usize::MAX && !unmet.is_empty()) {
             return Ok(None);
         }
-        Ok(Some(self.followed.asked(&labels, flat, self.item)?))
+        Ok(Some(self.asked(alloc, labels)?))
     }
 
     /// Where a condition alone asks for the field whose value is refused, another declaration of it that refuses it too, and tells more.
-    pub(crate) fn told_by(self, flat: &Flat<'_>) -> Option<&'t Part> {
+    pub(crate) fn told_by(self) -> Option<&'t Part> {
         let Alternative { parts, fields, .. } = self.followed;
         let place = self.declaration?;
         let label = parts.get(place)?.label.as_str();
         fields.get(place).filter(|field| field.asked)?;
-        let value = member_of(flat, self.item, label)?;
+        let value = self.member(label)?;
         let refuses_too = |other: &(&Part, &Field)| {
             !other.1.asked && other.0.label.as_str() == label && refuses(&other.0.value, &value)
         };

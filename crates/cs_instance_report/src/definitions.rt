@@ -8,7 +8,7 @@ use crate::written::{Spelled, Written};
 use cs_flat::{Flat, Item};
 use cs_instance::RootRules;
 use cs_instance_reasons::{InstanceCause, Want, wanted_by};
-use cs_package::{FieldMark, Inside, Kind, Literal, Part, Relation, Shape, ShapeEnd, Simple};
+use cs_package::{FieldMark, Kind, Literal, Part, Relation, Shape, ShapeEnd, Simple};
 use cs_place::{Named, Step, put_quoted};
 use cs_reason_words::{
     Finding, Form, Found, Kinds, MOST_COMPARISONS, Made, Since, Way, Words, item_at, put_integer,
@@ -24,8 +24,7 @@ struct Definitions<'t> {
     rules: &'t RootRules<'t>,
     flat: &'t Flat<'t>,
     written: &'t Written<'t>,
-    /// Whether all alternatives are followed, and none is chosen.
-    are_followed: bool,
+    telling: Telling,
     /// How many more labels are compared with keys that aren't allowed.
     comparisons: usize,
     /// How many more declarations of alternatives are compared.
@@ -68,15 +67,11 @@ fn put_label(path: &mut String, part: &Part) -> Made<()> {
 }
 
 /// That a value isn't what an expression admits.
-fn unmet<'t>(alloc: Global, item: Item<'_>, shape: Option<&Shape>) -> Made<Finding<'t>> {
-    let mut text = String::new(alloc);
-    let Some(shape) = shape else {
-        KINDS.put_found(&mut text, item)?;
-        return Ok(Finding::here("kind", text));
-    };
+fn unmet<'t>(alloc: Global, item: Item<'_>, shape: &Shape) -> Made<Finding<'t>> {
     if matches!(shape, Shape::Bottom) {
         return Finding::never(alloc);
     }
+    let mut text = String::new(alloc);
     KINDS.put_mismatch(&mut text, item)?;
     put_shape(&mut text, shape)?;
     let (reason, kind) = mismatch_words(item, shape);
@@ -87,10 +82,9 @@ impl<'t> Definitions<'t> {
     /// A definition, where the path begins anew.
     fn definition(&self, number: usize, path: &mut String) -> Made<Node<'t>> {
         let package = self.rules.root().0.package();
-        let (name, bodies): (&str, &[Shape]) = if number < package.count() {
-            (package.name(number), package.bodies(number))
-        } else {
-            ("", &[])
+        let (name, bodies): (&str, &[Shape]) = match number < package.count() {
+            true => (package.name(number), package.bodies(number)),
+            false => ("", &[]),
         };
         let declared = self.written.name_declared(name).unwrap_or(name);
         path.truncate(0);
@@ -115,15 +109,14 @@ impl<'t> Definitions<'t> {
                 node.bodies.get(place)
             }
             Some(Shape::Definition(number)) => {
-                let choice = node.choice;
-                node = self.definition(*number, &mut way.path)?;
-                node.choice = choice;
-                return Ok(node);
+                let mut definition = self.definition(*number, &mut way.path)?;
+                definition.choice = node.choice;
+                return Ok(definition);
             }
             Some(Shape::And(operands)) => operands.get(place),
             Some(Shape::Or(operands)) => {
                 way.follow(place, operands.len())?;
-                node.choice = Choice::of(operands, whole, place, way.item, way.pointer.len());
+                node.choice = Choice::of(self.flat, operands, whole, place, way);
                 operands.get(place)
             }
             Some(Shape::Struct { parts, .. }) => {
@@ -136,16 +129,15 @@ impl<'t> Definitions<'t> {
                 }
                 part.map(|part| &part.value)
             }
-            Some(Shape::List { front, end }) => match (front.get(place), end) {
-                (Some(fixed), _) => {
-                    write!(way.path, "[{place}]")?;
-                    Some(fixed)
-                }
-                (None, ShapeEnd::Each(each)) => {
+            Some(Shape::List { front, end }) => match end {
+                ShapeEnd::Each(each) if place >= front.len() => {
                     way.path.push_str("[]")?;
                     Some(&**each)
                 }
-                (None, ShapeEnd::Closed | ShapeEnd::Any) => None,
+                _ => {
+                    write!(way.path, "[{place}]")?;
+                    front.get(place)
+                }
             },
             Some(_) => None,
         };
@@ -159,14 +151,12 @@ impl<'t> Definitions<'t> {
         cause: &InstanceCause,
         way: &mut Way,
     ) -> Made<Option<Since<'t>>> {
-        let Some(choice) = choice.filter(|choice| choice.size() <= self.trials) else {
-            return Ok(None);
-        };
-        let Some(sought) = choice.sought(self.flat, cause) else {
+        let sought = choice.and_then(|choice| Some((choice, choice.sought(cause)?)));
+        let Some((choice, sought)) = sought.filter(|found| found.0.size() <= self.trials) else {
             return Ok(None);
         };
         self.trials = self.trials.saturating_sub(choice.size());
-        let Some(fields) = choice.fields(self.alloc, self.flat, sought)? else {
+        let Some(fields) = choice.fields(self.alloc, sought)? else {
             return Ok(None);
         };
         way.alternative.truncate(0);
@@ -176,12 +166,9 @@ impl<'t> Definitions<'t> {
 
     /// That a key isn't allowed.
     fn extra(&mut self, parts: &[Part], item: usize, member: usize) -> Made<Finding<'t>> {
-        let mut labels = Vec::new(self.alloc);
-        for part in parts.iter().take(self.comparisons) {
-            if !matches!(part.mark, FieldMark::Every { .. }) {
-                labels.push(part.label.as_str())?;
-            }
-        }
+        let declared = parts.iter().take(self.comparisons);
+        let named = declared.filter(|part| !matches!(part.mark, FieldMark::Every { .. }));
+        let labels: Vec<&str> = named.map(|part| part.label.as_str()).collect(self.alloc)?;
         self.comparisons = self.comparisons.saturating_sub(parts.len());
         let key = key_at(self.flat, item, member).unwrap_or("");
         let finding = Finding::extra(self.alloc, item_at(self.flat, item), key, &labels)?;
@@ -193,6 +180,7 @@ impl<'t> Definitions<'t> {
         let (alloc, flat) = (self.alloc, self.flat);
         let mut wanted = wanted_by(self.rules, alloc, flat, item, rule)?;
         let (key, alternatives) = (wanted.key, &mut wanted.alternatives);
+        let is_never = |want: &Want<'_>| matches!(want, Want::Expression(Shape::Bottom));
         alternatives.retain(|wants| !wants.iter().any(is_never));
         if alternatives.is_empty() {
             return Ok(Finding::never(alloc)?.at(key.map(|(key, _)| Step::Key(key))));
@@ -210,15 +198,10 @@ impl<'t> Definitions<'t> {
     ) -> Found<'t> {
         let (alloc, item) = (self.alloc, way.item);
         let value = item_at(self.flat, item);
-        let (parts, fixed): (&[Part], usize) = match node.shape {
-            Some(Shape::Struct { parts, .. }) => (parts, 0),
-            Some(Shape::List { front, .. }) => (&[], front.len()),
-            _ => (&[], 0),
-        };
         let mut source = node.spelled.and_then(|spelled| spelled.place());
         let mut by = node.spelled.and_then(|spelled| spelled.by);
-        let mut finding = match cause {
-            InstanceCause::Missing { declaration, .. } => {
+        let mut finding = match (cause, node.shape) {
+            (InstanceCause::Missing { declaration, .. }, Some(Shape::Struct { parts, .. })) => {
                 let Some(part) = parts.get(*declaration) else {
                     return Ok(None);
                 };
@@ -228,20 +211,19 @@ impl<'t> Definitions<'t> {
                 by = field.and_then(|field| field.site.by);
                 Finding::missing(alloc, part.label.as_str())?
             }
-            InstanceCause::Extra { member, .. } => {
+            (InstanceCause::Extra { member, .. }, Some(Shape::Struct { parts, .. })) => {
                 let meant: &[Part] = if is_chosen { &[] } else { parts };
                 self.extra(meant, item, *member)?
             }
-            InstanceCause::Few => Finding::few(alloc, value, fixed)?,
-            InstanceCause::Many => {
-                Finding::many(alloc, value, fixed)?.at(Some(Step::Element(fixed)))
+            (InstanceCause::Few, Some(Shape::List { front, .. })) => {
+                Finding::few(alloc, value, front.len())?
             }
-            InstanceCause::NoAlternative => self.none_taken(item, way.rule)?,
-            InstanceCause::Unmet
-            | InstanceCause::Part { .. }
-            | InstanceCause::Alternative { .. }
-            | InstanceCause::Member { .. }
-            | InstanceCause::Element { .. } => unmet(alloc, value, node.shape)?,
+            (InstanceCause::Many, Some(Shape::List { front, .. })) => {
+                Finding::many(alloc, value, front.len())?.at(Some(Step::Element(front.len())))
+            }
+            (InstanceCause::NoAlternative, _) => self.none_taken(item, way.rule)?,
+            (InstanceCause::Unmet, Some(shape)) => unmet(alloc, value, shape)?,
+            _ => return Ok(None),
         };
         finding.source = source;
         finding.embedded = by.and_then(|by| self.written.place_at(by));
@@ -260,9 +242,7 @@ impl<'t> Words<'t> for Definitions<'t> {
 
     fn step_of(&self, item: usize, cause: &InstanceCause) -> Option<Step<'t>> {
         match cause {
-            InstanceCause::Member { member, .. } => {
-                Some(Step::Key(key_at(self.flat, item, *member)?))
-            }
+            InstanceCause::Member { member, .. } => key_at(self.flat, item, *member).map(Step::Key),
             InstanceCause::Element { place, .. } => Some(Step::Element(*place)),
             _ => None,
         }
@@ -274,19 +254,13 @@ impl<'t> Words<'t> for Definitions<'t> {
             | InstanceCause::Alternative { place, .. }
             | InstanceCause::Element { place, .. } => self.part(node, *place, way),
             InstanceCause::Member { declaration, .. } => self.part(node, *declaration, way),
-            InstanceCause::Unmet
-            | InstanceCause::Missing { .. }
-            | InstanceCause::Extra { .. }
-            | InstanceCause::Few
-            | InstanceCause::Many
-            | InstanceCause::NoAlternative => Ok(node),
+            _ => Ok(node),
         }
     }
 
     fn finding(&mut self, node: Node<'t>, cause: &InstanceCause, way: &mut Way) -> Found<'t> {
-        let choice = node.choice.filter(|_| !self.are_followed);
-        let other = choice.and_then(|choice| choice.told_by(self.flat));
-        if other.is_some() {
+        let choice = node.choice.filter(|_| !self.telling.all);
+        if choice.and_then(|choice| choice.told_by()).is_some() {
             return Ok(None);
         }
         let since = self.since(choice, cause, way)?;
@@ -304,15 +278,6 @@ const KINDS: Kinds<'static> = Kinds {
     list: "a list",
     map: "a struct",
 };
-
-fn kind_name(kind: Kind) -> &'static str {
-    match kind {
-        Kind::Int => "int",
-        Kind::Number => "number",
-        Kind::Text => "string",
-        Kind::Bool => "bool",
-    }
-}
 
 fn relation_mark(relation: Relation) -> &'static str {
     match relation {
@@ -341,11 +306,10 @@ fn put_range(text: &mut String, least: i64, greatest: Option<i64>) -> Made<()> {
             return text.push_str(name);
         }
     }
-    write!(text, ">={least}")?;
-    if let Some(most) = greatest {
-        write!(text, " & <={most}")?;
+    match greatest {
+        Some(most) => write!(text, ">={least} & <={most}"),
+        None => write!(text, ">={least}"),
     }
-    Ok(())
 }
 
 /// Puts a literal behind a mark.
@@ -361,25 +325,21 @@ fn put_literal(text: &mut String, mark: &str, literal: Literal<'_>) -> Made<()> 
 
 /// Puts an expression as CUE spells it; of one with parts of what kind its values are.
 fn put_shape(text: &mut String, shape: &Shape) -> Made<()> {
-    match shape.inside() {
-        Inside::Simple(simple) => put_simple(text, simple),
-        Inside::Struct { .. } => text.push_str(KINDS.map),
-        Inside::List { .. } => text.push_str(KINDS.list),
-        Inside::Definition(_) | Inside::And(_) | Inside::Or(_) => text.push('_'),
-    }
-}
-
-fn put_simple(text: &mut String, simple: Simple<'_>) -> Made<()> {
+    let Some(simple) = shape.simple() else {
+        let is_list = matches!(shape, Shape::List { .. });
+        return text.push_str(if is_list { KINDS.list } else { KINDS.map });
+    };
     match simple {
         Simple::Top => text.push('_'),
         Simple::Bottom => text.push_str("_|_"),
         Simple::Literal(value) => put_literal(text, "", value),
         Simple::Excluded(value) => put_literal(text, "!=", value),
-        Simple::Kind(kind) => text.push_str(kind_name(kind)),
+        Simple::Kind(Kind::Int) => text.push_str("int"),
+        Simple::Kind(Kind::Number) => text.push_str("number"),
+        Simple::Kind(Kind::Text) => text.push_str("string"),
+        Simple::Kind(Kind::Bool) => text.push_str("bool"),
         Simple::Range { least, greatest } => put_range(text, least, greatest),
-        Simple::Bound { relation, limit } => {
-            put_literal(text, relation_mark(relation), Literal::Int(limit))
-        }
+        Simple::Bound { relation, limit } => write!(text, "{}{limit}", relation_mark(relation)),
     }
 }
 
@@ -393,33 +353,21 @@ fn put_want(text: &mut String, want: &Want<'_>) -> Made<bool> {
     Ok(matches!(want, Want::Expression(shape) if shape.literal().is_some()))
 }
 
-/// Whether `_|_` is asked for.
-fn is_never(want: &Want<'_>) -> bool {
-    matches!(want, Want::Expression(Shape::Bottom))
-}
-
 /// Which kind of reason it is that a value isn't what an expression admits, and of which kind the value isn't, where nothing else is wrong with it.
 fn mismatch_words(item: Item<'_>, shape: &Shape) -> (&'static str, &'static str) {
-    // The kind of all values that the expression admits or leaves out, and the word for a value of that kind.
-    let (kind, reason) = match shape.simple() {
-        Some(Simple::Literal(_)) => return ("value", ""),
-        Some(Simple::Kind(Kind::Int | Kind::Number)) => ("number", "kind"),
-        Some(Simple::Kind(Kind::Text)) => ("text", "kind"),
-        Some(Simple::Range { .. } | Simple::Bound { .. }) => ("number", "range"),
-        Some(Simple::Excluded(Literal::Int(_))) => ("number", "excluded"),
-        Some(Simple::Excluded(Literal::Text(_))) => ("text", "excluded"),
-        Some(Simple::Excluded(_)) => ("", "excluded"),
-        Some(Simple::Top | Simple::Bottom | Simple::Kind(Kind::Bool)) | None => ("", "kind"),
+    let Some(simple) = shape.simple() else {
+        return ("kind", "");
     };
-    let found = match item {
-        Item::Int(_) => "number",
-        Item::Text(_) => "text",
-        Item::Null | Item::Bool(_) | Item::List(_) | Item::Object(_) => "",
-    };
-    if kind == found {
-        (reason, "")
-    } else {
-        ("kind", kind)
+    match (simple, item) {
+        (Simple::Literal(_), _) => ("value", ""),
+        (Simple::Range { .. } | Simple::Bound { .. }, Item::Int(_)) => ("range", ""),
+        (Simple::Excluded(Literal::Int(_)), Item::Int(_))
+        | (Simple::Excluded(Literal::Text(_)), Item::Text(_))
+        | (Simple::Excluded(Literal::Null | Literal::Bool(_)), _) => ("excluded", ""),
+        (Simple::Excluded(Literal::Int(_)) | Simple::Range { .. } | Simple::Bound { .. }, _)
+        | (Simple::Kind(Kind::Int | Kind::Number), _) => ("kind", "number"),
+        (Simple::Excluded(Literal::Text(_)) | Simple::Kind(Kind::Text), _) => ("kind", "text"),
+        (Simple::Top | Simple::Bottom | Simple::Kind(Kind::Bool), _) => ("kind", ""),
     }
 }
 
@@ -451,7 +399,7 @@ pub fn report_instance<'t>(
             rules,
             flat,
             written,
-            are_followed: telling.all,
+            telling,
             comparisons: MOST_COMPARISONS,
             trials: MOST_COMPARISONS,
         };

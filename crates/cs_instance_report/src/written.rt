@@ -212,22 +212,21 @@ impl<'t> Spelled<'t> {
         let is_selected = self.part.first()?.selector().is_some();
         match bare(self.tree) {
             Expr::And(operands) | Expr::Or(operands) if is_selected => {
-                let tree = operands.get(place)?;
-                Some(Spelled { tree, ..self })
+                Some(self.inner(operands.get(place)?, self.part))
             }
             Expr::And(operands) => self.operand(Separator::Amp, operands, place),
             Expr::Or(operands) => self.operand(Separator::Bar, operands, place),
             Expr::Struct { .. } => self.value(place),
             Expr::List { front, end } => {
-                let tree = match (front.get(place), end) {
-                    (Some(fixed), _) => fixed,
-                    (None, ListEnd::Each(each)) => &**each,
-                    (None, ListEnd::Closed | ListEnd::Any) => return None,
+                let tree = match end {
+                    ListEnd::Each(each) => front.get(place).unwrap_or(each),
+                    ListEnd::Closed | ListEnd::Any => front.get(place)?,
                 };
-                if is_selected {
-                    return Some(Spelled { tree, ..self });
-                }
-                Some(self.inner(tree, self.part.element(place.min(front.len()))?))
+                let part = match is_selected {
+                    true => self.part,
+                    false => self.part.element(place.min(front.len()))?,
+                };
+                Some(self.inner(tree, part))
             }
             _ => None,
         }

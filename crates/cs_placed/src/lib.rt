@@ -40,77 +40,34 @@ impl Placed {
     }
 }
 
+/// The files that were made of others. Where these stand for none they are themselves, and what is left in them stands for nothing: a name or a selector
+/// that is none of a definition, a field that needs a condition, an embedding.
+macro_rules! made_or {
+    ($files:ident, $made:expr, $fault:ident) => {
+        match $made {
+            Err($fault::OutOfMemory) => return Err(AllocError),
+            made => made.unwrap_or($files),
+        }
+    };
+}
+
 /// The files that sources stand for, in either profile: what the default one accepts stands for itself. None where one of the sources spells no file.
 /// Only memory can run out.
 pub fn placed_files(alloc: Global, sources: &[&[u8]]) -> Result<Option<Placed>, AllocError> {
-    let Some(Placed { files, bases }) = spelled_files(alloc, sources)? else {
+    let Some(Placed { mut files, bases }) = spelled_files(alloc, sources)? else {
         return Ok(None);
     };
-    let named = named_files(alloc, files)?;
-    let unselected = unselected_files(alloc, named)?;
-    let files = joined_files(alloc, chosen_files(alloc, unselected)?)?;
+    if have_names(&files) {
+        files = made_or!(files, without_names(alloc, &files), NameFault);
+    }
+    if have_selectors(&files) {
+        files = made_or!(files, without_selectors(alloc, &files), SelectorFault);
+    }
+    if have_conditions(&files) {
+        files = made_or!(files, without_conditions(alloc, &files), ConditionFault);
+    }
+    let files = made_or!(files, without_embeddings(alloc, &files), EmbeddingFault);
     Ok(Some(Placed { files, bases }))
-}
-
-/// Files without names that are no definitions. Where they stand for none they are themselves, in which such a name stands for nothing.
-fn named_files(alloc: Global, files: Vec<File>) -> Result<Vec<File>, AllocError> {
-    if !have_names(&files) {
-        return Ok(files);
-    }
-    match without_names(alloc, &files) {
-        Ok(named) => Ok(named),
-        Err(NameFault::OutOfMemory) => Err(AllocError),
-        Err(
-            NameFault::LeftOut { .. }
-            | NameFault::UnknownName { .. }
-            | NameFault::NamesField { .. }
-            | NameFault::Redeclared { .. },
-        ) => Ok(files),
-    }
-}
-
-/// Files without selectors. Where they stand for none they are themselves, in which a selector stands for nothing.
-fn unselected_files(alloc: Global, files: Vec<File>) -> Result<Vec<File>, AllocError> {
-    if !have_selectors(&files) {
-        return Ok(files);
-    }
-    match without_selectors(alloc, &files) {
-        Ok(unselected) => Ok(unselected),
-        Err(SelectorFault::OutOfMemory) => Err(AllocError),
-        Err(
-            SelectorFault::LeftOut { .. }
-            | SelectorFault::UnknownName { .. }
-            | SelectorFault::NotRegular { .. }
-            | SelectorFault::TooLarge,
-        ) => Ok(files),
-    }
-}
-
-/// Files without conditions. Where they stand for none they are themselves, in which each literal has those fields alone that need none.
-fn chosen_files(alloc: Global, files: Vec<File>) -> Result<Vec<File>, AllocError> {
-    if !have_conditions(&files) {
-        return Ok(files);
-    }
-    match without_conditions(alloc, &files) {
-        Ok(chosen) => Ok(chosen),
-        Err(ConditionFault::OutOfMemory) => Err(AllocError),
-        Err(ConditionFault::LeftOut { .. } | ConditionFault::MayBeAbsent { .. }) => Ok(files),
-    }
-}
-
-/// Files without embeddings. Where they stand for none they are themselves, in which each literal has its own fields alone.
-fn joined_files(alloc: Global, files: Vec<File>) -> Result<Vec<File>, AllocError> {
-    match without_embeddings(alloc, &files) {
-        Ok(joined) => Ok(joined),
-        Err(EmbeddingFault::OutOfMemory) => Err(AllocError),
-        Err(
-            EmbeddingFault::UnknownName { .. }
-            | EmbeddingFault::NoStruct { .. }
-            | EmbeddingFault::Reopened { .. }
-            | EmbeddingFault::TooHigh { .. }
-            | EmbeddingFault::TooLarge,
-        ) => Ok(files),
-    }
 }
 
 /// The files that sources spell, in either profile. None where one of the sources spells no file. Only memory can run out.
@@ -138,21 +95,13 @@ fn file_of(alloc: Global, source: &[u8], base: usize) -> Result<Option<File>, Al
     let mut file = match parse_file_in(alloc, Profile::Wide, text) {
         Ok(file) => file,
         Err(SyntaxFault::OutOfMemory) => return Err(AllocError),
-        Err(
-            SyntaxFault::NoToken { .. }
-            | SyntaxFault::Syntax { .. }
-            | SyntaxFault::LeftOut { .. }
-            | SyntaxFault::IntegerRange { .. }
-            | SyntaxFault::TooHigh,
-        ) => return Ok(None),
+        Err(_) => return Ok(None),
     };
     for definition in file.definitions.iter_mut() {
-        add(&mut definition.at, base);
-        shift(&mut definition.body, base);
+        shift_at(&mut definition.at, &mut definition.body, base);
     }
     for name in file.names.iter_mut() {
-        add(&mut name.at, base);
-        shift(&mut name.value, base);
+        shift_at(&mut name.at, &mut name.value, base);
     }
     Ok(Some(file))
 }
@@ -160,6 +109,13 @@ fn file_of(alloc: Global, source: &[u8], base: usize) -> Result<Option<File>, Al
 /// Adds a number to an offset.
 fn add(at: &mut usize, base: usize) {
     *at = at.saturating_add(base);
+}
+
+/// Adds a number to an offset, and to each of the expression there.
+#[cycle(shift)]
+fn shift_at(at: &mut usize, expr: &mut Expr, base: usize) {
+    add(at, base);
+    shift(expr, base);
 }
 
 /// Adds a number to each offset of an expression.
@@ -177,9 +133,8 @@ fn shift(expr: &mut Expr, base: usize) {
         }
         Expr::List { front, end } => {
             shift_each(front, base);
-            match end {
-                ListEnd::Closed | ListEnd::Any => {}
-                ListEnd::Each(each) => shift(each, base),
+            if let ListEnd::Each(each) = end {
+                shift(each, base);
             }
         }
         Expr::Wide(form) => shift_form(form, base),
@@ -196,27 +151,20 @@ fn shift_each(exprs: &mut Vec<Expr>, base: usize) {
 
 #[cycle(shift)]
 fn shift_field(field: &mut Field, base: usize) {
-    add(&mut field.site.at, base);
     if let Some(at) = &mut field.scoped {
         add(at, base);
     }
     if let FieldMark::Every { at } = &mut field.mark {
         add(at, base);
     }
-    shift(&mut field.value, base);
+    shift_at(&mut field.site.at, &mut field.value, base);
 }
 
 #[cycle(shift)]
 fn shift_form(form: &mut Wide, base: usize) {
     match form {
-        Wide::Marked { at, value } => {
-            add(at, base);
-            shift(value, base);
-        }
-        Wide::Shut { at, value } => {
-            add(at, base);
-            shift(value, base);
-        }
+        Wide::Marked { at, value } => shift_at(at, value, base),
+        Wide::Shut { at, value } => shift_at(at, value, base),
         Wide::Selected { at, labels, .. } => {
             add(at, base);
             shift_selectors(labels, base);
@@ -238,20 +186,16 @@ fn shift_form(form: &mut Wide, base: usize) {
 fn shift_declaration(declaration: &mut Declaration, base: usize) {
     match declaration {
         Declaration::Field(field) => shift_field(field, base),
-        Declaration::Embedded { at, value } => {
-            add(at, base);
-            shift(value, base);
-        }
+        Declaration::Embedded { at, value } => shift_at(at, value, base),
         Declaration::Conditional {
             at,
             conditions,
             value,
         } => {
-            add(at, base);
             for condition in conditions.iter_mut() {
                 add(&mut condition.at, base);
             }
-            shift(value, base);
+            shift_at(at, value, base);
         }
     }
 }

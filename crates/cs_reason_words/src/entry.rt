@@ -1,5 +1,4 @@
 // Reasons in words: what is wrong with a value, where that is, what of it is told once, and in which order.
-use crate::since::Since;
 use crate::walk::{Branch, Way, Words, above};
 use crate::wording::{Kinds, MOST_WANTED, put_between, put_more};
 use cs_flat::{Flat, Item};
@@ -18,6 +17,19 @@ pub struct SourcePlace<'t> {
     pub column: usize,
     /// The name of the file.
     pub file: &'t str,
+}
+
+/// The label of a field, with its value; none where the map hasn't the key.
+pub type Field<'t> = (&'t str, Option<Item<'t>>);
+
+/// The fields of one map of a document whose values meet the conditions of what is told, or fail them. There is one at least.
+#[derive(Drop)]
+pub struct Since<'t> {
+    /// What their values with parts are called.
+    pub kinds: Kinds<'t>,
+    /// How many bytes at the beginning of the reason's pointer are the place of the map.
+    pub map: usize,
+    pub fields: Vec<Field<'t>>,
 }
 
 /// What is wrong with a value.
@@ -199,13 +211,11 @@ fn element_count(item: Item<'_>) -> usize {
 
 /// The number of what is under a key of a value; none where that is no map, or hasn't the key.
 pub fn number_under(item: Item<'_>, key: &str) -> Option<usize> {
-    match item {
-        Item::Object(entries) => {
-            let place = entries.binary_search_by_key(&key, |entry| entry.0).ok()?;
-            Some(entries.get(place)?.1)
-        }
-        Item::Null | Item::Bool(_) | Item::Int(_) | Item::Text(_) | Item::List(_) => None,
-    }
+    let Item::Object(entries) = item else {
+        return None;
+    };
+    let place = entries.binary_search_by_key(&key, |entry| entry.0).ok()?;
+    Some(entries.get(place)?.1)
 }
 
 /// How many declared keys are compared with keys that aren't allowed, in all.
@@ -331,8 +341,7 @@ pub struct Told<'t> {
 }
 
 impl<'t> Told<'t> {
-    /// Nothing yet, with the values of links. A link comes before the one that leads to it, and those of one value are side by side, so from
-    /// the end on each value comes once.
+    /// Nothing yet, with the values of links. A link comes before the one that leads to it.
     pub(crate) fn new<W: Words<'t>>(
         alloc: Global,
         words: &W,
@@ -345,19 +354,13 @@ impl<'t> Told<'t> {
             of_link: vec![in alloc; 0; reasons.links.len()]?,
             places: Vec::new(alloc),
         };
-        let mut last = None;
         for (place, link) in reasons.links.iter().enumerate().rev() {
-            let value = match (last, &link.up, above(&reasons.links, link)) {
-                (Some((item, value)), _, _) if item == link.item => value,
-                (_, Some(up), Some(from)) => {
-                    told.put(up.link, words.step_of(from.item, &up.cause))?
+            if let (Some(up), Some(from)) = (&link.up, above(&reasons.links, link)) {
+                let value = told.put(up.link, words.step_of(from.item, &up.cause))?;
+                if let Some(slot) = told.of_link.get_mut(place) {
+                    *slot = value;
                 }
-                _ => 0,
-            };
-            if let Some(slot) = told.of_link.get_mut(place) {
-                *slot = value;
             }
-            last = Some((link.item, value));
         }
         Ok(told)
     }

@@ -1,30 +1,16 @@
 // What is told of a verdict in each form: lines for people, and objects of JSON for programs.
-ghost use Rattle.std.specs.Prelude.{◌≡◌, ◌++◌, true, false, IfOk, OnOk, OnErr, string_bytes};
+ghost use Rattle.std.specs.Prelude.{◌≡◌, ◌++◌, true, false, OnOk, OnErr, string_bytes};
 ghost use Rattle.cs_format.specs.Formats.{asks_standard};
 ghost use Rattle.cs_reason_words.specs.Valid.{flag_text, valid_text, invalid_object, report_text, HasLines, EndsInLine};
 
-use crate::entry::{Entry, Told};
+use crate::entry::{Entry, Field, Since, Told};
+use crate::walk::put_step;
 use crate::wording::put_between;
+use cs_flat::Item;
 use cs_format::Form;
-use cs_place::{Named, put_place, put_quoted, put_shown};
-use cs_text::{Made, Written, put_all, put_count, put_number, put_string};
+use cs_place::{Named, Step, put_place, put_quoted, put_shown};
+use cs_text::{Written, put_all, put_count, put_line, put_number, put_string};
 use std::alloc::Global;
-
-/// The objects that say whether a document is valid, and no more (JSON Schema Core 2020-12, section 12.4.1).
-const VALID: &str = "{\"valid\":true}\n";
-
-const INVALID: &str = "{\"valid\":false}\n";
-
-/// The object that says first that a document is invalid, with further members, each behind a comma.
-fn invalid_words(alloc: Global, members: &str) -> Made<String>
-    ensures { IfOk result (λ s. string_bytes s ≡ invalid_object members.now) }
-{
-    let mut object = String::new(alloc);
-    object.push_str("{\"valid\":false")?;
-    object.push_str(members)?;
-    object.push_str("}\n")?;
-    Ok(object)
-}
 
 /// Puts what is told of the reasons of a document: lines for people, members for programs, and in the output formats of JSON Schema nothing.
 pub fn put_told(text: &mut String, form: Form, document: Named<'_>, told: &Told<'_>) -> Written
@@ -39,8 +25,9 @@ pub fn put_told(text: &mut String, form: Form, document: Named<'_>, told: &Told<
     }
 }
 
-/// Adds what is told of a verdict: of a valid document nothing for people, and else the object that says so; of an invalid one its reasons, for
-/// people lines, and for programs the members behind the verdict's. Only memory can run out; nothing is added then.
+/// Adds what is told of a verdict: of a valid document nothing for people, and else the object that says so and no more (JSON Schema Core 2020-12,
+/// section 12.4.1); of an invalid one its reasons, for people lines, and for programs the members behind the verdict's. Only memory can run out; nothing
+/// is added then.
 pub fn report_verdict(
     alloc: Global,
     form: Form,
@@ -55,12 +42,61 @@ pub fn report_verdict(
     match form {
         Form::Lines if valid => Ok(()),
         Form::Lines => output.extend_from_slice(reasons.as_bytes()),
-        Form::Object(_) if valid => output.extend_from_slice(VALID.as_bytes()),
+        Form::Object(_) if valid => output.extend_from_slice("{\"valid\":true}\n".as_bytes()),
         Form::Object(format) if format.has_reasons() => {
-            let object = invalid_words(alloc, reasons)?;
+            let object = format!(in alloc; "{{\"valid\":false{reasons}}}\n")?;
             output.extend_from_slice(object.as_bytes())
         }
-        Form::Object(_) => output.extend_from_slice(INVALID.as_bytes()),
+        Form::Object(_) => output.extend_from_slice("{\"valid\":false}\n".as_bytes()),
+    }
+}
+
+/// How many bytes a text has at most that programs are told.
+const MOST_TOLD: usize = 64;
+
+impl Since<'_> {
+    /// Puts it behind what is wrong.
+    pub(crate) fn put(&self, text: &mut String) -> Written {
+        for (place, (label, value)) in self.fields.iter().enumerate() {
+            let before = if place == 0 { ", since " } else { " and " };
+            put_line(text, &[before, label, " is "])?;
+            match value {
+                None => text.push_str("absent")?,
+                Some(item) => self.kinds.put(text, *item)?,
+            }
+        }
+        Ok(())
+    }
+
+    /// Puts the member that says it of a reason with a pointer.
+    pub(crate) fn put_member(&self, text: &mut String, pointer: &str) -> Written {
+        let map = pointer.get(..self.map).unwrap_or("");
+        text.push_str(",\"since\":[")?;
+        for (place, field) in self.fields.iter().enumerate() {
+            put_between(text, place, ",")?;
+            self.put_field(text, map, field)?;
+        }
+        text.push(']')
+    }
+
+    /// Puts the object of a field of a map, with its value if that is a scalar and no long text.
+    fn put_field(&self, text: &mut String, map: &str, (label, value): &Field<'_>) -> Written {
+        let mut pointer = String::from_str(*text.allocator(), map)?;
+        put_step(&mut pointer, &Step::Key(label))?;
+        text.push_str("{\"instanceLocation\":")?;
+        put_quoted(text, pointer.as_str())?;
+        match *value {
+            None => text.push_str(",\"absent\":true")?,
+            Some(Item::Text(value)) if value.len() <= MOST_TOLD => {
+                put_string(text, "value", value)?;
+            }
+            Some(Item::Text(_) | Item::List(_) | Item::Object(_)) => {}
+            Some(scalar @ (Item::Null | Item::Bool(_) | Item::Int(_))) => {
+                text.push_str(",\"value\":")?;
+                self.kinds.put(text, scalar)?;
+            }
+        }
+        text.push('}')
     }
 }
 
@@ -103,7 +139,7 @@ fn put_object(text: &mut String, entry: &Entry<'_>) -> Written {
 }
 
 /// Puts the members with the reasons, and with how many are left out, behind that of the verdict.
-pub(crate) fn put_members(text: &mut String, entries: &[Entry<'_>], more: usize) -> Written {
+fn put_members(text: &mut String, entries: &[Entry<'_>], more: usize) -> Written {
     text.push_str(",\"errors\":[")?;
     for (place, entry) in entries.iter().enumerate() {
         put_between(text, place, ",")?;
@@ -163,15 +199,11 @@ fn put_more(text: &mut String, more: usize) -> Written
 pub fn put_lines(text: &mut String, document: Named<'_>, told: &[Entry<'_>], more: usize) -> Written
     ensures { OnOk result (EndsInLine (string_bytes text.new)) }
 {
-    let Some((last, others)) = told.split_last() else {
-        return put_more(text, more.max(1));
-    };
-    for entry in others {
+    for entry in told {
         put_entry(text, document.name, entry)?;
     }
-    put_entry(text, document.name, last)?;
-    if more == 0 {
-        return Ok(());
+    if more > 0 || told.is_empty() {
+        put_more(text, more.max(1))?;
     }
-    put_more(text, more)
+    Ok(())
 }

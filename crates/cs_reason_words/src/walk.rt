@@ -1,14 +1,14 @@
 // Along chains of causes, from the root to a rule and from the document to a value, by the words of a side; and what is told of reasons.
-ghost use Rattle.std.specs.Prelude.{◌≡◌, ◌++◌, OnOk, string_bytes, encode_utf8};
-ghost use Rattle.cs_profile.specs.Places.{escaped, at_key};
+ghost use Rattle.std.specs.Prelude.{◌≡◌, OnOk, string_bytes};
+ghost use Rattle.cs_profile.specs.Places.{at_key};
 ghost use Rattle.cs_reason_words.specs.Pointer.{at_step};
 
 use crate::entry::{Entry, Found, Told, position_in};
 use cs_place::{Named, Position, Positions, Step};
 use cs_reasons::{Cause, Link, Reason, Reasons, Telling};
 use cs_text::{Made, Written};
-use itoa::Buffer;
 use std::alloc::Global;
+use std::iter::successors;
 
 /// The pair whose alternative was followed last, by the numbers of its value and its rule, and the place of the alternative.
 pub type Branch = (usize, usize, usize);
@@ -58,13 +58,9 @@ pub(crate) fn above<'a, C: Drop>(links: &'a [Link<C>], link: &Link<C>) -> Option
 
 /// The links on the chain to that at a place, from the pair that is explained on.
 pub fn chain_to<C: Drop>(alloc: Global, links: &[Link<C>], place: usize) -> Made<Vec<&Link<C>>> {
+    let upward = successors(links.get(place), |link| above(links, *link));
     let mut chain = Vec::new(alloc);
-    let mut next = links.get(place);
-    for _ in 0..=links.len() {
-        let Some(link) = next else { break };
-        chain.push(link)?;
-        next = above(links, link);
-    }
+    chain.extend(upward.take(links.len()))?;
     chain.reverse();
     Ok(chain)
 }
@@ -186,27 +182,18 @@ fn tell<'t, W: Words<'t>>(
     Ok(steps.saturating_add(bytes))
 }
 
-/// Puts a character of a key (section 3).
-#[tactic(auto, using(crate::proofs::Pointers::plain_character))]
-fn put_key_character(pointer: &mut String, character: char) -> Written
-    ensures { OnOk result (string_bytes pointer.new
-        ≡ string_bytes pointer.old ++ escaped (encode_utf8 character)) }
-{
-    match character {
-        '~' => pointer.push_str("~0"),
-        '/' => pointer.push_str("~1"),
-        _ => pointer.push(character),
-    }
-}
-
-/// Leads a pointer on to what is under a key.
+/// Leads a pointer on to what is under a key (section 3).
 #[tactic(auto, unfolding(cs_profile::specs::Places::at_key))]
 fn put_key(pointer: &mut String, key: &str) -> Written
     ensures { OnOk result (string_bytes pointer.new ≡ at_key (string_bytes pointer.old) key.now) }
 {
     pointer.push_str("/")?;
     for character in key.chars() {
-        put_key_character(pointer, character)?;
+        match character {
+            '~' => pointer.push_str("~0")?,
+            '/' => pointer.push_str("~1")?,
+            _ => pointer.push(character)?,
+        }
     }
     Ok(())
 }
@@ -218,9 +205,6 @@ pub fn put_step(pointer: &mut String, step: &Step<'_>) -> Written
 {
     match step {
         Step::Key(key) => put_key(pointer, key),
-        Step::Element(place) => {
-            pointer.push_str("/")?;
-            pointer.push_str(Buffer::new().format(*place))
-        }
+        Step::Element(place) => write!(pointer, "/{place}"),
     }
 }

@@ -58,10 +58,7 @@ fn put_beginning(text: &mut String, inside: &str) -> Written {
 
 /// Puts a mark behind so many parts, if there are any.
 pub fn put_between(text: &mut String, before: usize, mark: &str) -> Written {
-    if before > 0 {
-        text.push_str(mark)?;
-    }
-    Ok(())
+    text.push_str(if before > 0 { mark } else { "" })
 }
 
 /// Puts how many of so many alternatives aren't named, if any.

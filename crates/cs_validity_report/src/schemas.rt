@@ -1,5 +1,5 @@
 // The words of schemas, and reports in them: where causes lead, what is wrong by one that leads nowhere, and what keywords ask.
-ghost use Rattle.std.specs.Prelude.{◌≡◌, false, OnOk, OnErr, string_bytes};
+ghost use Rattle.std.specs.Prelude.{◌≡◌, false, OnOk, OnErr};
 ghost use Rattle.cs_reason_words.specs.Valid.{HasLines, Reports};
 ghost use Rattle.cs_validity_reasons.specs.WhyTold.{says_valid};
 
@@ -10,11 +10,11 @@ use cs_place::{Named, Step};
 use cs_profile::{JsonKind, Keyword, Keywords, Schema};
 use cs_reason_words::{
     Finding, Form, Found, Kinds, MOST_COMPARISONS, MOST_WANTED, Made, Way, Words, Written, item_at,
-    put_between, put_integer, put_more, put_step, put_told, report_verdict, told_by,
+    put_between, put_more, put_step, put_told, report_verdict, told_by,
 };
 use cs_reasons::Telling;
 use cs_validate::SchemaRules;
-use cs_validity_reasons::{Explanation, ValidCause, Want, wanted_by};
+use cs_validity_reasons::{Explanation, ValidCause, Want, Wanted, wanted_by};
 use std::alloc::Global;
 
 /// How many declared keys are looked through for one that may have been meant.
@@ -73,19 +73,13 @@ pub(crate) fn put_keywords(path: &mut String, cause: &ValidCause<'_>) -> Written
         return Ok(());
     };
     put_step(path, &Step::Key(keyword.name()))?;
-    match part {
-        Some(step) => put_step(path, &step),
-        None => Ok(()),
-    }
+    part.map_or(Ok(()), |step| put_step(path, &step))
 }
 
 impl<'t> Schemas<'t> {
     /// That a value isn't what a keyword without parts asks, or is what `not` refuses.
-    fn unmet(&self, keyword: Keyword, item: usize, schema: Option<&Schema>) -> Made<Finding<'t>> {
+    fn unmet(&self, keyword: Keyword, item: usize, keywords: &Keywords) -> Made<Finding<'t>> {
         let value = item_at(self.flat, item);
-        let Some(keywords) = keywords_of(schema) else {
-            return Finding::never(self.alloc);
-        };
         if let Keyword::MinItems = keyword {
             let least = usize::try_from(keywords.min_items.unwrap_or(0)).unwrap_or(0);
             return Finding::few(self.alloc, value, least);
@@ -108,16 +102,8 @@ impl<'t> Schemas<'t> {
     /// That none of the alternatives takes a value, or the one under the key that tells them apart.
     fn none_taken(&self, item: usize, rule: usize) -> Made<Finding<'t>> {
         let (alloc, flat) = (self.alloc, self.flat);
-        let wanted = wanted_by(self.rules, alloc, flat, item, rule)?;
-        Finding::untaken(
-            alloc,
-            KINDS,
-            flat,
-            item,
-            wanted.key,
-            &wanted.alternatives,
-            put_want,
-        )
+        let Wanted { key, alternatives } = wanted_by(self.rules, alloc, flat, item, rule)?;
+        Finding::untaken(alloc, KINDS, flat, item, key, &alternatives, put_want)
     }
 
     /// That a key isn't allowed.
@@ -144,10 +130,7 @@ impl<'t> Schemas<'t> {
             ValidCause::Additional { .. } => keywords.additional.as_ref(),
             ValidCause::Prefix { place, .. } => keywords.prefix.get(*place),
             ValidCause::Items { .. } => keywords.rest.as_ref(),
-            ValidCause::Never
-            | ValidCause::Missing { .. }
-            | ValidCause::Keyword(_)
-            | ValidCause::NoAlternative => None,
+            _ => None,
         }
     }
 
@@ -209,18 +192,12 @@ impl<'t> Words<'t> for Schemas<'t> {
 
     fn finding(&mut self, node: Node<'t>, cause: &ValidCause<'t>, way: &mut Way) -> Found<'t> {
         put_keywords(&mut way.path, cause)?;
-        let finding = match cause {
-            ValidCause::Missing { key } => Finding::missing(self.alloc, key)?,
-            ValidCause::Keyword(keyword) => self.unmet(*keyword, way.item, node.schema)?,
-            ValidCause::NoAlternative => self.none_taken(way.item, way.rule)?,
-            ValidCause::Never => return self.never(node),
-            ValidCause::Reference { .. }
-            | ValidCause::Part { .. }
-            | ValidCause::Alternative { .. }
-            | ValidCause::Property { .. }
-            | ValidCause::Additional { .. }
-            | ValidCause::Prefix { .. }
-            | ValidCause::Items { .. } => return Ok(None),
+        let finding = match (cause, keywords_of(node.schema)) {
+            (ValidCause::Missing { key }, _) => Finding::missing(self.alloc, key)?,
+            (ValidCause::Keyword(asked), Some(keywords)) => self.unmet(*asked, way.item, keywords)?,
+            (ValidCause::NoAlternative, _) => self.none_taken(way.item, way.rule)?,
+            (ValidCause::Never, _) => return self.never(node),
+            _ => return Ok(None),
         };
         Ok(Some(finding))
     }
@@ -270,8 +247,7 @@ fn put_values(text: &mut String, values: &Vec<Doc>) -> Written {
 fn put_unmet(text: &mut String, keyword: Keyword, keywords: &Keywords) -> Made<&'static str> {
     for (limiting, mark, limit) in limits(keywords) {
         if limiting.name() == keyword.name() {
-            text.push_str(mark)?;
-            put_integer(text, limit.unwrap_or(0))?;
+            write!(text, "{mark}{}", limit.unwrap_or(0))?;
             return Ok("range");
         }
     }
@@ -353,8 +329,7 @@ pub fn report_validity<'t>(
 {
     let mut text = String::new(alloc);
     match explanation {
-        Explanation::Valid => {}
-        Explanation::Untold => put_untold(&mut text, form)?,
+        Explanation::Untold => text.push_str(untold(form))?,
         Explanation::Invalid(reasons) if form.has_reasons() => {
             let mut words = Schemas {
                 alloc,
@@ -370,24 +345,19 @@ pub fn report_validity<'t>(
                 Form::Lines | Form::Object(_) => put_told(&mut text, form, document, &told)?,
             }
         }
-        Explanation::Invalid(_) => {}
+        Explanation::Valid | Explanation::Invalid(_) => {}
     }
     report_verdict(alloc, form, explanation.is_valid(), text.as_str(), output)
 }
 
-/// That the reasons of a document aren't told, for people.
-const UNTOLD_LINE: &str =
-    "the reasons aren't told: values and required names make more than 67,108,864 pairs\n";
-
-/// Puts what is told of the reasons of a document that isn't valid, where they aren't told. There is one at least.
-fn put_untold(text: &mut String, form: Form) -> Written
-    ensures { OnOk result (HasLines false form (string_bytes text.new)) }
+/// What is told of the reasons of a document that isn't valid, where they aren't told. There is one at least.
+fn untold(form: Form) -> &'static str
+    ensures { HasLines false form result.now }
 {
     match form {
         Form::Lines => {
-            text.push_str(UNTOLD_LINE)?;
-            Ok(())
+            "the reasons aren't told: values and required names make more than 67,108,864 pairs\n"
         }
-        Form::Object(format) => text.push_str(format.untold()),
+        Form::Object(format) => format.untold(),
     }
 }
