@@ -47,17 +47,19 @@ impl<'a> Draft<'a> {
 
     /// Where in the source it is what is at an offset of the mended text, and whether a mend put it there: then that begins there.
     pub(crate) fn origin(&self, offset: usize) -> (usize, bool) {
-        let mut at = offset;
+        let mut left = offset;
+        let mut from = 0;
         for mend in &self.mends {
-            let Some(behind) = at.checked_sub(mend.from) else {
+            let Some(behind) = left.checked_sub(mend.from.saturating_sub(from)) else {
                 break;
             };
-            let Some(behind) = behind.checked_sub(mend.put.len()) else {
+            let Some(behind_put) = behind.checked_sub(mend.put.len()) else {
                 return (mend.from, true);
             };
-            at = mend.to.saturating_add(behind);
+            left = behind_put;
+            from = mend.to;
         }
-        (at, false)
+        (from.saturating_add(left), false)
     }
 
     /// Adds a mend, in the place of those inside of it. Of two texts that come before the same token the later one stands first.
