@@ -51,6 +51,7 @@ OF_PROGRAMS = [
     "tools/natural.py",
     "tools/pages.sh",
     "tools/widened.py --random 1000 --program",
+    "tools/lengths.py --program",
     "tools/meant.py",
     "tools/explained.py",
 ]

@@ -377,6 +377,28 @@ try '3,000,000 zeros: vet --format json [...string]' 9000003 \
     'vet --format json --most 1 --root #A --doc values rest.cue'
 rm values
 
+# Limits of how long texts are: each text is counted once, however many limits there are.
+limits() { # LEAST MOST
+    printf '{"allOf":['
+    listed 39 "{\"minLength\":$1%02d}"
+    printf ,
+    listed 39 "{\"maxLength\":$2%02d}"
+    printf ']}'
+}
+{ printf '"'; fill 50000000 a; printf '"'; } > text
+limits 499999 500000 > schema
+try 'text of 50 MB, 78 limits' 79 valid 'validate --profile wide --schema schema --doc text'
+limits 500001 500000 > schema
+try 'text of 50 MB, 78 limits: validate --why' 79 \
+    'holds 1 text:1:1: (root): found a text of 50000000 characters, want at least 50000100 [#/allOf/0/minLength]' \
+    'validate --profile wide --why --schema schema --doc text'
+{ printf '"'; many 12500000 '😀'; printf '"'; } > text
+limits 124999 125000 > schema
+try 'text of 12,500,000 characters of 4 bytes, 78 limits' 79 valid 'validate --profile wide --schema schema --doc text'
+{ printf '{"items":'; limits 1 10; printf '}'; } > schema
+{ printf '['; listed 400000 '"%0140d"'; printf ']'; } > text
+try '400,000 texts of 140 bytes, 78 limits' 32000080 valid 'validate --profile wide --schema schema --doc text'
+rm text schema
 # Keys and texts that agree but for their last bytes.
 letters='a b c d e f g h i j k l m n o p q r s t u v w x y z A B C D E F G H I J K L M N O P Q R S T U V W X Y Z 0 1 2 3 4 5 6 7'
 fill 1000000 k > front

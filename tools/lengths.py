@@ -4,11 +4,15 @@
 package has, and which documents that schema admits, knows nothing of the program, and is there before it.
 
     tools/lengths.py [--random N] [--seed N]      a line for each difference, and a closing count
+    tools/lengths.py [--random N] [--seed N] --program PROGRAM
 
 - Each row of tools/lengths.rows: a source, the schema of `#P` (`schema`), the same with limits put together (`together`, where it differs),
   or the number by which it is refused (`=>`), and documents that are instances of `#P` and that aren't.
 - Random packages, 2,000 where no number is given: each document has to be an instance exactly where both schemas admit it, and so it is judged by
   `jsonschema` of Python where that is installed.
+- With a program: the schemas of the rows, with the rows' documents, and random schemas with these keywords at any place, 300 where no number is given. By
+  `validate --profile wide` each document has to have the verdict that the model and `jsonschema` give. Without these words a schema with a keyword that
+  the wide profile has alone is refused by 21, and any other one gives the same verdicts.
 
 A text has as many characters as it has code points, also past U+FFFF, and a combining mark is one. Each of these forms admits values of one kind:
 texts of at least, or at most, so many characters; lists of so many elements; maps of so many keys. An import is named in its file, and a field of
@@ -24,7 +28,9 @@ import argparse
 import json
 import random
 import re
+import subprocess
 import sys
+import tempfile
 from collections.abc import Iterator
 from dataclasses import dataclass, field
 from pathlib import Path
@@ -48,6 +54,11 @@ FORMS = {
 }
 LARGEST = 2**63 - 1
 DOCUMENTS = 40
+# The keywords that the default profile doesn't have.
+WIDE_KEYWORDS = {it for pair in KEYWORDS.values() for it in pair} - {"minItems"}
+WIDE = ("--profile", "wide")
+# How many packages, and how many schemas of a program, where no number is given.
+PACKAGES, SCHEMAS = 2000, 300
 
 
 # Sources.
@@ -275,6 +286,11 @@ def is_of_type(name: str, doc) -> bool:
     return type(doc) is {"null": type(None), "boolean": bool, "object": dict, "array": list, "string": str}[name]
 
 
+def is_same(doc, other) -> bool:
+    """Whether two documents are the same; Python's `==` takes `true` for 1."""
+    return json.dumps(doc, sort_keys=True) == json.dumps(other, sort_keys=True)
+
+
 def keeps(document: dict, schema: dict, keyword: str, doc) -> bool:
     """Whether a value keeps one keyword of a schema. One for another kind of values holds."""
     wanted = schema[keyword]
@@ -291,7 +307,7 @@ def keeps(document: dict, schema: dict, keyword: str, doc) -> bool:
     if keyword == "type":
         return is_of_type(wanted, doc)
     if keyword in ("const", "enum"):
-        return any(is_value(it, doc) for it in (wanted if keyword == "enum" else [wanted]))
+        return any(is_same(it, doc) for it in (wanted if keyword == "enum" else [wanted]))
     if keyword in ("allOf", "anyOf"):
         return (all if keyword == "allOf" else any)(is_valid(document, it, doc) for it in wanted)
     if keyword == "not":
@@ -468,25 +484,144 @@ def fault_of_package(seed: int) -> str:
     return ""
 
 
+# A program, on the schemas of the rows, and on random ones.
+
+
+class SchemaChance(Chance):
+    """Random schemas with limits of lengths at any place."""
+
+    def limits(self) -> dict:
+        keywords = [it for pair in KEYWORDS.values() for it in pair]
+        found = self.random.sample(keywords, self.random.choice([1, 1, 2, 3]))
+        return {it: self.random.choice([0, 1, 1, 2, 2, 3, 4, LARGEST]) for it in found}
+
+    def about_values(self) -> dict:
+        values = ["ab", "", "e\u0301", "\U0001f600", 1, None, True, [], {}, ["a"], {"a": 1}]
+        return self.random.choice(
+            [
+                {"type": self.random.choice(["integer", "number", "string", "array", "object", "boolean", "null"])},
+                {"const": self.random.choice(values)},
+                {"enum": self.random.sample(values, 3)},
+                {"minimum": self.random.randint(-1, 2)},
+                {"exclusiveMaximum": self.random.randint(0, 2)},
+            ]
+        )
+
+    def about_schemas(self, names: list[str], depth: int) -> dict:
+        """Keywords that hold schemas, which may name definitions behind this one."""
+        few = [self.schema(names, depth) for _ in range(self.random.randint(1, 3))]
+        choices = [{"allOf": few}, {"anyOf": few}, {"not": few[0]}, {"prefixItems": few}, {"items": few[0]}, {"additionalProperties": few[0]}]
+        choices.append({"prefixItems": few[1:] or few, "items": few[0]})
+        choices.append({"properties": dict(zip("abc", few)), "additionalProperties": self.random.choice([True, False, few[0]])})
+        choices.append({"properties": dict(zip("abc", few)), "required": self.random.sample("abz", 1)})
+        if names:
+            choices += [{"$ref": f"#/$defs/{self.random.choice(names)}"}] * 2
+        return self.random.choice(choices)
+
+    def schema(self, names: list[str], depth: int):
+        if self.random.random() < 0.05:
+            return self.random.random() < 0.7
+        found = self.limits() if self.random.random() < 0.7 else {}
+        if self.random.random() < 0.3:
+            found |= self.about_values()
+        if depth > 0 and self.random.random() < 0.7:
+            found |= self.about_schemas(names, depth - 1)
+        return found
+
+    def root(self) -> dict:
+        """A schema with definitions, of which each refers to those behind it alone."""
+        names = ["A", "B"]
+        definitions = {name: self.schema(names[place + 1 :], 2) for place, name in enumerate(names)}
+        found = self.schema(names, 3)
+        return {"$defs": definitions, **(found if isinstance(found, dict) else {"not": not found})}
+
+
+def has_keyword(schema, keywords: set[str]) -> bool:
+    """Whether a schema, or one inside it, has one of these keywords."""
+    if not isinstance(schema, dict):
+        return False
+    inside = [schema[it] for it in ("not", "items", "additionalProperties") if it in schema]
+    inside += [part for it in ("allOf", "anyOf", "prefixItems") for part in schema.get(it, [])]
+    inside += [part for it in ("properties", "$defs") for part in schema.get(it, {}).values()]
+    return bool(keywords & schema.keys()) or any(has_keyword(it, keywords) for it in inside)
+
+
+def asked(program: str, schema, documents: list, profile: tuple[str, ...]) -> tuple[list[str], str]:
+    """The lines that `validate` prints of documents, and what it says on standard error."""
+    with tempfile.NamedTemporaryFile("w", encoding="utf-8") as file:
+        file.write(json.dumps(schema))
+        file.flush()
+        words = [program, "validate", *profile, "--schema", file.name, "--lines"]
+        text = "".join(f"{json.dumps(it)}\n" for it in documents)
+        run = subprocess.run(words, input=text, capture_output=True, encoding="utf-8", timeout=120)
+    return run.stdout.splitlines(), run.stderr.strip()
+
+
+def faults_of_schema(program: str, schema, documents: list) -> Iterator[str]:
+    """How what a program says of documents isn't what the model and other validators say."""
+    wanted = [is_valid(schema, schema, doc) for doc in documents]
+    for judge in JUDGES:
+        if [judge(schema).is_valid(doc) for doc in documents] != wanted:
+            yield "Python's jsonschema differs from the model"
+    said = ["valid" if it else "invalid" for it in wanted]
+    lines, refusal = asked(program, schema, documents, WIDE)
+    for doc, one, other in zip(documents, lines, said):
+        if one != other:
+            yield f"{json.dumps(doc)} is {one}, and {other} by the model"
+    if len(lines) != len(said) or refusal:
+        yield f"{len(lines)} verdicts, and {refusal!r} is said"
+    default = ([], "error 21") if has_keyword(schema, WIDE_KEYWORDS) else (said, "")
+    answer = asked(program, schema, documents, ())
+    if answer != default:
+        yield f"without --profile wide: {answer}"
+
+
+def schemas_of_rows() -> Iterator[tuple[str, object, list]]:
+    """The schemas of the rows that aren't refused, with the documents of the row."""
+    for row in rows():
+        if not row.refusal:
+            for together in (False, True):
+                schema = Translation(read(row.source), together).document("#P")
+                yield f"{row}{': limits put together' * together}", schema, [doc for doc, _is_wanted in row.documents]
+
+
+def random_schemas(words: argparse.Namespace) -> Iterator[tuple[str, object, list]]:
+    for seed in range(words.seed, words.seed + (SCHEMAS if words.random is None else words.random)):
+        chance = SchemaChance(seed)
+        schema = chance.root()
+        yield f"seed {seed}: {json.dumps(schema)}", schema, [chance.document(3) for _ in range(DOCUMENTS)]
+
+
+# What is counted.
+
+
+def tried_program(words: argparse.Namespace) -> Iterator[tuple[str, list[str]]]:
+    program = str(words.program.resolve())
+    for name, schema, documents in [*schemas_of_rows(), *random_schemas(words)]:
+        yield name, list(faults_of_schema(program, schema, documents))
+
+
+def tried_model(words: argparse.Namespace) -> Iterator[tuple[str, list[str]]]:
+    for row in rows():
+        yield str(row), list(faults_of_row(row))
+    for seed in range(words.seed, words.seed + (PACKAGES if words.random is None else words.random)):
+        yield f"seed {seed}", [it for it in [fault_of_package(seed)] if it]
+
+
 def main(words: argparse.Namespace) -> int:
     assert set(LENGTHS) == {".".join(it) for it in FORMS}
     passed = failed = 0
-    for row in rows():
-        faults = list(faults_of_row(row))
+    for name, faults in tried_program(words) if words.program else tried_model(words):
         passed, failed = passed + (not faults), failed + bool(faults)
         for it in faults:
-            print(f"{row}: {it}")
-    for seed in range(words.seed, words.seed + words.random):
-        fault = fault_of_package(seed)
-        passed, failed = passed + (not fault), failed + bool(fault)
-        if fault:
-            print(f"seed {seed}: {fault}")
+            print(f"{name}: {it}")
     print(f"{passed} passed, {failed} failed")
     return 1 if failed or not passed else 0
 
 
 if __name__ == "__main__":
     parser = argparse.ArgumentParser(description=__doc__, formatter_class=argparse.RawDescriptionHelpFormatter)
-    parser.add_argument("--random", type=int, default=2000)
+    parser.add_argument("--random", type=int)
     parser.add_argument("--seed", type=int, default=1)
+    parser.add_argument("--program", type=Path)
     sys.exit(main(parser.parse_args()))

@@ -54,7 +54,7 @@ class Thing:
 
 
 THINGS = (
-    Thing("A keyword", "minItems", ("MinItems", "min_items", "minItems", "at_least_long", "length_holds")),
+    Thing("A keyword", "minItems", ("MinItems", "min_items", "minItems", "at_least_long", "is_at_least_long")),
     Thing("A form of expression without parts", "!=null", ("NotNull", "…not_null…", "other_null", "null_or_goes")),
     Thing(
         "A form of expression with parts",

@@ -123,6 +123,10 @@ def of_schemas(path: Path) -> list[Rules]:
     return [Rules(f"{path}: {schema[:60]}", judged(cells), schema=spelled(schema)) for schema, *cells in rows_of(path)]
 
 
+def of_wide_schemas(path: Path) -> list[Rules]:
+    return [Rules(f"{path}: {schema[:60]}", judged(cells), schema=spelled(schema), profile=WIDE) for schema, *cells in rows_of(path)]
+
+
 def of_documents(path: Path) -> list[Rules]:
     source, schema = (path.with_name(it).read_text(encoding="utf-8") for it in ("source.cue", "schema.json"))
     return [Rules(str(path), [row[0] for row in rows_of(path)], [source], "#P", schema)]
@@ -168,6 +172,7 @@ def all_rules() -> list[Rules]:
         ("packages", of_packages),
         ("widened", of_widened),
         ("schemas", of_schemas),
+        ("wide_schemas", of_wide_schemas),
         ("documents", of_documents),
         ("runs", of_runs),
         ("args", of_args),

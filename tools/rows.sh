@@ -223,6 +223,27 @@ schema() {
 }
 schemas() { for_rows schemas "$1" schema; } # folder
 
+# The rows of `wide_schemas`: a schema that the wide profile takes alone, and cells of what is wanted of documents by `validate` with its words.
+wide_schema() {
+    cut_cell
+    put schema.json "$cell"
+    cp schema.json described.json
+    printf 1 > document
+    call validate
+    judge "$label: without the words" 'error 21'
+    run check $profile --schema schema.json
+    judge "$label: check" 'lines 0'
+    while [ -n "$row" ]; do
+        cut_cell
+        each "$cell" validate_in
+    done
+}
+wide_schemas() { # folder
+    profile='--profile wide'
+    for_rows wide_schemas "$1" wide_schema
+    profile=
+}
+
 # The rows of `sources`: words, sources, and what is wanted of a run with these files behind the words.
 sourced() {
     cut_cell

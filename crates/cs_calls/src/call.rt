@@ -29,6 +29,8 @@ pub enum Call {
     Place,
     /// A schema; what is written of it.
     Schema,
+    /// The same with the wide vocabulary.
+    WideSchema,
     /// A source, a root, and a document; how many judgements its table has, and the verdict.
     Instance,
     /// The same; the verdict by a table in which every verdict is no.
@@ -38,6 +40,10 @@ pub enum Call {
     Validity,
     /// The same; the verdict by a table in which every verdict is no.
     ValidityByRefusals,
+    /// What `validity` answers, with the wide vocabulary.
+    WideValidity,
+    /// The same; whether the document is valid.
+    ValidateBy,
     /// How many items, rules and classes of items there are; how many judgements the table has, and how many are asked for.
     Filling,
 }
@@ -57,10 +63,13 @@ const CALLS: &[(&str, Call)] = &[
     ("places", Call::Places),
     ("place", Call::Place),
     ("schema", Call::Schema),
+    ("wide_schema", Call::WideSchema),
     ("instance", Call::Instance),
     ("instance_by_refusals", Call::InstanceByRefusals),
     ("validity", Call::Validity),
     ("validity_by_refusals", Call::ValidityByRefusals),
+    ("wide_validity", Call::WideValidity),
+    ("validate_by", Call::ValidateBy),
     ("filling", Call::Filling),
 ];
 

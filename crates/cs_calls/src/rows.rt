@@ -5,7 +5,7 @@
 use crate::call::{Call, call_of};
 use crate::{places, texts, tokens, verdicts};
 use cs_syntax::Profile;
-use cs_tool::{Fault, write_fault};
+use cs_tool::{Fault, Vocabulary, write_fault};
 use std::alloc::{AllocError, Global};
 
 /// The rows with their answers.
@@ -57,9 +57,13 @@ fn answer(alloc: Global, call: Call, cells: &str) -> Result<Vec<u8>, Fault> {
         Call::Way => texts::ways(alloc, cells),
         Call::Items | Call::Keys => texts::listed(alloc, call, cells),
         Call::Places | Call::Place => places::found(alloc, call, cells),
-        Call::Schema => texts::schema(alloc, cells),
+        Call::Schema => texts::schema(alloc, Vocabulary::Default, cells),
+        Call::WideSchema => texts::schema(alloc, Vocabulary::Wide, cells),
         Call::Instance | Call::InstanceByRefusals => verdicts::instance(alloc, call, cells),
-        Call::Validity | Call::ValidityByRefusals => verdicts::validity(alloc, call, cells),
+        Call::Validity | Call::ValidityByRefusals | Call::WideValidity => {
+            verdicts::validity(alloc, call, cells)
+        }
+        Call::ValidateBy => verdicts::validated(alloc, cells),
         Call::Filling => verdicts::filling(alloc, cells),
     }
 }

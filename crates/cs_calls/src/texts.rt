@@ -4,7 +4,7 @@ use crate::rows::{cell, number_of};
 use cs_flat::{next_under, number_under};
 use cs_json::{Doc, Flat, Item, Scratch, flatten, read_doc, read_flat, write_doc};
 use cs_schema::to_doc;
-use cs_tool::{Fault, read_schema_text};
+use cs_tool::{Fault, Vocabulary, read_schema_text};
 use std::alloc::{AllocError, Global};
 
 /// The text that is written of a copy of a text's document.
@@ -24,8 +24,8 @@ pub fn compared(alloc: Global, cells: &str) -> Result<Vec<u8>, Fault> {
 }
 
 /// The text that is written of a text's schema.
-pub fn schema(alloc: Global, text: &str) -> Result<Vec<u8>, Fault> {
-    let schema = read_schema_text(alloc, text.as_bytes())?;
+pub fn schema(alloc: Global, vocabulary: Vocabulary, text: &str) -> Result<Vec<u8>, Fault> {
+    let schema = read_schema_text(alloc, vocabulary, text.as_bytes())?;
     let doc = to_doc(alloc, &schema)?;
     Ok(write_doc(alloc, &doc)?)
 }

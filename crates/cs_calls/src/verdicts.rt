@@ -7,7 +7,7 @@ use cs_instance::{instance_judge, instance_table};
 use cs_json::{Doc, Flat, flatten, read_doc};
 use cs_schema::SchemaDoc;
 use cs_table::fill;
-use cs_tool::{Fault, accepted_package, read_schema_text};
+use cs_tool::{Fault, Vocabulary, accepted_package, read_schema_text, validate_by};
 use cs_validate::{is_valid, valid_judge, valid_table};
 use std::alloc::Global;
 
@@ -59,9 +59,20 @@ fn instance_by_table(
 /// How a document is judged by a schema.
 pub fn validity(alloc: Global, call: Call, cells: &str) -> Result<Vec<u8>, Fault> {
     let (schema, text) = cell(cells);
-    let schema = read_schema_text(alloc, schema.as_bytes())?;
+    let vocabulary = match call {
+        Call::WideValidity => Vocabulary::Wide,
+        _ => Vocabulary::Default,
+    };
+    let schema = read_schema_text(alloc, vocabulary, schema.as_bytes())?;
     let doc = read_doc(alloc, text.as_bytes())?;
     validity_of(alloc, call, &schema, &doc)
+}
+
+/// Whether a document is valid against a schema with the wide vocabulary.
+pub fn validated(alloc: Global, cells: &str) -> Result<Vec<u8>, Fault> {
+    let (schema, text) = cell(cells);
+    let verdict = validate_by(alloc, Vocabulary::Wide, schema.as_bytes(), text.as_bytes())?;
+    Ok(format!(in alloc; "{verdict}")?.into_bytes())
 }
 
 fn validity_of(alloc: Global, call: Call, schema: &SchemaDoc, doc: &Doc) -> Result<Vec<u8>, Fault> {

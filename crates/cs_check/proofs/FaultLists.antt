@@ -5,6 +5,7 @@ use Rattle.std.proofs.lemmas.Map.Keys.{IsDistinct-cons, IsDistinct-head, IsDisti
 use Rattle.cs_document.specs.Document.{Document}
 use Rattle.cs_profile.specs.declared.fault.SchemaFault.{SchemaFault}
 use Rattle.cs_profile.specs.declared.fault.SchemaFault.TheVariants as fault
+use Rattle.cs_profile.specs.declared.keyword.Vocabulary.{Vocabulary}
 use Rattle.cs_tool.specs.Conversions.{of_schema}
 use Rattle.cs_tool.specs.declared.fault.Fault.{Fault}
 use Rattle.cs_check.specs.SchemaFaults.{AreDistinctFaults, BeginsWithFaultOf, IsFaultOf, is_of_schema, is_same}
@@ -49,10 +50,10 @@ pub next_told : (fs gs : List Fault) (f : Fault) (e : SchemaFault) → AreDistin
 next_told fs gs f e before is other none pushed = further_told f fs gs before (ap is_of_schema is ∙ of_schema_told e other) none pushed
 
 -- the first one is that of the document as it was, which no fault was mended of
-pub begins_pushed : (d now : Document) (fs gs : List Fault) (f : Fault) → BeginsWithFaultOf d fs → (fs ≡ [] → now ≡ d) → IsFaultOf now f → gs ≡ fs ++ f ∷ []
-    → BeginsWithFaultOf d gs
-begins_pushed d now [] gs f begins whole is pushed = subst (BeginsWithFaultOf d) (sym pushed) (subst (λ x. IsFaultOf x f) (whole refl) is)
-begins_pushed d now (x ∷ xs) gs f begins whole is pushed = subst (BeginsWithFaultOf d) (sym pushed) begins
+pub begins_pushed : (v : Vocabulary) (d now : Document) (fs gs : List Fault) (f : Fault) → BeginsWithFaultOf v d fs → (fs ≡ [] → now ≡ d) → IsFaultOf v now f → gs ≡ fs ++ f ∷ []
+    → BeginsWithFaultOf v d gs
+begins_pushed v d now [] gs f begins whole is pushed = subst (BeginsWithFaultOf v d) (sym pushed) (subst (λ x. IsFaultOf v x f) (whole refl) is)
+begins_pushed v d now (x ∷ xs) gs f begins whole is pushed = subst (BeginsWithFaultOf v d) (sym pushed) begins
 
 pub some_pushed : (fs gs : List Fault) (f : Fault) → gs ≡ fs ++ f ∷ [] → ¬ (gs ≡ [])
 some_pushed [] gs f pushed none = let e : f ∷ [] ≡ [] = sym pushed ∙ none in absurd (cc e)

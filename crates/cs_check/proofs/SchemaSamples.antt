@@ -5,18 +5,19 @@ use Rattle.std.specs.declared.alloc.Global.{Global}
 use Rattle.std.specs.Prelude.{string_bytes, string_eq}
 use Rattle.std.specs.Str.{bytes_eq}
 use Rattle.std.specs.String.{string_eq_equiv}
+use Rattle.cs_profile.specs.declared.keyword.Vocabulary.{Vocabulary}
 use Rattle.cs_tool.specs.declared.fault.Fault.{Fault}
 use Rattle.cs_tool.specs.declared.fault.Fault.TheVariants.{OutOfMemory, NotInteger, SchemaNotJson, Keyword, Shape, Reference}
 use Rattle.cs_check.specs.SchemaFaults.{IsSchemaRefusal, BeginsWithSchemaFault, is_of_schema, is_same}
 
-no_memory : (text : List ℕ) → ¬ (IsSchemaRefusal text OutOfMemory)
-no_memory text h = h.other refl
+no_memory : (v : Vocabulary) (text : List ℕ) → ¬ (IsSchemaRefusal v text OutOfMemory)
+no_memory v text h = h.other refl
 
-none : (text : List ℕ) → BeginsWithSchemaFault text []
-none text = tt
+none : (v : Vocabulary) (text : List ℕ) → BeginsWithSchemaFault v text []
+none v text = tt
 
-first_of_two : (text : List ℕ) (f g : Fault) → BeginsWithSchemaFault text (f ∷ g ∷ []) → IsSchemaRefusal text f
-first_of_two text f g h = h
+first_of_two : (v : Vocabulary) (text : List ℕ) (f g : Fault) → BeginsWithSchemaFault v text (f ∷ g ∷ []) → IsSchemaRefusal v text f
+first_of_two v text f g h = h
 
 of_schema : (is_of_schema (SchemaNotJson 3 true) ≡ true) × (is_of_schema (NotInteger 3 true) ≡ true)
 of_schema = (refl, refl)

@@ -6,6 +6,7 @@ use Rattle.std.specs.declared.alloc.Global.{Global}
 use lib.Pointwise.{pointwise}
 use Rattle.cs_document.specs.Document.{Document}
 use Rattle.cs_profile.specs.Refusal.{IsRefusal}
+use Rattle.cs_profile.specs.declared.keyword.Vocabulary.{Vocabulary}
 use Rattle.cs_profile.specs.declared.fault.SchemaFault.{SchemaFault}
 use Rattle.cs_profile.specs.declared.fault.SchemaFault.TheVariants as fault
 use Rattle.cs_tool.specs.CallRefusals.{ValidateRefusal}
@@ -14,15 +15,15 @@ use Rattle.cs_tool.specs.Refusals.{number_of}
 use Rattle.cs_tool.specs.declared.fault.Fault.{Fault}
 use Rattle.cs_tool.specs.declared.fault.Fault.TheVariants.{SchemaNotJson, NotInteger, Keyword, Shape, Reference, Loop, OutOfMemory}
 
--- the fault is why `validate` refuses the schema's text, whatever the document is, and not for want of memory
-pub record IsSchemaRefusal (text : List ℕ) (f : Fault) : Type 0 where
-  pub refused : (document : List ℕ) → ValidateRefusal text document f
+-- the fault is why `validate_by` refuses the schema's text by these keywords, whatever the document is, and not for want of memory
+pub record IsSchemaRefusal (taken : Vocabulary) (text : List ℕ) (f : Fault) : Type 0 where
+  pub refused : (document : List ℕ) → ValidateRefusal taken text document f
   pub other : ¬ (f ≡ OutOfMemory)
 
 -- the first of the faults is that
-abbrev pub BeginsWithSchemaFault : List ℕ → List Fault → Type 0
-BeginsWithSchemaFault text [] = Unit {0}
-BeginsWithSchemaFault text (first ∷ further) = IsSchemaRefusal text first
+abbrev pub BeginsWithSchemaFault : Vocabulary → List ℕ → List Fault → Type 0
+BeginsWithSchemaFault taken text [] = Unit {0}
+BeginsWithSchemaFault taken text (first ∷ further) = IsSchemaRefusal taken text first
 
 -- the fault is one of a schema's text
 abbrev pub is_of_schema : Fault → Bool
@@ -59,14 +60,14 @@ pub record AreDistinctFaults (faults : List Fault) : Type 0 where
 
 -- ---- for private contracts alone
 
--- the fault is that of a document which is no schema by this flaw
-pub record IsFaultOf (d : Document) (f : Fault) : Type 0 where
+-- the fault is that of a document which is no schema by these keywords, for this flaw
+pub record IsFaultOf (taken : Vocabulary) (d : Document) (f : Fault) : Type 0 where
   pub flaw : SchemaFault
   pub is : f ≡ of_schema flaw
-  pub refused : IsRefusal flaw d
+  pub refused : IsRefusal taken flaw d
   pub other : ¬ (flaw ≡ fault.OutOfMemory)
 
 -- the first of the faults is that of a document
-abbrev pub BeginsWithFaultOf : Document → List Fault → Type 0
-BeginsWithFaultOf d [] = Unit {0}
-BeginsWithFaultOf d (first ∷ further) = IsFaultOf d first
+abbrev pub BeginsWithFaultOf : Vocabulary → Document → List Fault → Type 0
+BeginsWithFaultOf taken d [] = Unit {0}
+BeginsWithFaultOf taken d (first ∷ further) = IsFaultOf taken d first

@@ -2,6 +2,7 @@
 ghost use Rattle.std.specs.Prelude.{◌≡◌, ◌↔◌, [], IfOk, None};
 ghost use Rattle.cs_check.specs.Told.{AreAccepted, AreWideAccepted};
 ghost use Rattle.cs_grammar.specs.declared.profile.Profile.TheVariants as profiles;
+ghost use Rattle.cs_profile.specs.declared.keyword.Vocabulary.TheVariants as vocabularies;
 ghost use Rattle.cs_tool.specs.CallRefusals.{IsSchemaText};
 ghost use Rattle.cs_tool.specs.Given.{bytes_in};
 ghost use Rattle.cs_widen.specs.Schemas.{SchemaMeans};
@@ -13,6 +14,7 @@ use crate::sources::{check, check_wide};
 use crate::warnings::warning_lines;
 use cs_fault_words::{About, Profile, put_finding};
 use cs_place::Named;
+use cs_profile::Vocabulary;
 use cs_sources::sources_of;
 use cs_tool::{Fault, accepted_package};
 use cs_widen::{schema_stands_for_in, stands_for};
@@ -100,30 +102,31 @@ fn package_findings(alloc: Global, sources: &[&[u8]], root: Option<&str>, about:
 ///
 /// That what is told is so is proved where it is found, by `check_schema`. The words and the places in lines are tested. Only memory can run out.
 pub fn schema_findings(alloc: Global, schema: Named<'_>) -> Result<Findings, Fault>
-    ensures accepted { IfOk result (λ f. ¬ (f.checked ≡ Checked.Faulty) → IsSchemaText schema.entry.text.now) }
-    ensures refused { IfOk result (λ f. f.checked ≡ Checked.Faulty → ¬ (IsSchemaText schema.entry.text.now)) }
+    ensures accepted { IfOk result (λ f. ¬ (f.checked ≡ Checked.Faulty) → IsSchemaText vocabularies.Default schema.entry.text.now) }
+    ensures refused { IfOk result (λ f. f.checked ≡ Checked.Faulty → ¬ (IsSchemaText vocabularies.Default schema.entry.text.now)) }
 {
-    findings_of(alloc, schema, schema.text)
+    findings_of(alloc, Vocabulary::Default, schema, schema.text)
 }
 
-/// What is found in the text of a schema in the wide profile, as by [`schema_findings`], of the schema that is meant. Only memory can run out.
+/// What is found in the text of a schema in the wide profile, as by [`schema_findings`], of the schema that is meant and by the keywords of that
+/// profile. Only memory can run out.
 pub fn wide_schema_findings(alloc: Global, schema: Named<'_>) -> Result<Findings, Fault>
-    ensures accepted { IfOk result (λ f. ¬ (f.checked ≡ Checked.Faulty) → SchemaMeans profiles.Wide schema.entry.text.now IsSchemaText) }
+    ensures accepted { IfOk result (λ f. ¬ (f.checked ≡ Checked.Faulty) → SchemaMeans profiles.Wide schema.entry.text.now (IsSchemaText vocabularies.Wide)) }
     ensures refused { IfOk result (λ f. f.checked ≡ Checked.Faulty
-        → SchemaMeans profiles.Wide schema.entry.text.now (λ judged. ¬ (IsSchemaText judged))) }
+        → SchemaMeans profiles.Wide schema.entry.text.now (λ judged. ¬ (IsSchemaText vocabularies.Wide judged))) }
 {
     match schema_stands_for_in(alloc, Profile::Wide, schema.text)? {
-        Some(meant) => findings_of(alloc, schema, &meant),
-        None => findings_of(alloc, schema, schema.text),
+        Some(meant) => findings_of(alloc, Vocabulary::Wide, schema, &meant),
+        None => findings_of(alloc, Vocabulary::Wide, schema, schema.text),
     }
 }
 
-/// What is found in a schema's text, which is shown as another one with the same places.
-fn findings_of(alloc: Global, shown: Named<'_>, text: &[u8]) -> Found
-    ensures accepted { IfOk result (λ f. ¬ (f.checked ≡ Checked.Faulty) → IsSchemaText text.now) }
-    ensures refused { IfOk result (λ f. f.checked ≡ Checked.Faulty → ¬ (IsSchemaText text.now)) }
+/// What is found in a schema's text by the keywords of a vocabulary, where it is shown as another one with the same places.
+fn findings_of(alloc: Global, vocabulary: Vocabulary, shown: Named<'_>, text: &[u8]) -> Found
+    ensures accepted { IfOk result (λ f. ¬ (f.checked ≡ Checked.Faulty) → IsSchemaText vocabulary text.now) }
+    ensures refused { IfOk result (λ f. f.checked ≡ Checked.Faulty → ¬ (IsSchemaText vocabulary text.now)) }
 {
-    let faults = check_schema(alloc, text)?;
+    let faults = check_schema(alloc, vocabulary, text)?;
     let about = About::of(&[], "");
     let schema = Some(shown);
     told(alloc, &[], &faults, About { schema, ..about })

@@ -9,6 +9,7 @@ ghost use Rattle.cs_check.specs.SchemaFaults.{BeginsWithSchemaFault, AreDistinct
 use crate::MOST_FAULTS;
 use cs_document::{Doc, DocFault};
 use cs_json::read_doc;
+use cs_profile::Vocabulary;
 use cs_schema::{SchemaFault, read_schema};
 use cs_sources::Made;
 use cs_tool::Fault;
@@ -20,8 +21,8 @@ const MOST_TOLD: usize = 1_048_576;
 /// How deep documents are at most.
 const MOST_DEPTH: usize = 127;
 
-/// The faults of a schema's text, 50 at most and none of them twice. The first one is what `validate` refuses the text for, and each further one is
-/// what it refuses it for once those before it are mended: a keyword or a reference that is at fault is taken out, what isn't a schema becomes
+/// The faults of a schema's text by the keywords of a vocabulary, 50 at most and none of them twice. The first one is what `validate_by` refuses the
+/// text for, and each further one is what it refuses it for once those before it are mended: a keyword or a reference that is at fault is taken out, what isn't a schema becomes
 /// `true`, and of a loop the references of its first definition to the next one are taken out. A text that isn't a document has that fault alone.
 ///
 /// Where the value of `$defs` has the wrong form, no reference is told to lead nowhere. Once the places and names that are told
@@ -29,16 +30,16 @@ const MOST_DEPTH: usize = 127;
 ///
 /// # Errors
 /// `OutOfMemory`.
-pub fn check_schema(alloc: Global, text: &[u8]) -> Result<Vec<Fault>, Fault>
-    ensures first { IfOk result (λ faults. BeginsWithSchemaFault text.now faults.items) }
-    ensures none { IfOk result (λ faults. (faults.items ≡ []) ↔ IsSchemaText text.now) }
+pub fn check_schema(alloc: Global, vocabulary: Vocabulary, text: &[u8]) -> Result<Vec<Fault>, Fault>
+    ensures first { IfOk result (λ faults. BeginsWithSchemaFault vocabulary text.now faults.items) }
+    ensures none { IfOk result (λ faults. (faults.items ≡ []) ↔ IsSchemaText vocabulary text.now) }
     ensures most { IfOk result (λ faults. length faults.items ≤ 50) }
     ensures distinct { IfOk result (λ faults. AreDistinctFaults faults.items) }
     ensures memory { IsOkUnless result Fault.OutOfMemory }
 {
     let in_schema = true;
     match read_doc(alloc, text) {
-        Ok(doc) => Ok(faults_of(alloc, doc)?),
+        Ok(doc) => Ok(faults_of(alloc, vocabulary, doc)?),
         Err(DocFault::OutOfMemory) => Err(Fault::OutOfMemory),
         Err(DocFault::NotJson { offset, is_cut }) => {
             Ok(alone(alloc, Fault::SchemaNotJson { offset, is_cut })?)
@@ -59,15 +60,15 @@ fn alone(alloc: Global, fault: Fault) -> Made<Vec<Fault>>
     Ok(faults)
 }
 
-/// The faults of a document, each once those before it are mended, until one is told already; none where it is a schema of the profile.
-fn faults_of(alloc: Global, mut doc: Doc) -> Made<Vec<Fault>>
-    ensures first { IfOk result (λ faults. BeginsWithFaultOf (doc_view doc) faults.items) }
-    ensures none { IfOk result (λ faults. (faults.items ≡ []) ↔ IsSchema (doc_view doc)) }
+/// The faults of a document, each once those before it are mended, until one is told already; none where it is a schema by these keywords.
+fn faults_of(alloc: Global, vocabulary: Vocabulary, mut doc: Doc) -> Made<Vec<Fault>>
+    ensures first { IfOk result (λ faults. BeginsWithFaultOf vocabulary (doc_view doc) faults.items) }
+    ensures none { IfOk result (λ faults. (faults.items ≡ []) ↔ IsSchema vocabulary (doc_view doc)) }
     ensures most { IfOk result (λ faults. length faults.items ≤ 50) }
     ensures distinct { IfOk result (λ faults. AreDistinctFaults faults.items) }
 {
     let mut faults = Vec::new(alloc);
-    while let Err(flaw) = read_schema(alloc, &doc) {
+    while let Err(flaw) = read_schema(alloc, vocabulary, &doc) {
         mend(alloc, &mut doc, &flaw)?;
         let fault = Fault::from(flaw);
         if is_last(&faults, &fault) {

@@ -9,6 +9,8 @@ use Rattle.cs_profile.specs.Keywords.{defined}
 use Rattle.cs_profile.specs.Profile.{IsSchema}
 use Rattle.cs_profile.specs.SchemaDocument.{SchemaValue, document_of, schema_view, definitions_view, IsWhole}
 use Rattle.cs_profile.specs.Validity.{IsValidity}
+use Rattle.cs_profile.specs.declared.keyword.Vocabulary.TheVariants as vocabularies
+use Rattle.cs_profile.proofs.Vocabularies.{wide_schema}
 use Rattle.cs_compile.specs.Translation.{definition_schema, IsTranslation}
 use Rattle.cs_compile.specs.Definitions.{definition_entries, AreDefinitions}
 use Rattle.cs_profile.specs.Root.{reference_to}
@@ -59,9 +61,12 @@ module _ (E : Environment) (n : List ℕ) (s : SchemaValue) (root : schema_view 
   is_root : document_of s ≡ root_of ms n
   is_root = document_of-root s n root (each n (itself E n ms are each))
 
+  pub in_profile : IsSchema vocabularies.Default (document_of s)
+  in_profile = subst (IsSchema vocabularies.Default) (sym is_root) (is_schema-root_of E n ms are each guarded (itself E n ms are each))
+
   pub whole : IsWhole s
   whole = record {
-    profile = subst IsSchema (sym is_root) (is_schema-root_of E n ms are each guarded (itself E n ms are each));
+    profile = wide_schema vocabularies.Default (document_of s) in_profile;
     bare = λ b is. cc;
   }
 

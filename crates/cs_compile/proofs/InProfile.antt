@@ -1,5 +1,5 @@
--- A root that refers to one of its definitions, together with those that it reaches, is a schema of the profile, and so is one that
--- asks nothing, together with all definitions.
+-- A root that refers to one of its definitions, together with those that it reaches, is a schema of the default profile, and so is one
+-- that asks nothing, together with all definitions.
 use Rattle.std.proofs.Common.{◌≡◌, ℕ, List, [], ◌∷◌, ◌++◌, flat_map, unwrap_or, Contains, Bool, true, false, Option, Some, None, IsSome, is_some, codes, refl, sym, ap, ◌∙◌, subst}
 use Rattle.std.specs.List.{AllByRecursion as Each}
 use Rattle.cs_document.specs.Document.{Document, text, Members, no_members, member, entries, under}
@@ -13,6 +13,7 @@ use Rattle.cs_profile.specs.Loops.{NoLoop}
 use Rattle.cs_profile.specs.Places.{at_key}
 use Rattle.cs_profile.specs.Profile.{Visit, keyword_at, fault_of, undefined_at, visits, named_visits, IsSchema}
 use Rattle.cs_profile.specs.Shapes.{dialect}
+use Rattle.cs_profile.specs.declared.keyword.Vocabulary.TheVariants as vocabularies
 use Rattle.cs_profile.proofs.Walks.{first_past}
 use Rattle.cs_compile.specs.Definitions.{IsDefinition, AreDefinitionsOf, AreDefinitions, IsDeclared, IsResolved}
 use Rattle.cs_compile.proofs.Declared.{definition_under}
@@ -59,7 +60,7 @@ module _ (E : Environment) (Asked : List ℕ → Type 0) (closed : (m k : List �
   without_loop guarded = no_loop E Asked R (λ m d e. definition_under E Asked m ms d are (sym (is m) ∙ e)) guarded
 
 module _ (E : Environment) (root : List ℕ) (ms : Members) (are : AreDefinitions E root ms) (each : (m : List ℕ) → Reaches E root m → IsSome (under m (entries ms))) where
-  pub is_schema-root_of : IsGuarded E → Reaches E root root → IsSchema (root_of ms root)
+  pub is_schema-root_of : IsGuarded E → Reaches E root root → IsSchema vocabularies.Default (root_of ms root)
   is_schema-root_of guarded itself =
       let R = root_of ms root in
       let p = at_key [] (codes "$defs") in
@@ -69,14 +70,14 @@ module _ (E : Environment) (root : List ℕ) (ms : Members) (are : AreDefinition
       let name = own.0 in
       let has = own.1 in
       record {
-        shaped = first_past fault_of (named_visits p ms) rest clean.shaped ∙ rw name refl;
+        shaped = first_past (fault_of vocabularies.Default) (named_visits p ms) rest clean.shaped ∙ rw name refl;
         named = first_past (undefined_at (λ m. is_some (defined R m))) (named_visits p ms) rest clean.named ∙ rw has refl;
         no_loop = without_loop E (Reaches E root) (reaches_more E root) ms are each R (defined-root_of ms root) guarded;
       }
 
 -- so is the root that asks nothing, beside all that is declared
 module _ (E : Environment) (resolved : IsResolved E) (guarded : IsGuarded E) where
-  pub is_schema-bare_root : (ms : Members) → AreDefinitionsOf E (IsDeclared E) ms → ((m : List ℕ) → IsDeclared E m → IsSome (under m (entries ms))) → IsSchema (bare_root ms)
+  pub is_schema-bare_root : (ms : Members) → AreDefinitionsOf E (IsDeclared E) ms → ((m : List ℕ) → IsDeclared E m → IsSome (under m (entries ms))) → IsSchema vocabularies.Default (bare_root ms)
   is_schema-bare_root no_members are each = record {
     shaped = refl;
     named = refl;
@@ -89,7 +90,7 @@ module _ (E : Environment) (resolved : IsResolved E) (guarded : IsGuarded E) whe
       let rest : List Visit = keyword_at true [] (codes "$schema") (text dialect) ∷ [] in
       let clean = definitions-clean E (IsDeclared E) resolved all are each R (defined-bare_root all) p all are in
       record {
-        shaped = first_past fault_of (named_visits p all) rest clean.shaped;
+        shaped = first_past (fault_of vocabularies.Default) (named_visits p all) rest clean.shaped;
         named = first_past (undefined_at (λ m. is_some (defined R m))) (named_visits p all) rest clean.named;
         no_loop = without_loop E (IsDeclared E) resolved all are each R (defined-bare_root all) guarded;
       }

@@ -14,6 +14,7 @@ use Rattle.cs_package.specs.Expression as cue
 use Rattle.cs_package.specs.Expression.{Expression, Expressions, operands, int, less, at_most, more, at_least}
 use Rattle.cs_profile.specs.Loops.{direct_names}
 use Rattle.cs_profile.specs.Profile.{first, fault_of, undefined_at, visits}
+use Rattle.cs_profile.specs.declared.keyword.Vocabulary.TheVariants as vocabularies
 use Rattle.cs_profile.specs.Validity.{IsValidity}
 use Rattle.cs_compile.specs.Translation.{schema_of, all_of, is_integer_kind, is_bound, is_interval, lower_limit, upper_limit, greatest_of, least_of, are_apart, interval_keywords, interval_schema, conjunction_schema}
 use Rattle.cs_compile.proofs.Asserted.{valid_all_of}
@@ -209,7 +210,7 @@ interval-names None (Some u) = refl
 interval-names (Some l) None = refl
 interval-names (Some l) (Some u) = refl
 
-pub interval-shaped : (lower upper : Option ℤ) (p : List ℕ) → first fault_of (visits false p (object (interval_keywords lower upper))) ≡ None
+pub interval-shaped : (lower upper : Option ℤ) (p : List ℕ) → first (fault_of vocabularies.Default) (visits false p (object (interval_keywords lower upper))) ≡ None
 interval-shaped None None p = refl
 interval-shaped None (Some u) p = refl
 interval-shaped (Some l) None p = refl

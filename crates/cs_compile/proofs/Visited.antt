@@ -13,6 +13,7 @@ use Rattle.cs_guard.specs.Reachable.{referred, referred_all, referred_fields, re
 use Rattle.cs_profile.specs.Places.{at_key, at_index}
 use Rattle.cs_profile.specs.Profile.{Visit, first, fault_of, undefined_at, visits, member_visits, element_visits, named_visits}
 use Rattle.cs_profile.specs.Values.{keyword_visits}
+use Rattle.cs_profile.specs.declared.keyword.Vocabulary.TheVariants as vocabularies
 use Rattle.cs_profile.specs.SchemaDocument.{unless_no_list}
 use Rattle.cs_profile.specs.Shapes.{is_name, are_distinct_texts}
 use Rattle.cs_profile.specs.Trim.{with_member}
@@ -25,9 +26,9 @@ use Rattle.cs_compile.proofs.Enumerations.{by_literals}
 use Rattle.cs_compile.proofs.Required.{required_of-distinct}
 use Rattle.cs_compile.proofs.Asserted.{elements_back}
 
--- no keyword and no value at fault, and no `$ref` to a name that is not defined
+-- no keyword and no value at fault in the default profile, and no `$ref` to a name that is not defined
 pub record IsClean (is_defined : List ℕ → Bool) (vs : List Visit) : Type 0 where
-  pub shaped : first fault_of vs ≡ None
+  pub shaped : first (fault_of vocabularies.Default) vs ≡ None
   pub named : first (undefined_at is_defined) vs ≡ None
 
 module _ (is_defined : List ℕ → Bool) where
@@ -37,7 +38,7 @@ module _ (is_defined : List ℕ → Bool) where
 
   pub clean-append : (xs ys : List Visit) → IsClean is_defined xs → IsClean is_defined ys → IsClean is_defined (xs ++ ys)
   clean-append xs ys h k = record {
-    shaped = first_past fault_of xs ys h.shaped ∙ k.shaped;
+    shaped = first_past (fault_of vocabularies.Default) xs ys h.shaped ∙ k.shaped;
     named = first_past (undefined_at is_defined) xs ys h.named ∙ k.named;
   }
 

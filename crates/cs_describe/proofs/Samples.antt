@@ -1,7 +1,7 @@
 -- Which schema gets which note, worked by the definitions. A wrong expectation stops the check here.
 use Rattle.std.proofs.Common.{◌≡◌, true, false, List, [], ◌∷◌, Option, Some, None, option_map, String as Text, Global, string_bytes, codes, refl, ap}
 use Rattle.cs_document.specs.Document.{Document, boolean}
-use Rattle.cs_document.proofs.SampleDocuments.{string as t, array as l, named_map as o}
+use Rattle.cs_document.proofs.SampleDocuments.{number, string as t, array as l, named_map as o}
 use Rattle.cs_describe.specs.declared.notes.Notes.{Notes, out-Notes}
 use Rattle.cs_document.specs.View.{doc_view}
 use Rattle.cs_document.specs.declared.doc.Doc.{Doc}
@@ -65,6 +65,12 @@ truth_without_text n says = of_root n _ _ (rw says refl)
 
 falsity : (n : Notes) (none : Text Global) → IsText none "none" → Says n (Some none) → Becomes n (boolean false) (boolean false)
 falsity n none is says = of_root n _ _ refl
+
+-- limits of lengths hold no schemas, and stay beside a text
+beside_limits : (n : Notes) (one : Text Global) → IsText one "one" → Says n (Some one)
+    → Becomes n (o (("maxItems", number 0) ∷ ("maxLength", number 3) ∷ ("maxProperties", number 1) ∷ ("minLength", number 2) ∷ ("minProperties", number 9) ∷ []))
+    (o (("description", t "one") ∷ ("maxItems", number 0) ∷ ("maxLength", number 3) ∷ ("maxProperties", number 1) ∷ ("minLength", number 2) ∷ ("minProperties", number 9) ∷ []))
+beside_limits n one is says = of_root n _ _ (rw (says, is) refl)
 
 -- ---- the schemas in it
 

@@ -5,11 +5,13 @@ use Rattle.cs_document.specs.Document.{Document, null, boolean, integer, text, l
 use Rattle.cs_profile.specs.Keywords.{defined}
 use Rattle.cs_profile.specs.Places.{at_key, at_index}
 use Rattle.cs_profile.specs.Profile.{Fault, Visit, keyword_at, value_at, first, or_else, within, fault_of, form_fault, shape_fault, undefined_at, reference_fault, visits, member_visits, list_visits, element_visits, map_visits, named_visits, IsSchema}
-use Rattle.cs_profile.specs.Shapes.{form_at, has_form}
+use Rattle.cs_profile.specs.Shapes.{form_at, taken_at, has_form}
 use Rattle.cs_profile.specs.Values.{keyword_visits, value_visits}
+use Rattle.cs_profile.specs.declared.keyword.Vocabulary.{Vocabulary}
 use Rattle.cs_profile.specs.declared.keyword.Form.{Form}
 use Rattle.cs_profile.specs.declared.keyword.Form.TheVariants as form
 use Rattle.cs_profile.proofs.Faultless.{parted, joined, or_else_none}
+use Rattle.cs_profile.proofs.Taken.{taken_form}
 use Rattle.cs_describe.specs.Plain.{as_schema, plain_by, schema_without, members_without, list_without, elements_without, map_without, named_without, values_without, value_without, without, is_default, without_defaults}
 use Rattle.cs_describe.proofs.Leaving.{defaults_are_notes}
 use Rattle.cs_describe.proofs.PlainLoops.{no_loop_plain}
@@ -116,6 +118,12 @@ module _ (left_out : List ℕ → Bool) where
   value_shaped (Some form.NamedSchemas) place k v = ap (shape_fault place k) (map_shaped v)
   value_shaped _ place k v = refl
 
+  value_taken : (taken : Vocabulary) (root : Bool) (place k : List ℕ) (v : Document) (t : Option Form) → taken_at taken root k ≡ t
+      → form_fault place k (value_without left_out root k v) t ≡ form_fault place k v t
+  value_taken taken root place k v None e = refl
+  value_taken taken root place k v (Some r) e =
+      ap (λ o. form_fault place k (plain_by o (values_without left_out v)) (Some r)) (taken_form taken root k r e) ∙ value_shaped (Some r) place k v
+
   module _ (known : List ℕ → Bool) where
     reference_same : (root : Bool) (place k : List ℕ) (v : Document) (t : Bool) → bytes_eq k (codes "$ref") ≡ t
         → (if t then reference_fault known place (value_without left_out root k v) else None) ≡ (if t then reference_fault known place v else None)
@@ -123,13 +131,13 @@ module _ (left_out : List ℕ → Bool) where
     reference_same root place k v true e =
         subst (λ m. reference_fault known place (value_without left_out root m v) ≡ reference_fault known place v) (sym ((bytes_eq-Decides k (codes "$ref")).0 e)) refl
 
-pub still_bare : (d : Document) → IsSchema d → IsSchema (without_defaults d)
-still_bare d h =
+pub still_bare : (taken : Vocabulary) (d : Document) → IsSchema taken d → IsSchema taken (without_defaults d)
+still_bare taken d h =
     let e = without_defaults d in
     let same : (λ (n : List ℕ). is_some (defined e n)) ≡ (λ n. is_some (defined d n)) = λ i n. known_plain is_default defaults_are_notes d n i in
     let free = document_free is_default (undefined_at (λ n. is_some (defined d n))) (λ place. refl)
     (λ root place k v g. reference_same is_default (λ n. is_some (defined d n)) root place k v (bytes_eq k (codes "$ref")) refl ∙ g) d h.named in record {
-      shaped = document_free is_default fault_of (λ place. refl) (λ root place k v g. value_shaped is_default (form_at root k) place k v ∙ g) d h.shaped;
+      shaped = document_free is_default (fault_of taken) (λ place. refl) (λ root place k v g. value_taken is_default taken root place k v (taken_at taken root k) refl ∙ g) d h.shaped;
       named = subst (λ (known : List ℕ → Bool). first (undefined_at known) (visits true [] e) ≡ None) (sym same) free;
       no_loop = no_loop_plain is_default defaults_are_notes d h.no_loop;
     }

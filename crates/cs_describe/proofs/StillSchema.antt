@@ -9,9 +9,10 @@ use Rattle.cs_document.specs.Document.{Document, null, boolean, integer, text, l
 use Rattle.cs_profile.specs.Keywords.{keywords, defined}
 use Rattle.cs_profile.specs.declared.keyword.Keyword.{Keyword}
 use Rattle.cs_profile.specs.declared.keyword.Keyword.TheVariants as keyword
+use Rattle.cs_profile.specs.declared.keyword.Vocabulary.{Vocabulary}
 use Rattle.cs_profile.specs.declared.keyword.Form.TheVariants as form
 use Rattle.cs_profile.specs.Loops.{NoLoop}
-use Rattle.cs_profile.specs.Shapes.{form_in, has_form}
+use Rattle.cs_profile.specs.Shapes.{form_in, taken_in, has_form}
 use Rattle.cs_profile.specs.Places.{at_key, at_index}
 use Rattle.cs_profile.specs.Profile.{Fault, Visit, keyword_at, first, or_else, within, fault_of, form_fault, shape_fault, undefined_at, reference_fault, visits, member_visits, list_visits, element_visits, map_visits, named_visits, IsSchema}
 use Rattle.cs_profile.specs.Values.{keyword_visits, value_visits}
@@ -174,16 +175,17 @@ map_shaped ns (text s) = refl
 map_shaped ns (list ds) = refl
 map_shaped ns (object ms) = refl
 
-value_shaped : (o : Option Keyword) (place k : List ℕ) (v : Document) (n : Notes) → form_fault place k (described_value w o n v) (option_and_then (form_in false) o) ≡ form_fault place k v (option_and_then (form_in false) o)
-value_shaped (Some keyword.Properties) place k v n = ap (shape_fault place k) (map_shaped _ v)
-value_shaped (Some keyword.AllOf) place k v n = ap (shape_fault place k) (list_shaped _ v)
-value_shaped (Some keyword.AnyOf) place k v n = ap (shape_fault place k) (list_shaped _ v)
-value_shaped (Some keyword.PrefixItems) place k v n = ap (shape_fault place k) (list_shaped _ v)
-value_shaped _ place k v n = refl
+value_shaped : (taken : Vocabulary) (o : Option Keyword) (place k : List ℕ) (v : Document) (n : Notes)
+    → form_fault place k (described_value w o n v) (option_and_then (taken_in taken false) o) ≡ form_fault place k v (option_and_then (taken_in taken false) o)
+value_shaped taken (Some keyword.Properties) place k v n = ap (shape_fault place k) (map_shaped _ v)
+value_shaped taken (Some keyword.AllOf) place k v n = ap (shape_fault place k) (list_shaped _ v)
+value_shaped taken (Some keyword.AnyOf) place k v n = ap (shape_fault place k) (list_shaped _ v)
+value_shaped taken (Some keyword.PrefixItems) place k v n = ap (shape_fault place k) (list_shaped _ v)
+value_shaped taken _ place k v n = refl
 
-pub still_shaped : (ns : List (String Global × Notes)) (d : Document) → first fault_of (visits true [] d) ≡ None → first fault_of (visits true [] (described_document w ns d)) ≡ None
-still_shaped ns d h =
-    document_free fault_of (λ place t. refl) (λ place k v n e. value_shaped (under k keywords) place k v n ∙ e) (λ place v ms e. ap (shape_fault place (codes "$defs")) (map_shaped ms v) ∙ e) ns d h
+pub still_shaped : (taken : Vocabulary) (ns : List (String Global × Notes)) (d : Document) → first (fault_of taken) (visits true [] d) ≡ None → first (fault_of taken) (visits true [] (described_document w ns d)) ≡ None
+still_shaped taken ns d h =
+    document_free (fault_of taken) (λ place t. refl) (λ place k v n e. value_shaped taken (under k keywords) place k v n ∙ e) (λ place v ms e. ap (shape_fault place (codes "$defs")) (map_shaped ms v) ∙ e) ns d h
 
 -- ---- references
 
@@ -207,10 +209,10 @@ plain_same = document_same is_note w refl
 known_same : (ns : List (String Global × Notes)) (R : Document) (n : List ℕ) → is_some (defined R n) ≡ is_some (defined (described_document w ns R) n)
 known_same ns R n = sym (known_plain is_note notes_are_notes R n) ∙ ap (λ d. is_some (defined d n)) (sym (plain_same ns R)) ∙ known_plain is_note notes_are_notes (described_document w ns R) n
 
-pub still_schema : (ns : List (String Global × Notes)) (d : Document) → IsSchema d → IsSchema (described_document w ns d)
-still_schema ns d h =
+pub still_schema : (taken : Vocabulary) (ns : List (String Global × Notes)) (d : Document) → IsSchema taken d → IsSchema taken (described_document w ns d)
+still_schema taken ns d h =
     let e = described_document w ns d in record {
-      shaped = still_shaped ns d h.shaped;
+      shaped = still_shaped taken ns d h.shaped;
       named = subst (λ (known : List ℕ → Bool). first (undefined_at known) (visits true [] e) ≡ None) (λ i n. known_same ns d n i) (still_known (λ n. is_some (defined d n)) ns d h.named);
       no_loop = no_loop_full is_note notes_are_notes e (subst NoLoop (sym (plain_same ns d)) (no_loop_plain is_note notes_are_notes d h.no_loop));
     }

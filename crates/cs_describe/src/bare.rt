@@ -4,6 +4,7 @@ ghost use Rattle.cs_document.specs.Document.{depth};
 ghost use Rattle.cs_document.specs.View.{doc_view, list_view, object_view};
 ghost use Rattle.cs_profile.specs.Profile.{IsSchema};
 ghost use Rattle.cs_profile.specs.Shapes.{form_at};
+ghost use Rattle.cs_profile.specs.declared.keyword.Vocabulary.{Vocabulary};
 ghost use Rattle.cs_describe.specs.Plain.{is_default, without_defaults as bare_document, schema_without, members_without, list_without, elements_without, map_without, named_without, plain_by, values_without, as_schema};
 ghost use Rattle.cs_describe.specs.Meaning.{SameValidity};
 
@@ -19,8 +20,10 @@ type Members = BTreeMap<String, Doc>;
 /// nothing becomes `true`. Where what is left is a schema of the profile, it validates the same documents. Only memory can run out.
 pub fn without_defaults(alloc: Global, doc: Doc) -> Result<Doc, AllocError>
     ensures found { IfOk result (λ d. doc_view d ≡ bare_document (doc_view doc)) }
-    ensures profile { IsSchema (doc_view doc) → IfOk result (λ d. IsSchema (doc_view d)) }
-    ensures meaning { IfOk result (λ d. IsSchema (doc_view d) → SameValidity (doc_view doc) (doc_view d)) }
+    ensures profile { (taken : Vocabulary) → IsSchema taken (doc_view doc)
+        → IfOk result (λ d. IsSchema taken (doc_view d)) }
+    ensures meaning { IfOk result
+        (λ d. (taken : Vocabulary) → IsSchema taken (doc_view d) → SameValidity (doc_view doc) (doc_view d)) }
     ensures nested { IfOk result (λ d. depth (doc_view d) ≤ depth (doc_view doc)) }
 {
     let Doc::Object(members) = doc else {

@@ -4,6 +4,7 @@ ghost use Rattle.std.specs.Str.{bytes_eq};
 ghost use Rattle.cs_document.specs.Document.{depth, text};
 ghost use Rattle.cs_document.specs.View.{doc_view, list_view, object_view};
 ghost use Rattle.cs_profile.specs.Profile.{IsSchema};
+ghost use Rattle.cs_profile.specs.declared.keyword.Vocabulary.{Vocabulary};
 ghost use Rattle.cs_describe.specs.declared.note.Note.TheVariants as which;
 ghost use Rattle.cs_describe.specs.Described.{described as described_schema, described_members, described_value, described_list, described_elements, described_map, described_named, described_root, described_document, note_of, unless_deep, most_nested, with_note, truth_with_note};
 ghost use Rattle.cs_describe.specs.Plain.{plain, without_defaults};
@@ -35,11 +36,12 @@ pub fn described(
     ensures found { IfOk result
         (λ d. doc_view d ≡ described_document which.Description notes.now.entries (doc_view doc)) }
     ensures same { IfOk result (λ d. plain (doc_view d) ≡ plain (doc_view doc)) }
-    ensures profile { IfOk result (λ d. IsSchema (doc_view doc) → IsSchema (doc_view d)) }
+    ensures profile { IfOk result
+        (λ d. (taken : Vocabulary) → IsSchema taken (doc_view doc) → IsSchema taken (doc_view d)) }
     ensures meaning { IfOk result
-        (λ d. IsSchema (doc_view doc) → SameValidity (doc_view doc) (doc_view d)) }
+        (λ d. (taken : Vocabulary) → IsSchema taken (doc_view doc) → SameValidity (doc_view doc) (doc_view d)) }
     ensures definitions { IfOk result
-        (λ d. IsSchema (doc_view doc) → SameDefinitions (doc_view doc) (doc_view d)) }
+        (λ d. (taken : Vocabulary) → IsSchema taken (doc_view doc) → SameDefinitions (doc_view doc) (doc_view d)) }
     ensures nested { IfOk result (λ d. depth (doc_view d) ≤ suc (depth (doc_view doc))) }
 {
     described_by(alloc, Note::Description, doc, notes)
@@ -56,11 +58,12 @@ pub fn with_defaults(
         (λ d. doc_view d ≡ described_document which.Default notes.now.entries (doc_view doc)) }
     ensures others { IfOk result (λ d. without_defaults (doc_view d) ≡ without_defaults (doc_view doc)) }
     ensures same { IfOk result (λ d. plain (doc_view d) ≡ plain (doc_view doc)) }
-    ensures profile { IfOk result (λ d. IsSchema (doc_view doc) → IsSchema (without_defaults (doc_view d))) }
+    ensures profile { IfOk result
+        (λ d. (taken : Vocabulary) → IsSchema taken (doc_view doc) → IsSchema taken (without_defaults (doc_view d))) }
     ensures meaning { IfOk result
-        (λ d. IsSchema (doc_view doc) → SameValidity (doc_view doc) (doc_view d)) }
+        (λ d. (taken : Vocabulary) → IsSchema taken (doc_view doc) → SameValidity (doc_view doc) (doc_view d)) }
     ensures definitions { IfOk result
-        (λ d. IsSchema (doc_view doc) → SameDefinitions (doc_view doc) (doc_view d)) }
+        (λ d. (taken : Vocabulary) → IsSchema taken (doc_view doc) → SameDefinitions (doc_view doc) (doc_view d)) }
     ensures nested { IfOk result
         (λ d. depth (doc_view d) ≤ suc most_nested + depth (doc_view doc)) }
 {
@@ -200,8 +203,13 @@ fn describe_value(
         | Keyword::Enum
         | Keyword::ExclusiveMaximum
         | Keyword::ExclusiveMinimum
+        | Keyword::MaxItems
+        | Keyword::MaxLength
+        | Keyword::MaxProperties
         | Keyword::Maximum
         | Keyword::MinItems
+        | Keyword::MinLength
+        | Keyword::MinProperties
         | Keyword::Minimum
         | Keyword::Not
         | Keyword::Required

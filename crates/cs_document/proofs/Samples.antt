@@ -5,6 +5,7 @@ use Rattle.std.specs.Ordering.{is_lt, is_eq, is_gt}
 use Rattle.cs_document.specs.Document.{Document, null, boolean, integer, text, Members, no_members, IsDocument, document_eq, depth, put, under, entries}
 use Rattle.cs_document.specs.Order.{document_cmp}
 use Rattle.cs_document.specs.Opened.{opened, a_null, a_boolean, an_integer, a_text, a_list, an_object}
+use Rattle.cs_document.specs.Sizes.{goes_on, text_length, Characters, Elements, Keys, size_of}
 use Rattle.cs_document.specs.Inside.{map_opened, InsideBelow, AscendsInside}
 use Rattle.cs_document.proofs.SampleDocuments.{number, array, members, map_of}
 
@@ -142,3 +143,23 @@ the_last_key_first h = let e = h.0.1.0 in cc
 
 descending_inside : AscendsInside {A = ℕ} (an_object ((codes "", 3) ∷ (b, 4) ∷ (a, 5) ∷ [])) → ⊥
 descending_inside h = let e = h.1.0.0 in cc
+
+-- ---- how long they are
+
+-- U+1F600 is one character of four bytes, and a combining accent one of two
+abbrev face : List ℕ
+face = 240 ∷ 159 ∷ 152 ∷ 128 ∷ []
+
+lengths : map text_length ([] ∷ codes "ab" ∷ (101 ∷ 204 ∷ 129 ∷ []) ∷ face ∷ []) ≡ 0 ∷ 2 ∷ 2 ∷ 1 ∷ []
+lengths = refl
+
+-- U+7F, U+80, U+20AC and U+10FFFF
+each_one : map text_length ((127 ∷ []) ∷ (194 ∷ 128 ∷ []) ∷ (226 ∷ 130 ∷ 172 ∷ []) ∷ (244 ∷ 143 ∷ 191 ∷ 191 ∷ []) ∷ []) ≡ 1 ∷ 1 ∷ 1 ∷ 1 ∷ []
+each_one = refl
+
+ends : map goes_on (127 ∷ 128 ∷ 191 ∷ 192 ∷ []) ≡ false ∷ true ∷ true ∷ false ∷ []
+ends = refl
+
+sizes : map (λ c. map (size_of {A = ℕ} c) (a_null ∷ a_boolean true ∷ an_integer (pos 3) ∷ a_text face ∷ a_list (7 ∷ 8 ∷ []) ∷ an_object ((a, 7) ∷ []) ∷ [])) (Characters ∷ Elements ∷ Keys ∷ [])
+    ≡ (None ∷ None ∷ None ∷ Some 1 ∷ None ∷ None ∷ []) ∷ (None ∷ None ∷ None ∷ None ∷ Some 2 ∷ None ∷ []) ∷ (None ∷ None ∷ None ∷ None ∷ None ∷ Some 1 ∷ []) ∷ []
+sizes = refl

@@ -6,6 +6,8 @@ mod doc;
 mod equal;
 mod fault;
 mod order;
+mod size;
 
 pub use doc::Doc;
 pub use fault::DocFault;
+pub use size::text_length;

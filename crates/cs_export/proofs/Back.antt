@@ -6,13 +6,15 @@ use Rattle.std.proofs.lemmas.Slice.Eq.{bytes_eq-Decides}
 use Rattle.std.specs.Option.{option_map_or}
 use Rattle.cs_document.specs.Document.{Document, null, boolean, integer, text, list, object, Documents, no_documents, document, Members, no_members, member, entries, under}
 use Rattle.cs_profile.specs.Keywords.{reference_start, text_after}
-use Rattle.cs_profile.specs.Shapes.{form_at, has_form, names_definition}
+use Rattle.cs_profile.specs.Shapes.{form_at, taken_at, has_form, names_definition}
 use Rattle.cs_profile.specs.declared.keyword.Form.{Form}
 use Rattle.cs_profile.specs.declared.keyword.Form.TheVariants as form
+use Rattle.cs_profile.specs.declared.keyword.Vocabulary.TheVariants as vocabularies
 use Rattle.cs_profile.specs.Places.{at_key, at_index}
-use Rattle.cs_profile.specs.Profile.{Visit, keyword_at, first, within, fault_of, form_fault, shape_fault, visits, member_visits, list_visits, element_visits, map_visits, named_visits, IsSchema}
+use Rattle.cs_profile.specs.Profile.{Fault, Visit, keyword_at, first, within, fault_of, form_fault, shape_fault, visits, member_visits, list_visits, element_visits, map_visits, named_visits, IsSchema}
 use Rattle.cs_profile.specs.Values.{keyword_visits, value_visits}
 use Rattle.cs_profile.proofs.Faultless.{parted, or_else_none}
+use Rattle.cs_profile.proofs.Taken.{taken_form}
 use Rattle.cs_schema.proofs.Named.{after_start}
 use Rattle.cs_describe.specs.Plain.{as_schema, plain_by, schema_without, members_without, list_without, elements_without, map_without, named_without, values_without, is_default, without_defaults}
 use Rattle.cs_describe.proofs.StillBare.{still_bare}
@@ -46,12 +48,21 @@ reference_back (object ms) h = refl
 
 -- ---- schemas, and what holds schemas: where the walk meets no fault
 
+abbrev fault : Visit → Option Fault
+fault = fault_of vocabularies.Default
+
 abbrev Free : List Visit → Type 0
-Free vs = first fault_of vs ≡ None
+Free vs = first fault vs ≡ None
 
 has_shape : (place k : List ℕ) (b : Bool) → shape_fault place k b ≡ None → b ≡ true
 has_shape place k true h = refl
 has_shape place k false h = cc
+
+-- what is taken has its form
+of_form : (root : Bool) (place k : List ℕ) (v : Document) (t : Option Form) → taken_at vocabularies.Default root k ≡ t → form_fault place k v t ≡ None
+    → form_fault place k v (form_at root k) ≡ None
+of_form root place k v None e h = cc
+of_form root place k v (Some r) e h = subst (λ o. form_fault place k v o ≡ None) (sym (taken_form vocabularies.Default root k r e)) h
 
 -- without defaults: a schema, what holds schemas, and the value of a keyword by its form
 abbrev bare : Document → Document
@@ -99,9 +110,9 @@ one_back place k v ms true e h itself elements members rest =
     ap₂ (member k) (ap (moved_value to_definition (form_at false k)) (default_kept to_component k v e) ∙ default_kept to_definition k v e) (rest h)
 one_back place k v ms false e h itself elements members rest =
     let x = bare_value (form_at false k) v in
-    let parts = parted fault_of (keyword_visits false place k x) (member_visits false place (bare_members false ms)) h in
-    let here = or_else_none (fault_of (keyword_at false place k x)) (first fault_of (within (form_at false k) (value_visits (at_key place k) x))) parts.0 in
-    ap₂ (member k) (value_back (form_at false k) place k v here.0 itself elements members here.1) (rest parts.1)
+    let parts = parted fault (keyword_visits false place k x) (member_visits false place (bare_members false ms)) h in
+    let here = or_else_none (fault (keyword_at false place k x)) (first fault (within (form_at false k) (value_visits (at_key place k) x))) parts.0 in
+    ap₂ (member k) (value_back (form_at false k) place k v (of_form false place k x (taken_at vocabularies.Default false k) refl here.0) itself elements members here.1) (rest parts.1)
 
 mutual
   schema_back : (place : List ℕ) (d : Document) → Free (visits false place (bare d)) → moved to_definition (moved to_component d) ≡ d
@@ -128,7 +139,7 @@ mutual
   elements_back : (place : List ℕ) (i : ℕ) (ds : Documents) → Free (element_visits place i (elements_without is_default ds)) → moved_elements to_definition (moved_elements to_component ds) ≡ ds
   elements_back place i no_documents h = refl
   elements_back place i (document d ds) h =
-      let parts = parted fault_of (visits false (at_index place i) (bare d)) (element_visits place (suc i) (elements_without is_default ds)) h in
+      let parts = parted fault (visits false (at_index place i) (bare d)) (element_visits place (suc i) (elements_without is_default ds)) h in
       ap₂ document (schema_back (at_index place i) d parts.0) (elements_back place (suc i) ds parts.1)
 
   map_back : (place : List ℕ) (d : Document) → Free (map_visits place (bare_map d)) → moved_map to_definition (moved_map to_component d) ≡ d
@@ -142,7 +153,7 @@ mutual
   named_back : (place : List ℕ) (ms : Members) → Free (named_visits place (named_without is_default ms)) → moved_named to_definition (moved_named to_component ms) ≡ ms
   named_back place no_members h = refl
   named_back place (member k v ms) h =
-      let parts = parted fault_of (visits false (at_key place k) (bare v)) (named_visits place (named_without is_default ms)) h in
+      let parts = parted fault (visits false (at_key place k) (bare v)) (named_visits place (named_without is_default ms)) h in
       ap₂ (member k) (schema_back (at_key place k) v parts.0) (named_back place ms parts.1)
 
 -- ---- the definitions
@@ -170,7 +181,7 @@ kept_back : (k : List ℕ) (v : Document) (ms : Members) (t : Bool) → bytes_eq
 kept_back k v ms true e here rest =
     let there : Free (keyword_visits true [] (codes "$defs") (bare_map v)) =
     subst (λ n. Free (keyword_visits true [] n (bare_value (form_at true n) v))) (sym ((bytes_eq-Decides (codes "$defs") k).0 e)) here in
-    map_put_back (at_key [] (codes "$defs")) v (or_else_none (fault_of (keyword_at true [] (codes "$defs") (bare_map v))) (first fault_of (map_visits (at_key [] (codes "$defs")) (bare_map v))) there).1
+    map_put_back (at_key [] (codes "$defs")) v (or_else_none (fault (keyword_at true [] (codes "$defs") (bare_map v))) (first fault (map_visits (at_key [] (codes "$defs")) (bare_map v))) there).1
 kept_back k v ms false e here rest = rest
 
 part_back : (k : List ℕ) (v : Document) (ms : Members) (t : Bool) → is_default k ≡ t
@@ -179,14 +190,14 @@ part_back : (k : List ℕ) (v : Document) (ms : Members) (t : Bool) → is_defau
     → IsPutBack (map_in (under (codes "$defs") (entries (member k v ms))))
 part_back k v ms true e h rest = other_back k v ms (rest h) e
 part_back k v ms false e h rest =
-    let parts = parted fault_of (keyword_visits true [] k (bare_value (form_at true k) v)) (member_visits true [] (bare_members true ms)) h in
+    let parts = parted fault (keyword_visits true [] k (bare_value (form_at true k) v)) (member_visits true [] (bare_members true ms)) h in
     kept_back k v ms (bytes_eq (codes "$defs") k) refl parts.0 (rest parts.1)
 
 found_back : (ms : Members) → Free (member_visits true [] (bare_members true ms)) → IsPutBack (map_in (under (codes "$defs") (entries ms)))
 found_back no_members h = refl
 found_back (member k v ms) h = part_back k v ms (is_default k) refl h (λ g. found_back ms g)
 
-pub definitions_back : (d : Document) → IsSchema (without_defaults d) → moved_named to_definition (moved_named to_component (definitions_in d)) ≡ definitions_in d
+pub definitions_back : (d : Document) → IsSchema vocabularies.Default (without_defaults d) → moved_named to_definition (moved_named to_component (definitions_in d)) ≡ definitions_in d
 definitions_back (object ms) is = found_back ms is.shaped
 definitions_back null is = refl
 definitions_back (boolean b) is = refl
@@ -195,6 +206,6 @@ definitions_back (text s) is = refl
 definitions_back (list ds) is = refl
 
 -- so are those of a schema of the profile, which has no defaults
-pub asked_back : (t : Bool) (d : Document) → IsSchema (if t then without_defaults d else d) → moved_named to_definition (moved_named to_component (definitions_in d)) ≡ definitions_in d
+pub asked_back : (t : Bool) (d : Document) → IsSchema vocabularies.Default (if t then without_defaults d else d) → moved_named to_definition (moved_named to_component (definitions_in d)) ≡ definitions_in d
 asked_back true d is = definitions_back d is
-asked_back false d is = definitions_back d (still_bare d is)
+asked_back false d is = definitions_back d (still_bare vocabularies.Default d is)

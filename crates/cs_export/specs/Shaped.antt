@@ -6,6 +6,7 @@ use Rattle.cs_json.specs.Texts.{Reads, text_of}
 use Rattle.cs_package.specs.Environment.{Environment, bodies}
 use Rattle.cs_instance.specs.Instance.{Rule, definition, IsInstance}
 use Rattle.cs_instance.specs.Instance as instance
+use Rattle.cs_profile.specs.declared.keyword.Vocabulary.TheVariants as vocabularies
 use Rattle.cs_schema.specs.Profile.{IsSchema}
 use Rattle.cs_schema.specs.Root.{reference_to}
 use Rattle.cs_schema.specs.SchemaDocument.{SchemaValue, document_of}
@@ -25,11 +26,11 @@ use Rattle.cs_tool.specs.Headline.{IsExport}
 abbrev pub IsTextOf : Document → List ℕ → Type 0
 IsTextOf d text = depth d ≤ max_depth → Reads text d
 
--- the document is the schema: without notes they are the same, it is a schema of the profile once its defaults are left out, both validate the
+-- the document is the schema: without notes they are the same, it is a schema of the default profile once its defaults are left out, both validate the
 -- same documents, and so does each schema by their definitions
 pub record IsSameSchema (has_defaults : Bool) (schema document : Document) : Type 0 where
   pub plain : plain document ≡ plain schema
-  pub profile : IsSchema (if has_defaults then without_defaults document else document)
+  pub profile : IsSchema vocabularies.Default (if has_defaults then without_defaults document else document)
   pub validity : SameValidity schema document
   pub definitions : SameDefinitions schema document
 

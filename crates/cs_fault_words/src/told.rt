@@ -8,6 +8,7 @@ use cs_forms::{
 use cs_grammar::Profile;
 use cs_meanings::explanation;
 use cs_place::{Named, Step, ValuePath, places, pointer_at};
+use cs_profile::{Keyword, Vocabulary};
 use cs_sources::{Declared, Made, Near, Source, declared_in, end_of};
 use cs_text::{Written, put_all, put_grouped, put_line};
 use cs_tool::Fault;
@@ -230,6 +231,8 @@ impl<'a> Told<'a> {
         let said = match fault {
             Fault::Keyword { .. } if key == "default" =>
                 "`--profile wide` takes `{}` as a note; without it take it out, since it says nothing of what is valid",
+            Fault::Keyword { .. } if is_wide_keyword(key) =>
+                "`--profile wide` takes `{}`; without it take it out, and check that limit elsewhere",
             Fault::Keyword { .. } =>
                 "`{}` isn't in the profile: say it by other keywords, or take it out where it says nothing",
             Fault::Shape { .. } if key.is_empty() => "a schema is `true`, `false` or an object",
@@ -254,6 +257,11 @@ impl<'a> Told<'a> {
         }
         Ok(())
     }
+}
+
+/// Whether a name is that of a keyword that the wide profile has alone.
+fn is_wide_keyword(name: &str) -> bool {
+    Keyword::named(name).is_some_and(|keyword| !keyword.is_in(Vocabulary::Default))
 }
 
 /// The keys of a pointer with their escapes undone (RFC 6901, section 3), and behind them a keyword that isn't empty.

@@ -76,16 +76,16 @@ marked_before : (k n : ℤ) (m' m : Compared) → m.integers ≡ m'.integers ++ 
 marked_before k n m' m e is z w h = is z w (each_front (SameSide z w) m'.integers (n ∷ []) (subst (Each (SameSide z w)) e h))
 
 text_last : (u : List ℕ) (ts : List (List ℕ)) (m : Compared) → m.texts ≡ ts ++ u ∷ [] → (s t : List ℕ) → Texts m s t → bytes_eq u s ≡ bytes_eq u t
-text_last u ts m e s t h = (each_back (λ v. bytes_eq v s ≡ bytes_eq v t) ts (u ∷ []) (subst (Each (λ v. bytes_eq v s ≡ bytes_eq v t)) e h)).0
+text_last u ts m e s t h = (each_back (λ v. bytes_eq v s ≡ bytes_eq v t) ts (u ∷ []) (subst (Each (λ v. bytes_eq v s ≡ bytes_eq v t)) e h.0)).0
 
 -- ---- each test that compares
 
 -- marks after an integer, and after a text
 abbrev pub AfterInteger : ℤ → Compared → Compared → Type 0
-AfterInteger k m' m = (m.integers ≡ m'.integers ++ k ∷ []) × (m.texts ≡ m'.texts)
+AfterInteger k m' m = (m.integers ≡ m'.integers ++ k ∷ []) × (m.texts ≡ m'.texts) × (m.lengths ≡ m'.lengths)
 
 abbrev pub AfterText : List ℕ → Compared → Compared → Type 0
-AfterText u m' m = (m.texts ≡ m'.texts ++ u ∷ []) × (m.integers ≡ m'.integers)
+AfterText u m' m = (m.texts ≡ m'.texts ++ u ∷ []) × (m.integers ≡ m'.integers) × (m.lengths ≡ m'.lengths)
 
 -- a test of integers that gives the same on one side of an integer
 side_told : (p : ℤ → Bool) (k : ℤ) (m : Compared) → IsMarked k m → ((z w : ℤ) → SameSide z w k → p z ≡ p w) → IsTold (is_integer p) m
@@ -153,14 +153,20 @@ range_compared _ least greatest h = cc
 -- ---- more marks
 
 pub same_marks : (m : Compared) → HasMore m m
-same_marks m = ([], [], sym (append-nil m.texts), sym (append-nil m.integers))
+same_marks m = ([], [], [], sym (append-nil m.texts), sym (append-nil m.integers), sym (append-nil m.lengths))
 
 pub more_integers : (k : ℤ) (m' m : Compared) → AfterInteger k m' m → HasMore m' m
-more_integers k m' m e = ([], k ∷ [], e.1 ∙ sym (append-nil m'.texts), e.0)
+more_integers k m' m e = ([], k ∷ [], [], e.1 ∙ sym (append-nil m'.texts), e.0, e.2 ∙ sym (append-nil m'.lengths))
 
 pub more_texts : (u : List ℕ) (m' m : Compared) → AfterText u m' m → HasMore m' m
-more_texts u m' m e = (u ∷ [], [], e.0, e.1 ∙ sym (append-nil m'.integers))
+more_texts u m' m e = (u ∷ [], [], [], e.0, e.1 ∙ sym (append-nil m'.integers), e.2 ∙ sym (append-nil m'.lengths))
 
 pub two_integers : (k n : ℤ) (m'' m' m : Compared) → AfterInteger k m'' m' → AfterInteger n m' m → HasMore m'' m
-two_integers k n m'' m' m e f =
-    ([], k ∷ n ∷ [], f.1 ∙ e.1 ∙ sym (append-nil m''.texts), f.0 ∙ ap (λ zs. zs ++ n ∷ []) e.0 ∙ append_assoc m''.integers (k ∷ []) (n ∷ []))
+two_integers k n m'' m' m e f = (
+  [],
+  k ∷ n ∷ [],
+  [],
+  f.1 ∙ e.1 ∙ sym (append-nil m''.texts),
+  f.0 ∙ ap (λ zs. zs ++ n ∷ []) e.0 ∙ append_assoc m''.integers (k ∷ []) (n ∷ []),
+  f.2 ∙ e.2 ∙ sym (append-nil m''.lengths),
+)

@@ -267,7 +267,7 @@ references = by_values refl refl
 
 -- a test tells scalars apart that these marks don't
 abbrev Untold : Expression → List (List ℕ) → List ℤ → Type 0
-Untold e texts integers = IsTold (test_of e) (record { texts = texts; integers = integers }) → ⊥
+Untold e texts integers = IsTold (test_of e) (record { texts = texts; integers = integers; lengths = [] }) → ⊥
 
 -- both limits of a range are marked: the range from 0 to 3 tells 3 and 4 apart, and 0 and -1
 greatest_is_marked : Untold (cue.range (pos 0) (Some (pos 3))) [] (pos 0 ∷ [])
@@ -297,11 +297,11 @@ at_least_is_marked h = let e : true ≡ false = h (item.an_integer (pos 2)) (ite
 
 -- "s" where "t" alone is marked
 text_is_marked : Untold (cue.atom (cue.text (codes "s"))) (codes "t" ∷ []) []
-text_is_marked h = let e : true ≡ false = h (item.a_text (codes "s")) (item.a_text []) (refl, tt) in cc
+text_is_marked h = let e : true ≡ false = h (item.a_text (codes "s")) (item.a_text []) ((refl, tt), tt) in cc
 
 other_text_is_marked : Untold (cue.atom (cue.not_text (codes "s"))) (codes "t" ∷ []) []
-other_text_is_marked h = let e : false ≡ true = h (item.a_text (codes "s")) (item.a_text []) (refl, tt) in cc
+other_text_is_marked h = let e : false ≡ true = h (item.a_text (codes "s")) (item.a_text []) ((refl, tt), tt) in cc
 
 -- where nothing is marked all integers are alike and all texts, and so the kinds and null need no mark
-kinds_need_none : AllByRecursion (λ e. IsTold (test_of e) (record { texts = []; integers = [] })) (cue.kind cue.int ∷ cue.kind cue.string ∷ cue.kind cue.bool ∷ cue.atom cue.null ∷ cue.atom cue.not_null ∷ cue.atom cue.top ∷ [])
+kinds_need_none : AllByRecursion (λ e. IsTold (test_of e) (record { texts = []; integers = []; lengths = [] })) (cue.kind cue.int ∷ cue.kind cue.string ∷ cue.kind cue.bool ∷ cue.atom cue.null ∷ cue.atom cue.not_null ∷ cue.atom cue.top ∷ [])
 kinds_need_none = search rules

@@ -179,7 +179,7 @@ impl RootRules<'_> {
     {
         let _package = self.package.package(); // for the proof: the package is guarded
         let last = flat.len() - 1;
-        let judge = self.book.over(flat);
+        let judge = self.book.over(flat)?;
         refill(&judge, table)?;
         Ok(table.get(last, self.number))
     }

@@ -91,7 +91,7 @@ pub fn explain_instance<'b>(
     one_meaning(package); // for the proof: there is one instance relation
     let (book, number) = rules.book();
     let last = flat.len() - 1;
-    let judge = book.over(flat);
+    let judge = book.over(flat)?;
     refill(&judge, table)?;
     if table.get(last, number) {
         return Ok(None);

@@ -70,6 +70,7 @@ impl Explains for InstanceGraph<'_> {
             item,
             children: &self.book.numbering.children,
             done: self.table,
+            lengths: &[],
         };
         tell_causes(
             &self.book.numbering.rules[rule],

@@ -29,11 +29,11 @@ use Rattle.cs_tool.proofs.Numbered.{numbered_sides}
 module _ (text : List ℕ) (d : Document) (is_read : IsReadAs text d) (result : Result Bool Fault) where
   pub by_root : (R : Rules) (r : Bor (Environment × List ℕ)) → AreNumbersOf R (numbered.Root r.now) → IsVerdict (side.Root r) d result (λ b. b) → IsOf (call_on R text) result
   by_root (rules.Root sources root) r is of = vetted _ _ text r is d is_read result of
-  by_root (rules.Schema schema) r is of = absurd is
+  by_root (rules.Schema taken schema) r is of = absurd is
   by_root (rules.Both sources root) r is of = absurd is
 
   pub by_schema : (R : Rules) (s : Bor Document) → AreNumbersOf R (numbered.Schema s.now) → IsVerdict (side.Schema s) d result (λ b. b) → IsOf (call_on R text) result
-  by_schema (rules.Schema schema) s is of = validates _ text s is d is_read result of
+  by_schema (rules.Schema taken schema) s is of = validates taken _ text s is d is_read result of
   by_schema (rules.Root sources root) s is of = absurd is
   by_schema (rules.Both sources root) s is of = absurd is
 
@@ -41,12 +41,12 @@ module _ (text : List ℕ) (d : Document) (is_read : IsReadAs text d) (result : 
       → ((ss : List (List ℕ)) (root t : List ℕ) → AreSidesOf ss root r.0 r.1 s → IsReadAs t d → IsCallVerdict (agree ss root t) form old new result) → IsCallVerdict (call_on R text) form old new result
   by_both form old new (rules.Both sources root) r s is of = of _ _ text is is_read
   by_both form old new (rules.Root sources root) r s is of = absurd is
-  by_both form old new (rules.Schema schema) r s is of = absurd is
+  by_both form old new (rules.Schema taken schema) r s is of = absurd is
 
 -- a text that isn't read is refused
 pub not_read : (text : List ℕ) (R : Rules) (numbers : NumberedRules) → AreNumbersOf R numbers → (e : DocFault) → unread.IsRefusal e text → IsOf (call_on R text) (Err (of_document e))
 not_read text (rules.Root sources root) (numbered.Root r) is e h = vet_unread _ _ text _ _ is e h
-not_read text (rules.Schema schema) (numbered.Schema s) is e h = validate_unread _ text _ is e h
+not_read text (rules.Schema taken schema) (numbered.Schema s) is e h = validate_unread _ _ text _ is e h
 not_read text (rules.Both sources root) (numbered.Both r s) is e h = agree_unread _ _ text _ _ is.declares e h
 not_read text _ _ is e h = absurd is
 
@@ -57,13 +57,13 @@ no_memory text R = record { found = tt; refused = memory_refuses R text; only = 
 -- what was read of a root is declared by some sources, and so is that of both sides
 pub root_read : (R : Rules) (E : Environment) (r : Bor (List ℕ)) → IsReadOf R (read.Root E r) → (ss : List (List ℕ)) × (n : List ℕ) × DeclaresRoot ss r.now E n
 root_read (rules.Root sources root) E r is = let same : r.now ≡ string_bytes root = is.0 in rw same (_, is.1.0, is.1.1)
-root_read (rules.Schema schema) E r is = absurd is
+root_read (rules.Schema taken schema) E r is = absurd is
 root_read (rules.Both sources root) E r is = absurd is
 
 pub both_read : (R : Rules) (E : Environment) (r : Bor (List ℕ)) (s : SchemaDoc) → IsReadOf R (read.Both E r s) → (ss : List (List ℕ)) × (n : List ℕ) × DeclaresRoot ss r.now E n
 both_read (rules.Both sources root) E r s is = let same : r.now ≡ string_bytes root = is.0 in rw same (_, is.1.0, is.1.1.declares)
 both_read (rules.Root sources root) E r s is = absurd is
-both_read (rules.Schema schema) E r s is = absurd is
+both_read (rules.Schema taken schema) E r s is = absurd is
 
 pub root_numbered : (R : Rules) (E : Environment) (r : Bor (List ℕ)) (root_side : Environment × List ℕ) → IsReadOf R (read.Root E r)
     → ((ss : List (List ℕ)) (n : List ℕ) → DeclaresRoot ss r.now E n → DeclaresRoot ss r.now root_side.0 root_side.1) → AreNumbersOf R (numbered.Root root_side)
@@ -72,11 +72,11 @@ root_numbered (rules.Root sources root) E r root_side is found =
     let ss = map (λ f. f.items) sources.items in
     let declares = found ss is.1.0 (subst (λ n. DeclaresRoot ss n E is.1.0) (sym named) is.1.1) in
     subst (λ n. DeclaresRoot ss n root_side.0 root_side.1) named declares
-root_numbered (rules.Schema schema) E r root_side is found = absurd is
+root_numbered (rules.Schema taken schema) E r root_side is found = absurd is
 root_numbered (rules.Both sources root) E r root_side is found = absurd is
 
 pub schema_numbered : (R : Rules) (s : SchemaDoc) (schema_side : Document) → IsReadOf R (read.Schema s) → schema_side ≡ document_of s → AreNumbersOf R (numbered.Schema schema_side)
-schema_numbered (rules.Schema schema) s schema_side is same = subst (IsSchemaOf schema.items) (sym same) is
+schema_numbered (rules.Schema taken schema) s schema_side is same = subst (IsSchemaOf taken schema.items) (sym same) is
 schema_numbered (rules.Root sources root) s schema_side is same = absurd is
 schema_numbered (rules.Both sources root) s schema_side is same = absurd is
 
@@ -89,4 +89,4 @@ both_numbered (rules.Both sources root) E r s root_side schema_side is found sam
     let declares = found ss is.1.0 (subst (λ n. DeclaresRoot ss n E is.1.0) (sym named) is.1.1.declares) in
     numbered_sides is.1.1 (subst (λ n. DeclaresRoot ss n root_side.0 root_side.1) named declares) same
 both_numbered (rules.Root sources root) E r s root_side schema_side is found same = absurd is
-both_numbered (rules.Schema schema) E r s root_side schema_side is found same = absurd is
+both_numbered (rules.Schema taken schema) E r s root_side schema_side is found same = absurd is

@@ -8,6 +8,8 @@ use Rattle.cs_instance.specs.declared.fault.InstanceFault.{InstanceFault}
 use Rattle.cs_instance.specs.declared.fault.InstanceFault.TheVariants as instance
 use Rattle.cs_json.specs.Refusal as unread
 use Rattle.cs_package.specs.Environment.{Environment}
+use Rattle.cs_profile.specs.declared.keyword.Vocabulary.{Vocabulary}
+use Rattle.cs_profile.specs.declared.keyword.Vocabulary.TheVariants as vocabularies
 use Rattle.cs_table.specs.declared.fault.TableFault.{TableFault}
 use Rattle.cs_table.specs.declared.fault.TableFault.TheVariants as table
 use Rattle.cs_tool.specs.Accepted.{DeclaresRoot}
@@ -53,8 +55,8 @@ module _ (text : List ℕ) (many : ManyPairs) (d : Document) (read : IsReadAs te
   }))
   root_refuses sources root r declares pairs _ h = absurd h
 
-  pub schema_refuses : (schema_text : List ℕ) (s : Bor Document) → IsSchemaOf schema_text s.now
-      → ((i k : ℕ) → SchemaHasManyPairs schema_text text i k → many i k true) → (e : Fault) → Refuses (Schema s) d e → RefusesText text many e
+  pub schema_refuses : {taken : Vocabulary} (schema_text : List ℕ) (s : Bor Document) → IsSchemaOf taken schema_text s.now
+      → ((i k : ℕ) → SchemaHasManyPairs taken schema_text text i k → many i k true) → (e : Fault) → Refuses (Schema s) d e → RefusesText text many e
   schema_refuses schema_text s is pairs OutOfMemory h = tt
   schema_refuses schema_text s is pairs (TooManyPairs i k b) h = subst (many i k) (sym h.0) (by_schema text many schema_text s.now is d read.0 pairs (table.TooManyPairs i k) h.1)
   schema_refuses schema_text s is pairs _ h = absurd h
@@ -86,28 +88,28 @@ module _ (sources : List (List ℕ)) (root text : List ℕ) where
 
 -- ---- by a schema
 
-module _ (s t : List ℕ) where
-  validate_refused : IsSchemaText s → (e : Fault) → RefusesText t (ManyOfSchema s t) e → ValidateRefusal s t e
+module _ (v : Vocabulary) (s t : List ℕ) where
+  validate_refused : IsSchemaText v s → (e : Fault) → RefusesText t (ManyOfSchema v s t) e → ValidateRefusal v s t e
   validate_refused is OutOfMemory h = tt
   validate_refused is (NotJson o c) h = (is, h)
   validate_refused is (NotInteger o false) h = (is, h)
   validate_refused is (TooManyPairs i r true) h = h
   validate_refused is _ h = absurd h
 
-  validate_alone : IsReadyToValidate s t → (e : Fault) → RefusesText t (ManyOfSchema s t) e → e ≡ OutOfMemory
+  validate_alone : IsReadyToValidate v s t → (e : Fault) → RefusesText t (ManyOfSchema v s t) e → e ≡ OutOfMemory
   validate_alone ready = memory_alone t _ ready.input.document ready.input.read (few_of_validate s t ready)
 
-  not_validated : (S : Document) → IsSchemaOf s S → (e : Fault) → RefusesText t (ManyOfSchema s t) e → IsOf (validate s t) (Err e)
+  not_validated : (S : Document) → IsSchemaOf v s S → (e : Fault) → RefusesText t (ManyOfSchema v s t) e → IsOf (validate v s t) (Err e)
   not_validated S is e h = record { found = tt; refused = validate_refused is.text e h; only = λ ready. validate_alone ready e h }
 
-  pub validate_unread : (S : Document) → IsSchemaOf s S → (e : DocFault) → unread.IsRefusal e t → IsOf (validate s t) (Err (of_document e))
-  validate_unread S is e h = not_validated S is (of_document e) (by_text t (ManyOfSchema s t) e h)
+  pub validate_unread : (S : Document) → IsSchemaOf v s S → (e : DocFault) → unread.IsRefusal e t → IsOf (validate v s t) (Err (of_document e))
+  validate_unread S is e h = not_validated S is (of_document e) (by_text t (ManyOfSchema v s t) e h)
 
-  pub validates : (S : Bor Document) → IsSchemaOf s S.now → (d : Document) → IsReadAs t d → (result : Result Bool Fault) → IsVerdict (Schema S) d result (λ b. b) → IsOf (validate s t) result
-  validates S is d read (Ok b) v =
-      let j = v.found in
+  pub validates : (S : Bor Document) → IsSchemaOf v s S.now → (d : Document) → IsReadAs t d → (result : Result Bool Fault) → IsVerdict (Schema S) d result (λ b. b) → IsOf (validate v s t) result
+  validates S is d read (Ok b) of =
+      let j = of.found in
       record { found = (validated s t S.now d b is read.0 read.1 j.one_meaning j.within j.answer, refl); refused = tt; only = λ ready. tt }
-  validates S is d read (Err e) v = not_validated _ is e (schema_refuses t (ManyOfSchema s t) d read s S is (λ i k many. many) e v.refused)
+  validates S is d read (Err e) of = not_validated _ is e (schema_refuses t (ManyOfSchema v s t) d read s S is (λ i k many. many) e of.refused)
 
 -- ---- by both
 
@@ -123,7 +125,7 @@ module _ (sources : List (List ℕ)) (root text : List ℕ) where
   agree_alone : IsReadyToAgree sources root text → (e : Fault) → RefusesText text (ManyOfBoth sources root text) e → e ≡ OutOfMemory
   agree_alone ready = memory_alone text _ ready.vetted.input.document ready.vetted.input.read (few_of_agree sources root text ready)
 
-  by_export : {E : Environment} {n : List ℕ} {S : Document} (is : AreSidesOf sources root E n S) (i r : ℕ) → SchemaHasManyPairs is.schema_text text i r → ExportHasManyPairs sources root text i r
+  by_export : {E : Environment} {n : List ℕ} {S : Document} (is : AreSidesOf sources root E n S) (i r : ℕ) → SchemaHasManyPairs vocabularies.Default is.schema_text text i r → ExportHasManyPairs sources root text i r
   by_export is i r many = record { schema_text = is.schema_text; exported = is.exported; translated = is.translated; many = many }
 
   not_agreed : (E : Environment) (n : List ℕ) → DeclaresRoot sources root E n → (e : Fault) → RefusesText text (ManyOfBoth sources root text) e → IsOf (agree sources root text) (Err e)
@@ -151,7 +153,7 @@ module _ (sources : List (List ℕ)) (root text : List ℕ) where
         let vetted = verdict sources root text _ _ d a is.declares read.0 read.1 by_root.one_meaning by_root.answer by_root.within in
         let valid = validated is.schema_text text s.now d b is.read read.0 read.1 by_schema.one_meaning by_schema.within by_schema.answer in
         let same = same_truth a b by_root by_schema in
-        record { verdict = vetted; schema_text = is.schema_text; exported = is.exported; translated = is.translated; validated = subst (IsValidated is.schema_text text) (sym same) valid }
+        record { verdict = vetted; schema_text = is.schema_text; exported = is.exported; translated = is.translated; validated = subst (IsValidated vocabularies.Default is.schema_text text) (sym same) valid }
 
     -- and the report of one side tells it
     pub agreed : (form : Option Form) (old mid new : List ℕ) (a b truth : Bool) → Judges (Root r) d a → Judges (Schema s) d b

@@ -101,7 +101,7 @@ ghost use Rattle.cs_tool.specs.Runs.{IsCallAnswer, IsCallRefusal, IsReadyCall, v
 /// Reads rules once for any number of documents.
 ///
 /// # Errors
-/// Those of the calls `vet`, `validate` and `agree` that come before any of the document.
+/// Those of the calls `vet`, `validate_by` and `agree` that come before any of the document.
 pub fn prepare<'a>(alloc: Global, rules: &'a Rules) -> Result<Prepared<'a>, Fault>
     ensures rules { IfOk result (λ p. p ≡ rules.now) }
     ensures refused { (text : List ℕ) → IfErr result (IsCallRefusal (call_on rules.now text)) }
@@ -112,7 +112,9 @@ pub fn prepare<'a>(alloc: Global, rules: &'a Rules) -> Result<Prepared<'a>, Faul
             let guarded = read_root(alloc, &slices_of(alloc, sources)?, root)?;
             ReadRules::Root(guarded, root)
         }
-        Rules::Schema { schema } => ReadRules::Schema(read_schema_text(alloc, schema)?),
+        Rules::Schema { vocabulary, schema } => {
+            ReadRules::Schema(read_schema_text(alloc, *vocabulary, schema)?)
+        }
         Rules::Both { sources, root } => {
             let (guarded, schema) = read_both(alloc, &slices_of(alloc, sources)?, root)?;
             ReadRules::Both(guarded, root, schema)
@@ -147,7 +149,7 @@ impl Prepared<'_> {
 }
 
 impl TextJudge<'_> {
-    /// What the call on the document's text answers: `vet`, `validate` or `agree`. Adds the verdict's line, where no reasons are asked for.
+    /// What the call on the document's text answers: `vet`, `validate_by` or `agree`. Adds the verdict's line, where no reasons are asked for.
     /// Else it adds what is told in the form that is asked for: in lines the verdict's line, and behind `invalid` a line for each reason;
     /// in the others one line, the object of JSON. `agree` takes the reasons of the definition, and in the output formats of JSON Schema
     /// those of the schema.

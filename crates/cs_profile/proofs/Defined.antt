@@ -9,6 +9,7 @@ use Rattle.cs_document.proofs.Each.{each_append}
 use Rattle.cs_profile.specs.Keywords.{keywords, reference_start, text_after, entries_of, listed_under, defined}
 use Rattle.cs_profile.specs.declared.keyword.Keyword.{Keyword}
 use Rattle.cs_profile.specs.declared.keyword.Keyword.TheVariants as keyword
+use Rattle.cs_profile.specs.declared.keyword.Vocabulary.{Vocabulary}
 use Rattle.cs_profile.specs.Loops.{name_in, by_keyword, direct_names, keyword_names, list_names, each_names}
 use Rattle.cs_profile.specs.ValueNames.{value_names}
 use Rattle.cs_profile.specs.Shapes.{form_at, form_in, form_of, stands, by_form}
@@ -17,24 +18,25 @@ use Rattle.cs_profile.specs.Profile.{Visit, undefined, keyword_at, first, fault_
 use Rattle.cs_profile.specs.Values.{keyword_visits, value_visits}
 use Rattle.cs_profile.proofs.Faultless.{parted, or_else_none}
 use Rattle.cs_profile.proofs.Names.{name_of-named}
+use Rattle.cs_profile.proofs.Taken.{taken_none}
 
-module _ (known : List ℕ → Bool) where
+module _ (taken : Vocabulary) (known : List ℕ → Bool) where
   -- the walk meets no fault, and no reference to a name that isn't known
   abbrev pub Clean : List Visit → Type 0
-  Clean vs = (first fault_of vs ≡ None) × (first (undefined_at known) vs ≡ None)
+  Clean vs = (first (fault_of taken) vs ≡ None) × (first (undefined_at known) vs ≡ None)
 
   abbrev pub AllKnown : List (List ℕ) → Type 0
   AllKnown ns = Each (λ n. known n ≡ true) ns
 
   clean_parts : (xs ys : List Visit) → Clean (xs ++ ys) → Clean xs × Clean ys
   clean_parts xs ys h =
-      let faults = parted fault_of xs ys h.0 in
+      let faults = parted (fault_of taken) xs ys h.0 in
       let names = parted (undefined_at known) xs ys h.1 in
       ((faults.0, names.0), (faults.1, names.1))
 
-  clean_first : (x : Visit) (xs : List Visit) → Clean (x ∷ xs) → ((fault_of x ≡ None) × (undefined_at known x ≡ None)) × Clean xs
+  clean_first : (x : Visit) (xs : List Visit) → Clean (x ∷ xs) → ((fault_of taken x ≡ None) × (undefined_at known x ≡ None)) × Clean xs
   clean_first x xs h =
-      let faults = or_else_none (fault_of x) (first fault_of xs) h.0 in
+      let faults = or_else_none (fault_of taken x) (first (fault_of taken) xs) h.0 in
       let names = or_else_none (undefined_at known x) (first (undefined_at known) xs) h.1 in
       ((faults.0, names.0), (faults.1, names.1))
 
@@ -65,13 +67,16 @@ module _ (known : List ℕ → Bool) where
   clean_inside : (place k : List ℕ) (v : Document) (w : Keyword) → under k keywords ≡ Some w → Clean (keyword_visits false place k v) → Clean (by_form (form_of w) (value_visits (at_key place k) v))
   clean_inside place k v w e h = by (stands false w) refl
     where
+      parts : ((fault_of taken (keyword_at false place k v) ≡ None) × (undefined_at known (keyword_at false place k v) ≡ None)) × Clean (within (form_at false k) (value_visits (at_key place k) v))
+      parts = clean_first (keyword_at false place k v) (within (form_at false k) (value_visits (at_key place k) v)) h
+
       by : (b : Bool) → stands false w ≡ b → Clean (by_form (form_of w) (value_visits (at_key place k) v))
       by true s =
           let is : form_at false k ≡ Some (form_of w) = ap (option_and_then (form_in false)) e ∙ ap (λ b. if b then Some (form_of w) else None) s in
-          subst (λ f. Clean (within f (value_visits (at_key place k) v))) is (clean_first (keyword_at false place k v) (within (form_at false k) (value_visits (at_key place k) v)) h).1
+          subst (λ f. Clean (within f (value_visits (at_key place k) v))) is parts.1
       by false s =
           let is : form_at false k ≡ None = ap (option_and_then (form_in false)) e ∙ ap (λ b. if b then Some (form_of w) else None) s in
-          let none : form_fault place k v None ≡ None = subst (λ f. form_fault place k v f ≡ None) is (clean_first (keyword_at false place k v) (within (form_at false k) (value_visits (at_key place k) v)) h).0.0 in cc
+          let none : form_fault place k v None ≡ None = subst (λ f. form_fault place k v f ≡ None) (taken_none taken false k is) parts.0.0 in cc
 
   known_at : (place k : List ℕ) (v : Document) (o : Option Keyword) → under k keywords ≡ o
       → (Clean (visits false (at_key place k) v) → AllKnown (direct_names v)) → (Clean (list_visits (at_key place k) v) → AllKnown (list_names v))
@@ -162,7 +167,7 @@ found_each P n (f ∷ es) s h e = by (bytes_eq n f.0) (found_each P n es s h.1) 
     by false next e = next e
 
 -- each name that a definition refers to directly is defined
-pub names_defined : (R : Document) → walk_fault R ≡ None → name_fault R ≡ None → (n : List ℕ) (s : Document) → defined R n ≡ Some s → Each (λ m. is_some (defined R m) ≡ true) (direct_names s)
-names_defined R shaped named n s e =
+pub names_defined : (taken : Vocabulary) (R : Document) → walk_fault taken R ≡ None → name_fault R ≡ None → (n : List ℕ) (s : Document) → defined R n ≡ Some s → Each (λ m. is_some (defined R m) ≡ true) (direct_names s)
+names_defined taken R shaped named n s e =
     let known : List ℕ → Bool = λ m. is_some (defined R m) in
-    found_each (λ d. AllKnown known (direct_names d)) n (listed_under (codes "$defs") (entries_of R)) s (known_root known R (shaped, named)) e
+    found_each (λ d. AllKnown taken known (direct_names d)) n (listed_under (codes "$defs") (entries_of R)) s (known_root taken known R (shaped, named)) e

@@ -14,7 +14,9 @@ pub mod Meanings
 pub mod Unfolded
 -- the walk over a schema: faults, and names that are defined
 pub mod Walks
+pub mod Taken
 pub mod Faultless
+pub mod Vocabularies
 pub mod Profiles
 pub mod Defined
 -- trimming: what is trimmed stays, what trimming leaves as it is, the law

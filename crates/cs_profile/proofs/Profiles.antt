@@ -9,6 +9,7 @@ use Rattle.cs_document.specs.Document.{Document, null, boolean, integer, text, l
 use Rattle.cs_profile.specs.Keywords.{listed_under, entries_of, defined}
 use Rattle.cs_profile.specs.Shapes.{form_at, dialect}
 use Rattle.cs_profile.specs.declared.keyword.Form.TheVariants as form
+use Rattle.cs_profile.specs.declared.keyword.Vocabulary.{Vocabulary}
 use Rattle.cs_profile.specs.Profile.{fault_of, member_visits}
 use Rattle.cs_profile.specs.Values.{keyword_visits, trimmed_value, value_trims}
 use Rattle.cs_profile.specs.Trim.{trim, trimmed, trimmed_members, trimmed_named, trimmed_as, with_member}
@@ -81,18 +82,19 @@ is_some-map f (Some x) = refl
 
 -- ---- the trimmed root
 
-faultless_by_order : (k m : List ℕ) (d e : Document) (ms : Members) → Faultless (keyword_visits true [] k d) → Faultless (member_visits true [] (member m e ms)) → Faultless (member_visits true [] (put k d ms))
-    → (o : Ordering) → slice_cmp nat_cmp k m ≡ o → Faultless (member_visits true [] (match_ordering o (member k d (member m e ms)) (member m d ms) (member m e (put k d ms))))
-faultless_by_order k m d e ms one all rest Less c = joined fault_of (keyword_visits true [] k d) (member_visits true [] (member m e ms)) one all
-faultless_by_order k m d e ms one all rest Equal c =
-    let same : k ≡ m = (bytes_eq-Decides k m).0 (sym (is_eq-slice_cmp k m) ∙ ap is_eq c) in
-    let parts = parted fault_of (keyword_visits true [] m e) (member_visits true [] ms) all in
-    joined fault_of (keyword_visits true [] m d) (member_visits true [] ms) (subst (λ n. Faultless (keyword_visits true [] n d)) same one) parts.1
-faultless_by_order k m d e ms one all rest Greater c =
-    let parts = parted fault_of (keyword_visits true [] m e) (member_visits true [] ms) all in
-    joined fault_of (keyword_visits true [] m e) (member_visits true [] (put k d ms)) parts.0 rest
+module _ (taken : Vocabulary) where
+  faultless_by_order : (k m : List ℕ) (d e : Document) (ms : Members) → Faultless taken (keyword_visits true [] k d) → Faultless taken (member_visits true [] (member m e ms)) → Faultless taken (member_visits true [] (put k d ms))
+      → (o : Ordering) → slice_cmp nat_cmp k m ≡ o → Faultless taken (member_visits true [] (match_ordering o (member k d (member m e ms)) (member m d ms) (member m e (put k d ms))))
+  faultless_by_order k m d e ms one all rest Less c = joined (fault_of taken) (keyword_visits true [] k d) (member_visits true [] (member m e ms)) one all
+  faultless_by_order k m d e ms one all rest Equal c =
+      let same : k ≡ m = (bytes_eq-Decides k m).0 (sym (is_eq-slice_cmp k m) ∙ ap is_eq c) in
+      let parts = parted (fault_of taken) (keyword_visits true [] m e) (member_visits true [] ms) all in
+      joined (fault_of taken) (keyword_visits true [] m d) (member_visits true [] ms) (subst (λ n. Faultless taken (keyword_visits true [] n d)) same one) parts.1
+  faultless_by_order k m d e ms one all rest Greater c =
+      let parts = parted (fault_of taken) (keyword_visits true [] m e) (member_visits true [] ms) all in
+      joined (fault_of taken) (keyword_visits true [] m e) (member_visits true [] (put k d ms)) parts.0 rest
 
-pub faultless_put : (k : List ℕ) (d : Document) (ms : Members) → Faultless (keyword_visits true [] k d) → Faultless (member_visits true [] ms) → Faultless (member_visits true [] (put k d ms))
-faultless_put k d no_members one all = joined fault_of (keyword_visits true [] k d) [] one refl
-faultless_put k d (member m e ms) one all =
-    faultless_by_order k m d e ms one all (faultless_put k d ms one (parted fault_of (keyword_visits true [] m e) (member_visits true [] ms) all).1) (slice_cmp nat_cmp k m) refl
+  pub faultless_put : (k : List ℕ) (d : Document) (ms : Members) → Faultless taken (keyword_visits true [] k d) → Faultless taken (member_visits true [] ms) → Faultless taken (member_visits true [] (put k d ms))
+  faultless_put k d no_members one all = joined (fault_of taken) (keyword_visits true [] k d) [] one refl
+  faultless_put k d (member m e ms) one all =
+      faultless_by_order k m d e ms one all (faultless_put k d ms one (parted (fault_of taken) (keyword_visits true [] m e) (member_visits true [] ms) all).1) (slice_cmp nat_cmp k m) refl

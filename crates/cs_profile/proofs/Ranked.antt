@@ -22,6 +22,7 @@ use Rattle.cs_profile.specs.Loops.{direct_names, RefersDirectly, NoLoop, IsRank}
 use Rattle.cs_profile.specs.Numbered.{by_text, names_in, numbered, numbers_of, rows_of, name_of_number, number_of_name, AreRanks}
 use Rattle.cs_profile.specs.Refusal.{LeastFirst, IsLeastLoop}
 use Rattle.cs_profile.specs.SchemaDocument.{SchemaValue, schema_view, document_of, definition_of, IsWellFormed}
+use Rattle.cs_profile.specs.declared.keyword.Vocabulary.TheVariants as vocabulary
 use Rattle.cs_profile.specs.declared.schema.Schema.{Schema}
 use Rattle.cs_profile.proofs.Defined.{names_defined}
 use Rattle.cs_profile.proofs.Definitions.{defined_bare}
@@ -281,7 +282,7 @@ module _ (v : SchemaValue) (well : IsWellFormed v) (sorted : IsStrictlySortedBy 
   back i m l r =
       let d = item_at v.definitions i (omega (arith, l, long_graph)) in
       let on : On m (direct_names (schema_view d.0.1)) = subst (λ ns. On m ns) (refers_there i d.0 d.1) (on_any m (refers_to (name i)) r) in
-      let known = each_on (λ n. is_some (defined root n) ≡ true) (direct_names (schema_view d.0.1)) m (names_defined root well.shaped well.named (string_bytes d.0.0) (schema_view d.0.1) (defined_there i d.0 d.1)) on in
+      let known = each_on (λ n. is_some (defined root n) ≡ true) (direct_names (schema_view d.0.1)) m (names_defined vocabulary.Wide root well.shaped well.named (string_bytes d.0.0) (schema_view d.0.1) (defined_there i d.0 d.1)) on in
       let j = found (defined root m) refl known in (
         j.0,
         record {

@@ -12,6 +12,7 @@ use Rattle.cs_document.specs.Document.{Document, null, boolean, integer, text, l
 use Rattle.cs_profile.specs.Keywords.{keywords, defined}
 use Rattle.cs_profile.specs.declared.keyword.Keyword.{Keyword}
 use Rattle.cs_profile.specs.declared.keyword.Keyword.TheVariants as keyword
+use Rattle.cs_profile.specs.declared.keyword.Vocabulary.{Vocabulary}
 use Rattle.cs_profile.specs.declared.keyword.Form.{Form}
 use Rattle.cs_profile.specs.declared.keyword.Form.TheVariants as form
 use Rattle.cs_profile.specs.declared.fault.SchemaFault.{SchemaFault}
@@ -204,13 +205,13 @@ name_fault_trimmed (object ms) =
     let same : (n : List ℕ) → is_some (defined (trim d) n) ≡ known n = λ n. ap is_some (defined_trimmed d n) ∙ is_some-map (trimmed false) (defined d n) in
     (λ i. first (undefined_at (λ n. same n i)) (visits true [] (trim d))) ∙ dialect_put known (text dialect) (trimmed_members true ms) ∙ undefined_trimmed known true [] d
 
-pub walk_fault_trimmed : (d : Document) → walk_fault d ≡ None → walk_fault (trim d) ≡ None
-walk_fault_trimmed null h = h
-walk_fault_trimmed (boolean b) h = h
-walk_fault_trimmed (integer z) h = h
-walk_fault_trimmed (text s) h = h
-walk_fault_trimmed (list ds) h = h
-walk_fault_trimmed (object ms) h = faultless_put (codes "$schema") (text dialect) (trimmed_members true ms) refl (faultless_members true [] ms h)
+pub walk_fault_trimmed : (taken : Vocabulary) (d : Document) → walk_fault taken d ≡ None → walk_fault taken (trim d) ≡ None
+walk_fault_trimmed taken null h = h
+walk_fault_trimmed taken (boolean b) h = h
+walk_fault_trimmed taken (integer z) h = h
+walk_fault_trimmed taken (text s) h = h
+walk_fault_trimmed taken (list ds) h = h
+walk_fault_trimmed taken (object ms) h = faultless_put taken (codes "$schema") (text dialect) (trimmed_members true ms) refl (faultless_members taken true [] ms h)
 
 -- the names that the definition of a name refers to directly
 abbrev refers_to : Document → List ℕ → List (List ℕ)
@@ -238,9 +239,9 @@ no_loop_untrimmed d h = subst (λ to. NoCycle (Refers to)) (all_refer_alike d) h
 pub least_loop_untrimmed : (d : Document) (ns : List (List ℕ)) → IsLeastLoop (trim d) ns → IsLeastLoop d ns
 least_loop_untrimmed d ns l = record { loop = subst (λ to. IsClosed (Refers to) ns) (all_refer_alike d) l.loop; distinct = l.distinct; least = l.least }
 
-pub refusal_untrimmed : (e : SchemaFault) (d : Document) → walk_fault d ≡ None → name_fault d ≡ None → IsLoopRefusal e (trim d) → IsRefusal e d
-refusal_untrimmed fault.OutOfMemory d w n h = tt
-refusal_untrimmed (fault.Loop ns) d w n h = record { shaped = w; named = n; told = least_loop_untrimmed d _ h }
-refusal_untrimmed (fault.Keyword p m) d w n h = absurd h
-refusal_untrimmed (fault.Shape p m) d w n h = absurd h
-refusal_untrimmed (fault.Reference p m) d w n h = absurd h
+pub refusal_untrimmed : (taken : Vocabulary) (e : SchemaFault) (d : Document) → walk_fault taken d ≡ None → name_fault d ≡ None → IsLoopRefusal e (trim d) → IsRefusal taken e d
+refusal_untrimmed taken fault.OutOfMemory d w n h = tt
+refusal_untrimmed taken (fault.Loop ns) d w n h = record { shaped = w; named = n; told = least_loop_untrimmed d _ h }
+refusal_untrimmed taken (fault.Keyword p m) d w n h = absurd h
+refusal_untrimmed taken (fault.Shape p m) d w n h = absurd h
+refusal_untrimmed taken (fault.Reference p m) d w n h = absurd h

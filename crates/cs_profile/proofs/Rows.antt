@@ -299,6 +299,87 @@ items_elsewhere = judges 3 _ _ _ (λ V. (refl, refl))
 length : Judges (says "minItems" (n 2)) (l (n 1 ∷ n 1 ∷ []) ∷ l (n 1 ∷ n 1 ∷ n 1 ∷ []) ∷ t "x" ∷ o [] ∷ []) (l [] ∷ l (n 1 ∷ []) ∷ [])
 length = judges 1 _ _ _ (λ V. (refl, refl))
 
+-- a list as long as it may be, whatever its elements, and what is no list
+length_at_most : Judges
+    (says "maxItems" (n 2))
+    (l [] ∷ l (n 1 ∷ n 1 ∷ []) ∷ l (l (n 1 ∷ n 2 ∷ n 3 ∷ []) ∷ []) ∷ t "abc" ∷ o (("a", n 1) ∷ ("b", n 1) ∷ ("c", n 1) ∷ []) ∷ n 3 ∷ null ∷ boolean true ∷ [])
+    (l (n 1 ∷ n 1 ∷ n 1 ∷ []) ∷ l (null ∷ null ∷ null ∷ null ∷ []) ∷ [])
+length_at_most = judges 1 _ _ _ (λ V. (refl, refl))
+
+-- texts by their bytes: U+00E9, `e` with the mark U+0301, U+20AC, and U+1F600
+abbrev acute : List ℕ
+acute = 195 ∷ 169 ∷ []
+
+abbrev marked : List ℕ
+marked = 101 ∷ 204 ∷ 129 ∷ []
+
+abbrev euro : List ℕ
+euro = 226 ∷ 130 ∷ 172 ∷ []
+
+abbrev face : List ℕ
+face = 240 ∷ 159 ∷ 152 ∷ 128 ∷ []
+
+-- 0 takes the empty one alone, or all
+lengths_of_none : Judges (o (("maxItems", n 0) ∷ ("maxLength", n 0) ∷ ("maxProperties", n 0) ∷ [])) (l [] ∷ t "" ∷ o [] ∷ n 1 ∷ null ∷ boolean false ∷ []) (l (null ∷ []) ∷ t "a" ∷ text acute ∷ says "" null ∷ [])
+lengths_of_none = judges 1 _ _ _ (λ V. (refl, refl))
+
+lengths_of_any : Judges (o (("minItems", n 0) ∷ ("minLength", n 0) ∷ ("minProperties", n 0) ∷ [])) (l [] ∷ l (null ∷ []) ∷ t "" ∷ t "a" ∷ o [] ∷ says "a" null ∷ n 0 ∷ null ∷ boolean true ∷ []) []
+lengths_of_any = judges 1 _ _ _ (λ V. (refl, refl))
+
+-- the greatest limit takes all, or none of the kind
+lengths_of_most : Judges
+    (o (("maxItems", n 9223372036854775807) ∷ ("maxLength", n 9223372036854775807) ∷ ("maxProperties", n 9223372036854775807) ∷ []))
+    (l [] ∷ l (null ∷ null ∷ []) ∷ t "" ∷ t "abc" ∷ o [] ∷ says "a" null ∷ n 0 ∷ [])
+    []
+lengths_of_most = judges 1 _ _ _ (λ V. (refl, refl))
+
+lengths_out_of_reach : Judges
+    (o (("minItems", n 9223372036854775807) ∷ ("minLength", n 9223372036854775807) ∷ ("minProperties", n 9223372036854775807) ∷ []))
+    (n 0 ∷ n 9223372036854775807 ∷ null ∷ boolean true ∷ [])
+    (l [] ∷ l (null ∷ null ∷ []) ∷ t "" ∷ t "abc" ∷ o [] ∷ says "a" null ∷ [])
+lengths_out_of_reach = judges 1 _ _ _ (λ V. (refl, refl))
+
+-- characters are code points: one of two, three or four bytes is one, also past U+FFFF, and a combining mark is one more
+text_at_least : Judges
+    (says "minLength" (n 2))
+    (t "ab" ∷ text (acute ++ acute) ∷ text marked ∷ text (face ++ face) ∷ text (euro ++ codes "a") ∷ t "abc" ∷ n 1 ∷ l [] ∷ o [] ∷ null ∷ boolean false ∷ [])
+    (t "" ∷ t "a" ∷ text acute ∷ text euro ∷ text face ∷ [])
+text_at_least = judges 1 _ _ _ (λ V. (refl, refl))
+
+text_at_most : Judges
+    (says "maxLength" (n 2))
+    (t "" ∷ t "ab" ∷ text (acute ++ acute) ∷ text marked ∷ text (face ++ face) ∷ n 123 ∷ l (t "abc" ∷ t "abc" ∷ t "abc" ∷ []) ∷ says "abc" (t "abc") ∷ null ∷ [])
+    (t "abc" ∷ text (marked ++ codes "a") ∷ text (face ++ (euro ++ acute)) ∷ t "   " ∷ [])
+text_at_most = judges 1 _ _ _ (λ V. (refl, refl))
+
+-- keys, whatever stands under them
+keys_at_least : Judges
+    (says "minProperties" (n 2))
+    (o (("a", null) ∷ ("b", null) ∷ []) ∷ o (("", n 1) ∷ ("a", n 1) ∷ ("b", n 1) ∷ []) ∷ t "a" ∷ l [] ∷ n 0 ∷ null ∷ [])
+    (o [] ∷ says "a" (o (("b", n 1) ∷ ("c", n 1) ∷ [])) ∷ [])
+keys_at_least = judges 1 _ _ _ (λ V. (refl, refl))
+
+keys_at_most : Judges
+    (says "maxProperties" (n 1))
+    (o [] ∷ says "a" (o (("b", n 1) ∷ ("c", n 1) ∷ [])) ∷ says "ab" null ∷ t "ab" ∷ l (n 1 ∷ n 2 ∷ []) ∷ n 2 ∷ boolean true ∷ [])
+    (o (("a", null) ∷ ("b", null) ∷ []) ∷ o (("a", n 1) ∷ ("b", n 1) ∷ ("c", n 1) ∷ []) ∷ [])
+keys_at_most = judges 1 _ _ _ (λ V. (refl, refl))
+
+-- a value that is no count asks nothing, as one that has not its shape
+length_below_none : Judges (o (("maxItems", integer (negsuc 0)) ∷ ("maxLength", integer (negsuc 0)) ∷ ("maxProperties", t "0") ∷ [])) (l (n 1 ∷ []) ∷ t "a" ∷ says "a" null ∷ []) []
+length_below_none = judges 1 _ _ _ (λ V. (refl, refl))
+
+-- both limits, where none is left between them
+no_length : Judges (o (("maxLength", n 1) ∷ ("minLength", n 2) ∷ [])) (n 0 ∷ l [] ∷ []) (t "" ∷ t "a" ∷ t "ab" ∷ [])
+no_length = judges 1 _ _ _ (λ V. (refl, refl))
+
+-- the limit is of the object that has it: `allOf` and `not` ask the same document
+length_elsewhere : Judges
+    (o (("allOf", l (says "maxLength" (n 2) ∷ [])) ∷ ("not", says "minLength" (n 2)) ∷ []))
+    (t "" ∷ t "a" ∷ [])
+    (t "ab" ∷ t "abc" ∷ n 1 ∷ [])
+length_elsewhere = judges 2 _ _ _ (λ V. (refl, refl))
+
 all_of : Judges (says "allOf" (l (typed "integer" ∷ says "minimum" (n 3) ∷ []))) (n 3 ∷ []) (n 2 ∷ t "x" ∷ [])
 all_of = judges 2 _ _ _ (λ V. (refl, refl))
 

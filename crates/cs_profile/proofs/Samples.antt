@@ -1,5 +1,5 @@
 -- What the definitions say of single keywords, names, values, places and loops, by computation.
-use Rattle.std.proofs.Common.{◌≡◌, ℕ, negsuc, ◌<◌, Bool, ◌&&◌, true, false, List, [], ◌∷◌, inl, inr, map, length, Option, Some, None, option_map, Vec, Global, String as Text, string_bytes, bytes_eq, codes, refl, sym, subst, if◌then◌else◌, arith}
+use Rattle.std.proofs.Common.{◌≡◌, ℕ, negsuc, ◌<◌, Bool, not, ◌&&◌, true, false, List, [], ◌∷◌, inl, inr, map, length, Option, Some, None, option_map, Vec, Global, String as Text, string_bytes, bytes_eq, codes, refl, sym, subst, if◌then◌else◌, arith}
 use Rattle.std.specs.Fmt.{digits}
 use Rattle.std.specs.Prelude.{replicate}
 use Rattle.std.specs.Option.{option_map_or}
@@ -7,11 +7,13 @@ use Rattle.std.specs.List.{list_all, list_any, filter, IsDistinct}
 use Rattle.cs_document.specs.Document.{Document, null, boolean, integer, text, list, under}
 use Rattle.cs_document.specs.View.{doc_view, list_view}
 use Rattle.cs_document.proofs.SampleDocuments.{number as n, string as t, array as l, named_map as o}
-use Rattle.cs_profile.specs.Keywords.{all_keywords, slot_keywords, keywords, kinds, reference_start, text_after}
+use Rattle.cs_profile.specs.Keywords.{all_keywords, slot_keywords, keywords, is_in, kinds, reference_start, text_after}
 use Rattle.cs_profile.specs.declared.keyword.Keyword.{Keyword}
 use Rattle.cs_profile.specs.declared.keyword.Keyword.TheVariants as keyword
+use Rattle.cs_profile.specs.declared.keyword.Vocabulary.{Vocabulary}
+use Rattle.cs_profile.specs.declared.keyword.Vocabulary.TheVariants as vocabulary
 use Rattle.cs_profile.specs.Keywords as schema
-use Rattle.cs_profile.specs.Shapes.{kept, left_out, left_out_if_empty, keeping, form_of, stands, form_at, is_name_code, is_name, has_form, is_kept, by_form}
+use Rattle.cs_profile.specs.Shapes.{kept, left_out, left_out_if_empty, keeping, form_of, stands, form_at, taken_at, is_name_code, is_name, has_form, is_kept, by_form}
 use Rattle.cs_profile.specs.declared.keyword.Form.{Form}
 use Rattle.cs_profile.specs.declared.keyword.Form.TheVariants as form
 use Rattle.cs_profile.specs.Constraint.{nothing, assertion_at}
@@ -39,15 +41,37 @@ of_core : named ("$schema" ∷ "$defs" ∷ "$ref" ∷ "allOf" ∷ "anyOf" ∷ "n
     ∷ Some keyword.Properties ∷ Some keyword.AdditionalProperties ∷ Some keyword.Comment ∷ []
 of_core = refl
 
-of_validation : named ("type" ∷ "enum" ∷ "const" ∷ "maximum" ∷ "exclusiveMaximum" ∷ "minimum" ∷ "exclusiveMinimum" ∷ "minItems" ∷ "required" ∷ "title" ∷ "description" ∷ [])
-    ≡ Some keyword.Type ∷ Some keyword.Enum ∷ Some keyword.Const ∷ Some keyword.Maximum ∷ Some keyword.ExclusiveMaximum ∷ Some keyword.Minimum ∷ Some keyword.ExclusiveMinimum ∷ Some keyword.MinItems
-    ∷ Some keyword.Required ∷ Some keyword.Title ∷ Some keyword.Description ∷ []
+of_validation : named (
+    "type" ∷ "enum" ∷ "const" ∷ "maximum" ∷ "exclusiveMaximum" ∷ "minimum" ∷ "exclusiveMinimum" ∷ "maxLength" ∷ "minLength" ∷ "maxItems" ∷ "minItems" ∷ "maxProperties" ∷ "minProperties" ∷ "required" ∷ "title" ∷ "description" ∷ [])
+    ≡ Some keyword.Type ∷ Some keyword.Enum ∷ Some keyword.Const ∷ Some keyword.Maximum ∷ Some keyword.ExclusiveMaximum ∷ Some keyword.Minimum ∷ Some keyword.ExclusiveMinimum ∷ Some keyword.MaxLength ∷ Some keyword.MinLength
+    ∷ Some keyword.MaxItems ∷ Some keyword.MinItems ∷ Some keyword.MaxProperties ∷ Some keyword.MinProperties ∷ Some keyword.Required ∷ Some keyword.Title ∷ Some keyword.Description ∷ []
 of_validation = refl
 
 -- keywords of the standard that are none of the profile, and names that are almost keywords
-left_outside : named ("$id" ∷ "$anchor" ∷ "oneOf" ∷ "maxItems" ∷ "pattern" ∷ "default" ∷ "Type" ∷ "types" ∷ "typ" ∷ "ref" ∷ "" ∷ [])
-    ≡ None ∷ None ∷ None ∷ None ∷ None ∷ None ∷ None ∷ None ∷ None ∷ None ∷ None ∷ []
+left_outside : named ("$id" ∷ "$anchor" ∷ "oneOf" ∷ "maxContains" ∷ "pattern" ∷ "default" ∷ "Type" ∷ "types" ∷ "typ" ∷ "ref" ∷ "maxitems" ∷ "MinLength" ∷ "" ∷ [])
+    ≡ None ∷ None ∷ None ∷ None ∷ None ∷ None ∷ None ∷ None ∷ None ∷ None ∷ None ∷ None ∷ None ∷ []
 left_outside = refl
+
+-- ---- the keywords of each vocabulary
+
+in_wide_alone : filter (λ w. not (is_in vocabulary.Default w)) all_keywords ≡ keyword.MaxItems ∷ keyword.MaxLength ∷ keyword.MaxProperties ∷ keyword.MinLength ∷ keyword.MinProperties ∷ []
+in_wide_alone = refl
+
+all_in_wide : list_all (is_in vocabulary.Wide) all_keywords ≡ true
+all_in_wide = refl
+
+-- in the root and below it, beside `$defs`, which is in the root alone, and a name that no vocabulary has
+abbrev taken : Vocabulary → Bool → List (Option Form)
+taken v root = map (λ k. taken_at v root (codes k)) ("maxItems" ∷ "maxLength" ∷ "maxProperties" ∷ "minItems" ∷ "minLength" ∷ "minProperties" ∷ "minimum" ∷ "$defs" ∷ "pattern" ∷ [])
+
+taken_by_default : map (taken vocabulary.Default) (true ∷ false ∷ [])
+    ≡ (None ∷ None ∷ None ∷ Some form.Count ∷ None ∷ None ∷ Some form.Integer ∷ Some form.NamedSchemas ∷ None ∷ []) ∷ (None ∷ None ∷ None ∷ Some form.Count ∷ None ∷ None ∷ Some form.Integer ∷ None ∷ None ∷ []) ∷ []
+taken_by_default = refl
+
+taken_by_wide : map (taken vocabulary.Wide) (true ∷ false ∷ [])
+    ≡ (Some form.Count ∷ Some form.Count ∷ Some form.Count ∷ Some form.Count ∷ Some form.Count ∷ Some form.Count ∷ Some form.Integer ∷ Some form.NamedSchemas ∷ None ∷ [])
+    ∷ (Some form.Count ∷ Some form.Count ∷ Some form.Count ∷ Some form.Count ∷ Some form.Count ∷ Some form.Count ∷ Some form.Integer ∷ None ∷ None ∷ []) ∷ []
+taken_by_wide = refl
 
 by_kind : map (λ k. under (codes k) kinds) ("null" ∷ "boolean" ∷ "object" ∷ "array" ∷ "number" ∷ "string" ∷ "integer" ∷ "int" ∷ "Null" ∷ "" ∷ [])
     ≡ Some schema.Null ∷ Some schema.Boolean ∷ Some schema.Object ∷ Some schema.Array ∷ Some schema.Number ∷ Some schema.String ∷ Some schema.Integer ∷ None ∷ None ∷ None ∷ []
@@ -69,9 +93,9 @@ of_root_alone : forms false ("$schema" ∷ "$defs" ∷ []) ≡ None ∷ None ∷
 of_root_alone = refl
 
 of_each : (root : Bool) → forms root (
-    "$ref" ∷ "type" ∷ "const" ∷ "enum" ∷ "minimum" ∷ "maximum" ∷ "exclusiveMinimum" ∷ "exclusiveMaximum" ∷ "minItems" ∷ "required" ∷ "properties" ∷ "additionalProperties" ∷ "prefixItems" ∷ "items"
+    "$ref" ∷ "type" ∷ "const" ∷ "enum" ∷ "minimum" ∷ "maximum" ∷ "exclusiveMinimum" ∷ "exclusiveMaximum" ∷ "maxItems" ∷ "maxLength" ∷ "maxProperties" ∷ "minItems" ∷ "minLength" ∷ "minProperties" ∷ "required" ∷ "properties" ∷ "additionalProperties" ∷ "prefixItems" ∷ "items"
     ∷ "allOf" ∷ "anyOf" ∷ "not" ∷ "title" ∷ "description" ∷ "$comment" ∷ [])
-    ≡ Some form.Reference ∷ Some form.Kind ∷ Some form.Anything ∷ Some form.Array ∷ Some form.Integer ∷ Some form.Integer ∷ Some form.Integer ∷ Some form.Integer ∷ Some form.Count ∷ Some form.Texts ∷ Some form.NamedSchemas
+    ≡ Some form.Reference ∷ Some form.Kind ∷ Some form.Anything ∷ Some form.Array ∷ Some form.Integer ∷ Some form.Integer ∷ Some form.Integer ∷ Some form.Integer ∷ Some form.Count ∷ Some form.Count ∷ Some form.Count ∷ Some form.Count ∷ Some form.Count ∷ Some form.Count ∷ Some form.Texts ∷ Some form.NamedSchemas
     ∷ Some form.Schema ∷ Some form.Schemas ∷ Some form.Schema ∷ Some form.Schemas ∷ Some form.Schemas ∷ Some form.Schema ∷ Some form.Text ∷ Some form.Text ∷ Some form.Text ∷ []
 of_each true = refl
 of_each false = refl
@@ -304,8 +328,9 @@ not_least h = let last = h.1 in cc
 
 -- ---- values without their keyword's shape, which assert nothing
 
-unshaped : map (λ (e : String × Document). assertion_at (boolean true) [] (codes e.0, e.1)) (("$ref", n 1) ∷ ("type", n 1) ∷ ("type", t "any") ∷ ("enum", n 1) ∷ ("minimum", t "1") ∷ ("maximum", null) ∷ ("exclusiveMinimum", l []) ∷ ("exclusiveMaximum", o []) ∷ ("minItems", integer (negsuc 0)) ∷ ("minItems", t "1") ∷ ("required", t "a") ∷ ("properties", l []) ∷ ("prefixItems", o []) ∷ ("allOf", o []) ∷ ("anyOf", boolean true) ∷ [])
-    ≡ replicate 15 nothing
+unshaped : map (λ (e : String × Document). assertion_at (boolean true) [] (codes e.0, e.1)) (("$ref", n 1) ∷ ("type", n 1) ∷ ("type", t "any") ∷ ("enum", n 1) ∷ ("minimum", t "1") ∷ ("maximum", null) ∷ ("exclusiveMinimum", l []) ∷ ("exclusiveMaximum", o []) ∷ ("minItems", integer (negsuc 0)) ∷ ("minItems", t "1") ∷ ("maxItems", integer (negsuc 0)) ∷ ("maxItems", t "1") ∷ ("maxLength", integer (negsuc 9223372036854775807)) ∷ ("maxLength", null) ∷ ("maxProperties", integer (negsuc 0)) ∷ ("maxProperties", l [])
+    ∷ ("minLength", integer (negsuc 1)) ∷ ("minLength", boolean true) ∷ ("minProperties", integer (negsuc 0)) ∷ ("minProperties", o []) ∷ ("required", t "a") ∷ ("properties", l []) ∷ ("prefixItems", o []) ∷ ("allOf", o []) ∷ ("anyOf", boolean true) ∷ [])
+    ≡ replicate 25 nothing
 unshaped = refl
 
 -- ---- the keywords of an object, each under its name
@@ -314,9 +339,11 @@ keep_slots : filter (λ w. stands false w && is_kept (keeping (form_of w)) null)
 keep_slots = refl
 
 slots : (k : Keywords-F Document (List Slot)) → map (λ name. under (codes name) (keyword_slots k))
-    ("type" ∷ "const" ∷ "enum" ∷ "minimum" ∷ "maximum" ∷ "exclusiveMinimum" ∷ "exclusiveMaximum" ∷ "minItems" ∷ "required" ∷ "properties" ∷ "additionalProperties" ∷ "items" ∷ "not" ∷ "prefixItems" ∷ "allOf" ∷ "anyOf" ∷ "$ref" ∷ [])
+    ("type" ∷ "const" ∷ "enum" ∷ "minimum" ∷ "maximum" ∷ "exclusiveMinimum" ∷ "exclusiveMaximum" ∷ "maxItems" ∷ "maxLength" ∷ "maxProperties" ∷ "minItems" ∷ "minLength" ∷ "minProperties" ∷ "required" ∷ "properties" ∷ "additionalProperties" ∷ "items" ∷ "not" ∷ "prefixItems" ∷ "allOf" ∷ "anyOf" ∷ "$ref" ∷ [])
     ≡ Some (option_map (λ j. text (kind_name j)) k.kind) ∷ Some (option_map doc_view k.equal) ∷ Some (option_map (λ v. list (list_view v.items)) k.one_of)
-    ∷ Some (option_map integer k.minimum) ∷ Some (option_map integer k.maximum) ∷ Some (option_map integer k.above) ∷ Some (option_map integer k.below) ∷ Some (option_map integer k.min_items)
+    ∷ Some (option_map integer k.minimum) ∷ Some (option_map integer k.maximum) ∷ Some (option_map integer k.above) ∷ Some (option_map integer k.below)
+    ∷ Some (option_map integer k.max_items) ∷ Some (option_map integer k.max_length) ∷ Some (option_map integer k.max_properties)
+    ∷ Some (option_map integer k.min_items) ∷ Some (option_map integer k.min_length) ∷ Some (option_map integer k.min_properties)
     ∷ Some (unless_no_list (map text_document k.required.items)) ∷ Some (unless_no_map k.properties.entries) ∷ Some k.additional ∷ Some k.rest ∷ Some k.negated
     ∷ Some (unless_no_list k.prefix.items) ∷ Some (unless_no_list k.all_of.items) ∷ Some (unless_no_list k.any_of.items) ∷ Some (option_map reference_document k.reference) ∷ []
 slots k = refl

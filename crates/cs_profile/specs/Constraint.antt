@@ -4,6 +4,7 @@ use Rattle.std.specs.Prelude.{ℕ, ℤ, pos, max, List, [], ◌∷◌, map, leng
 use Rattle.std.specs.Option.{option_map_or}
 use Rattle.std.specs.Str.{bytes_eq}
 use Rattle.cs_document.specs.Document.{Document, boolean, integer, text, list, object, Entry, elements, entries, under}
+use Rattle.cs_document.specs.Sizes.{Counted, Characters, Elements, Keys}
 use Rattle.cs_profile.specs.Keywords.{keywords, Kind, kinds, reference_start, text_after, elements_of, listed_under, defined}
 use Rattle.cs_profile.specs.declared.keyword.Keyword.{Keyword}
 use Rattle.cs_profile.specs.declared.keyword.Keyword.TheVariants as keyword
@@ -25,7 +26,8 @@ pub data Assertion (H I : Type 0) : Type 0 where
   at_other_keys : List (List ℕ) → I → Assertion H I
   in_front : List I → Assertion H I
   behind : ℕ → I → Assertion H I
-  at_least_long : ℕ → Assertion H I
+  at_least_long : Counted → ℕ → Assertion H I
+  at_most_long : Counted → ℕ → Assertion H I
   valid_by_all : List H → Assertion H I
   valid_by_any : List H → Assertion H I
   not_valid_by : H → Assertion H I
@@ -92,7 +94,12 @@ module _ (R : Document) (beside : List (Entry Document)) where
   assertion keyword.AdditionalProperties s = at_other_keys (map (λ e. e.0) (listed_under (codes "properties") beside)) s
   assertion keyword.PrefixItems v = by_list in_front v
   assertion keyword.Items s = behind (places_taken beside) s
-  assertion keyword.MinItems v = by_count at_least_long v
+  assertion keyword.MinItems v = by_count (at_least_long Elements) v
+  assertion keyword.MaxItems v = by_count (at_most_long Elements) v
+  assertion keyword.MinLength v = by_count (at_least_long Characters) v
+  assertion keyword.MaxLength v = by_count (at_most_long Characters) v
+  assertion keyword.MinProperties v = by_count (at_least_long Keys) v
+  assertion keyword.MaxProperties v = by_count (at_most_long Keys) v
   assertion keyword.AllOf v = by_list valid_by_all v
   assertion keyword.AnyOf v = by_list valid_by_any v
   assertion keyword.Not s = not_valid_by s

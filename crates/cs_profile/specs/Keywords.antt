@@ -1,10 +1,12 @@
 -- The keywords of a schema (JSON Schema Core 2020-12, sections 8 and 10; Validation 2020-12, sections 6 and 9).
-use Rattle.std.specs.Prelude.{ℕ, List, [], ◌∷◌, map, if◌then◌else◌, ◌==◌, Option, Some, None, codes}
+use Rattle.std.specs.Prelude.{ℕ, List, [], ◌∷◌, map, Bool, true, false, if◌then◌else◌, ◌==◌, Option, Some, None, codes}
 use Rattle.std.specs.Str.{bytes_eq}
 use Rattle.std.specs.List.{flat_map}
 use Rattle.cs_document.specs.Document.{Document, list, object, Entry, elements, entries, under}
 use Rattle.cs_profile.specs.declared.keyword.Keyword.{Keyword}
 use Rattle.cs_profile.specs.declared.keyword.Keyword.TheVariants as keyword
+use Rattle.cs_profile.specs.declared.keyword.Vocabulary.{Vocabulary}
+use Rattle.cs_profile.specs.declared.keyword.Vocabulary.TheVariants as vocabulary
 
 -- their names
 abbrev pub name_of : Keyword → List ℕ
@@ -21,8 +23,13 @@ name_of keyword.Enum = codes "enum"
 name_of keyword.ExclusiveMaximum = codes "exclusiveMaximum"
 name_of keyword.ExclusiveMinimum = codes "exclusiveMinimum"
 name_of keyword.Items = codes "items"
+name_of keyword.MaxItems = codes "maxItems"
+name_of keyword.MaxLength = codes "maxLength"
+name_of keyword.MaxProperties = codes "maxProperties"
 name_of keyword.Maximum = codes "maximum"
 name_of keyword.MinItems = codes "minItems"
+name_of keyword.MinLength = codes "minLength"
+name_of keyword.MinProperties = codes "minProperties"
 name_of keyword.Minimum = codes "minimum"
 name_of keyword.Not = codes "not"
 name_of keyword.PrefixItems = codes "prefixItems"
@@ -35,18 +42,55 @@ name_of keyword.Type = codes "type"
 abbrev pub all_keywords : List Keyword
 all_keywords =
     keyword.Comment ∷ keyword.Defs ∷ keyword.Ref ∷ keyword.Schema ∷ keyword.AdditionalProperties ∷ keyword.AllOf ∷ keyword.AnyOf ∷ keyword.Const ∷ keyword.Description
-    ∷ keyword.Enum ∷ keyword.ExclusiveMaximum ∷ keyword.ExclusiveMinimum ∷ keyword.Items ∷ keyword.Maximum ∷ keyword.MinItems ∷ keyword.Minimum ∷ keyword.Not
-    ∷ keyword.PrefixItems ∷ keyword.Properties ∷ keyword.Required ∷ keyword.Title ∷ keyword.Type ∷ []
+    ∷ keyword.Enum ∷ keyword.ExclusiveMaximum ∷ keyword.ExclusiveMinimum ∷ keyword.Items ∷ keyword.MaxItems ∷ keyword.MaxLength ∷ keyword.MaxProperties
+    ∷ keyword.Maximum ∷ keyword.MinItems ∷ keyword.MinLength ∷ keyword.MinProperties ∷ keyword.Minimum ∷ keyword.Not ∷ keyword.PrefixItems ∷ keyword.Properties
+    ∷ keyword.Required ∷ keyword.Title ∷ keyword.Type ∷ []
 
 -- those that an object below the root keeps when it is trimmed
 abbrev pub slot_keywords : List Keyword
 slot_keywords =
     keyword.Ref ∷ keyword.AdditionalProperties ∷ keyword.AllOf ∷ keyword.AnyOf ∷ keyword.Const ∷ keyword.Enum ∷ keyword.ExclusiveMaximum ∷ keyword.ExclusiveMinimum
-    ∷ keyword.Items ∷ keyword.Maximum ∷ keyword.MinItems ∷ keyword.Minimum ∷ keyword.Not ∷ keyword.PrefixItems ∷ keyword.Properties ∷ keyword.Required ∷ keyword.Type ∷ []
+    ∷ keyword.Items ∷ keyword.MaxItems ∷ keyword.MaxLength ∷ keyword.MaxProperties ∷ keyword.Maximum ∷ keyword.MinItems ∷ keyword.MinLength ∷ keyword.MinProperties
+    ∷ keyword.Minimum ∷ keyword.Not ∷ keyword.PrefixItems ∷ keyword.Properties ∷ keyword.Required ∷ keyword.Type ∷ []
 
 -- the keywords by their names
 abbrev pub keywords : List (Entry Keyword)
 keywords = map (λ w. (name_of w, w)) all_keywords
+
+abbrev pub is_wide : Vocabulary → Bool
+is_wide vocabulary.Default = false
+is_wide vocabulary.Wide = true
+
+-- whether a keyword is one of those that are taken (Core, section 8.1.2): the limits of how long texts, lists and maps are, but for
+-- `minItems`, are in the wide vocabulary alone (own rule)
+abbrev pub is_in : Vocabulary → Keyword → Bool
+is_in taken keyword.MaxItems = is_wide taken
+is_in taken keyword.MaxLength = is_wide taken
+is_in taken keyword.MaxProperties = is_wide taken
+is_in taken keyword.MinLength = is_wide taken
+is_in taken keyword.MinProperties = is_wide taken
+is_in taken keyword.Comment = true
+is_in taken keyword.Defs = true
+is_in taken keyword.Ref = true
+is_in taken keyword.Schema = true
+is_in taken keyword.AdditionalProperties = true
+is_in taken keyword.AllOf = true
+is_in taken keyword.AnyOf = true
+is_in taken keyword.Const = true
+is_in taken keyword.Description = true
+is_in taken keyword.Enum = true
+is_in taken keyword.ExclusiveMaximum = true
+is_in taken keyword.ExclusiveMinimum = true
+is_in taken keyword.Items = true
+is_in taken keyword.Maximum = true
+is_in taken keyword.MinItems = true
+is_in taken keyword.Minimum = true
+is_in taken keyword.Not = true
+is_in taken keyword.PrefixItems = true
+is_in taken keyword.Properties = true
+is_in taken keyword.Required = true
+is_in taken keyword.Title = true
+is_in taken keyword.Type = true
 
 -- the kinds that `type` names (Validation, section 6.1.1)
 pub data Kind : Type 0 where

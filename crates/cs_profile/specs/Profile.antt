@@ -1,10 +1,11 @@
--- Which documents are schemas of the profile, and the first fault of one that is none (own rule).
+-- Which documents are schemas of the profile, by the keywords that are taken, and the first fault of one that is none (own rule).
 use Rattle.std.specs.Prelude.{◌≡◌, ℕ, suc, Bool, true, false, List, [], ◌∷◌, ◌++◌, Option, Some, None, is_some, codes, if◌then◌else◌}
 use Rattle.std.specs.Str.{bytes_eq}
 use Rattle.cs_document.specs.Document.{Document, null, boolean, integer, text, list, object, Documents, no_documents, document, Members, no_members, member}
 use Rattle.cs_profile.specs.Keywords.{reference_start, text_after, defined}
-use Rattle.cs_profile.specs.Shapes.{form_at, has_form, BySchemas, by_form}
+use Rattle.cs_profile.specs.Shapes.{form_at, taken_at, has_form, BySchemas, by_form}
 use Rattle.cs_profile.specs.declared.keyword.Form.{Form}
+use Rattle.cs_profile.specs.declared.keyword.Vocabulary.{Vocabulary}
 use Rattle.cs_profile.specs.Places.{at_key, at_index}
 use Rattle.cs_profile.specs.Loops.{NoLoop}
 
@@ -71,7 +72,7 @@ abbrev pub first : {A B : Type 0} → (A → Option B) → List A → Option B
 first f [] = None
 first f (x ∷ xs) = or_else (f x) (first f xs)
 
--- the fault of what the walk meets: a keyword that is none, or a value without its shape
+-- the fault of what the walk meets: a keyword that is none of those that are taken, or a value without its shape
 abbrev pub shape_fault : List ℕ → List ℕ → Bool → Option Fault
 shape_fault place name ok = if ok then None else Some (misshapen place name)
 
@@ -83,9 +84,9 @@ abbrev pub is_truth : Document → Bool
 is_truth (boolean b) = true
 is_truth _ = false
 
-abbrev pub fault_of : Visit → Option Fault
-fault_of (value_at place d) = shape_fault place [] (is_truth d)
-fault_of (keyword_at root place k v) = form_fault place k v (form_at root k)
+abbrev pub fault_of : Vocabulary → Visit → Option Fault
+fault_of taken (value_at place d) = shape_fault place [] (is_truth d)
+fault_of taken (keyword_at root place k v) = form_fault place k v (taken_at taken root k)
 
 -- a `$ref` to a name that is not defined
 abbrev pub unless_defined : (List ℕ → Bool) → List ℕ → Option (List ℕ) → Option Fault
@@ -101,15 +102,15 @@ undefined_at is_defined (value_at place d) = None
 undefined_at is_defined (keyword_at root place k v) = if bytes_eq k (codes "$ref") then reference_fault is_defined place v else None
 
 -- the first fault of a keyword or a value, and the first `$ref` to a name that is not defined
-abbrev pub walk_fault : Document → Option Fault
-walk_fault R = first fault_of (visits true [] R)
+abbrev pub walk_fault : Vocabulary → Document → Option Fault
+walk_fault taken R = first (fault_of taken) (visits true [] R)
 
 abbrev pub name_fault : Document → Option Fault
 name_fault R = first (undefined_at (λ n. is_some (defined R n))) (visits true [] R)
 
--- a schema of the profile: it has only keywords of the profile, each with its shape; each `$ref` names a
+-- a schema of the profile: it has only keywords that are taken, each with its shape; each `$ref` names a
 -- definition; and no definition reaches itself directly
-pub record IsSchema (R : Document) : Type 0 where
-  pub shaped : walk_fault R ≡ None
+pub record IsSchema (taken : Vocabulary) (R : Document) : Type 0 where
+  pub shaped : walk_fault taken R ≡ None
   pub named : name_fault R ≡ None
   pub no_loop : NoLoop R

@@ -1,4 +1,4 @@
--- Why a document is refused, by the first fault (own rule).
+-- Why a document is refused, by the keywords that are taken and the first fault (own rule).
 use Rattle.std.specs.Prelude.{◌≡◌, ℕ, List, [], ◌∷◌, map, Some, None, string_bytes}
 use Rattle.std.specs.Cmp.Lexicographic.{slice_cmp}
 use Rattle.std.specs.Ordering.{nat_cmp}
@@ -9,6 +9,7 @@ use Rattle.cs_document.specs.Document.{Document}
 use Rattle.cs_graph.specs.Chains.{IsClosed}
 use Rattle.cs_profile.specs.Loops.{RefersDirectly}
 use Rattle.cs_profile.specs.Profile.{unknown, misshapen, undefined, walk_fault, name_fault}
+use Rattle.cs_profile.specs.declared.keyword.Vocabulary.{Vocabulary}
 use Rattle.cs_profile.specs.declared.fault.SchemaFault.{SchemaFault}
 use Rattle.cs_profile.specs.declared.fault.SchemaFault.TheVariants as fault
 
@@ -28,8 +29,8 @@ pub record IsLeastLoop (d : Document) (names : List (List ℕ)) : Type 0 where
   pub least : LeastFirst names
 
 -- there is no fault of a keyword, a value or a name, and the names are a loop
-pub record IsLoopOf (d : Document) (names : List (List ℕ)) : Type 0 where
-  pub shaped : walk_fault d ≡ None
+pub record IsLoopOf (taken : Vocabulary) (d : Document) (names : List (List ℕ)) : Type 0 where
+  pub shaped : walk_fault taken d ≡ None
   pub named : name_fault d ≡ None
   pub told : IsLeastLoop d names
 
@@ -43,9 +44,9 @@ IsLoopRefusal (fault.Reference p n) d = ⊥
 
 -- the refusal tells the first fault: of a keyword or a value, then of a name, then a loop; memory may run
 -- out at any time
-abbrev pub IsRefusal : SchemaFault → Document → Type 0
-IsRefusal fault.OutOfMemory d = Unit {0}
-IsRefusal (fault.Keyword p n) d = walk_fault d ≡ Some (unknown (string_bytes p) (string_bytes n))
-IsRefusal (fault.Shape p n) d = walk_fault d ≡ Some (misshapen (string_bytes p) (string_bytes n))
-IsRefusal (fault.Reference p n) d = (walk_fault d ≡ None) × (name_fault d ≡ Some (undefined (string_bytes p) (string_bytes n)))
-IsRefusal (fault.Loop ns) d = IsLoopOf d (map string_bytes ns.items)
+abbrev pub IsRefusal : Vocabulary → SchemaFault → Document → Type 0
+IsRefusal taken fault.OutOfMemory d = Unit {0}
+IsRefusal taken (fault.Keyword p n) d = walk_fault taken d ≡ Some (unknown (string_bytes p) (string_bytes n))
+IsRefusal taken (fault.Shape p n) d = walk_fault taken d ≡ Some (misshapen (string_bytes p) (string_bytes n))
+IsRefusal taken (fault.Reference p n) d = (walk_fault taken d ≡ None) × (name_fault d ≡ Some (undefined (string_bytes p) (string_bytes n)))
+IsRefusal taken (fault.Loop ns) d = IsLoopOf taken d (map string_bytes ns.items)

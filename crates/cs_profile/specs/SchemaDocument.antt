@@ -16,6 +16,7 @@ use Rattle.cs_profile.specs.declared.schema.KeywordValue.{KeywordValue}
 use Rattle.cs_profile.specs.declared.schema.KeywordValue.TheVariants as value
 use Rattle.cs_profile.specs.declared.keyword.Keyword.{Keyword}
 use Rattle.cs_profile.specs.declared.keyword.Keyword.TheVariants as keyword
+use Rattle.cs_profile.specs.declared.keyword.Vocabulary.TheVariants as vocabulary
 use Rattle.cs_profile.specs.declared.keyword.Form.{Form}
 use Rattle.cs_profile.specs.declared.keyword.Form.TheVariants as form
 use Rattle.cs_profile.specs.declared.schema.JsonKind.{JsonKind}
@@ -70,8 +71,13 @@ value_of k keyword.Enum = option_map (λ v. list (list_view v.items)) k.one_of
 value_of k keyword.ExclusiveMaximum = option_map integer k.below
 value_of k keyword.ExclusiveMinimum = option_map integer k.above
 value_of k keyword.Items = k.rest
+value_of k keyword.MaxItems = option_map integer k.max_items
+value_of k keyword.MaxLength = option_map integer k.max_length
+value_of k keyword.MaxProperties = option_map integer k.max_properties
 value_of k keyword.Maximum = option_map integer k.maximum
 value_of k keyword.MinItems = option_map integer k.min_items
+value_of k keyword.MinLength = option_map integer k.min_length
+value_of k keyword.MinProperties = option_map integer k.min_properties
 value_of k keyword.Minimum = option_map integer k.minimum
 value_of k keyword.Not = k.negated
 value_of k keyword.PrefixItems = unless_no_list k.prefix.items
@@ -133,14 +139,14 @@ schema_value root ds = record { root = root; definitions = ds }
 abbrev pub document_of : SchemaValue → Document
 document_of s = with_dialect (with_definitions (unless_no_map (definitions_view s.definitions)) (schema_view s.root))
 
--- a schema document: what it stands for is a schema of the profile, and a truth value has no definitions
+-- a schema document: what it stands for is a schema with all keywords, and a truth value has no definitions
 pub record IsWhole (v : SchemaValue) : Type 0 where
-  pub profile : IsSchema (document_of v)
+  pub profile : IsSchema vocabulary.Wide (document_of v)
   pub bare : (b : Bool) → schema_view v.root ≡ boolean b → v.definitions ≡ []
 
 -- a schema document, but for loops
 pub record IsWellFormed (v : SchemaValue) : Type 0 where
-  pub shaped : walk_fault (document_of v) ≡ None
+  pub shaped : walk_fault vocabulary.Wide (document_of v) ≡ None
   pub named : name_fault (document_of v) ≡ None
   pub bare : (b : Bool) → schema_view v.root ≡ boolean b → v.definitions ≡ []
 

@@ -3,9 +3,10 @@ use Rattle.std.specs.Prelude.{ℕ, pos, List, [], ◌∷◌, ◌++◌, Bool, tru
 use Rattle.std.specs.Str.{bytes_eq}
 use Rattle.std.specs.List.{list_any, list_all}
 use Rattle.cs_document.specs.Document.{Document, integer, text, list, object, Documents, no_documents, document, no_members, under}
-use Rattle.cs_profile.specs.Keywords.{keywords, kinds, reference_start, text_after}
+use Rattle.cs_profile.specs.Keywords.{keywords, is_in, kinds, reference_start, text_after}
 use Rattle.cs_profile.specs.declared.keyword.Keyword.{Keyword}
 use Rattle.cs_profile.specs.declared.keyword.Keyword.TheVariants as keyword
+use Rattle.cs_profile.specs.declared.keyword.Vocabulary.{Vocabulary}
 use Rattle.cs_profile.specs.declared.keyword.Form.{Form}
 use Rattle.cs_profile.specs.declared.keyword.Form.TheVariants as form
 
@@ -21,7 +22,12 @@ form_of keyword.Minimum = form.Integer
 form_of keyword.Maximum = form.Integer
 form_of keyword.ExclusiveMinimum = form.Integer
 form_of keyword.ExclusiveMaximum = form.Integer
+form_of keyword.MaxItems = form.Count
+form_of keyword.MaxLength = form.Count
+form_of keyword.MaxProperties = form.Count
 form_of keyword.MinItems = form.Count
+form_of keyword.MinLength = form.Count
+form_of keyword.MinProperties = form.Count
 form_of keyword.Required = form.Texts
 form_of keyword.Properties = form.NamedSchemas
 form_of keyword.AdditionalProperties = form.Schema
@@ -46,6 +52,13 @@ form_in root w = if stands root w then Some (form_of w) else None
 -- the form of what is under a key, in the root or below it
 abbrev pub form_at : Bool → List ℕ → Option Form
 form_at root k = option_and_then (form_in root) (under k keywords)
+
+-- the same where only the keywords of a vocabulary are taken
+abbrev pub taken_in : Vocabulary → Bool → Keyword → Option Form
+taken_in taken root w = if is_in taken w then form_in root w else None
+
+abbrev pub taken_at : Vocabulary → Bool → List ℕ → Option Form
+taken_at taken root k = option_and_then (taken_in taken root) (under k keywords)
 
 -- what trimming does with a keyword
 pub data Keeping : Type 0 where

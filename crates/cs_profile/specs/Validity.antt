@@ -1,13 +1,14 @@
 -- Which documents a schema validates (JSON Schema Core 2020-12, sections 4.3.2, 7, 8.2.3.1 and 10;
 -- Validation 2020-12, section 6).
-use Rattle.std.specs.Prelude.{◌≡◌, ℤ, List, ◌∷◌, drop, length, Bool, true, false, not, ◌&&◌, ◌||◌, Option, is_some, nat_le, int_le, int_lt}
+use Rattle.std.specs.Prelude.{◌≡◌, ℤ, List, ◌∷◌, drop, Bool, true, false, not, ◌&&◌, ◌||◌, Option, is_some, nat_le, int_le, int_lt}
 use Rattle.std.specs.Option.{option_map_or}
 use Rattle.std.specs.Str.{bytes_eq}
 use Rattle.std.specs.List.{list_all, list_any}
 use Rattle.cs_document.specs.Document.{Document, Entry, under, document_eq}
 use Rattle.cs_document.specs.Opened.{Opened, a_null, a_boolean, an_integer, a_text, a_list, an_object, opened}
+use Rattle.cs_document.specs.Sizes.{size_of}
 use Rattle.cs_profile.specs.Keywords.{Kind, Null, Boolean, Object, Array, Number, String, Integer}
-use Rattle.cs_profile.specs.Constraint.{Assertion, nothing, valid_by, has_kind, equals, is_among, at_least, at_most, above, below, has_keys, at_keys, at_other_keys, in_front, behind, at_least_long, valid_by_all, valid_by_any, not_valid_by, Constraint, always, never, conjunction, constraint_of}
+use Rattle.cs_profile.specs.Constraint.{Assertion, nothing, valid_by, has_kind, equals, is_among, at_least, at_most, above, below, has_keys, at_keys, at_other_keys, in_front, behind, at_least_long, at_most_long, valid_by_all, valid_by_any, not_valid_by, Constraint, always, never, conjunction, constraint_of}
 
 module _ {A : Type 0} where
   -- whether a document has a kind; an integer is a number too
@@ -62,7 +63,8 @@ module _ {A H I : Type 0} (here : H → Bool) (inside : A → I → Bool) where
   holds (at_other_keys ks s) d x = if_object (λ ms. list_all (λ m. list_any (bytes_eq m.0) ks || inside m.1 s) ms) x
   holds (in_front ss) d x = if_array (front_holds ss) x
   holds (behind n s) d x = if_array (λ ys. list_all (λ y. inside y s) (drop n ys)) x
-  holds (at_least_long n) d x = if_array (λ ys. nat_le n (length ys)) x
+  holds (at_least_long c n) d x = if_there (λ k. nat_le n k) (size_of c x)
+  holds (at_most_long c n) d x = if_there (λ k. nat_le k n) (size_of c x)
   holds (valid_by_all ss) d x = list_all here ss
   holds (valid_by_any ss) d x = list_any here ss
   holds (not_valid_by s) d x = not (here s)

@@ -1,7 +1,7 @@
-// The keywords of the profile, with their names and the forms of their values.
+// The keywords of the profile, with their names, the forms of their values, and the sets of them that are taken.
 ghost use Rattle.std.specs.Prelude.{◌≡◌};
 ghost use Rattle.cs_document.specs.Document.{under};
-ghost use Rattle.cs_profile.specs.Keywords.{name_of, keywords};
+ghost use Rattle.cs_profile.specs.Keywords.{name_of, keywords, is_in};
 ghost use Rattle.cs_profile.specs.Shapes.{form_of, stands};
 
 /// The keywords of the profile, by the standard's own words (JSON Schema Core 2020-12, sections 8 and 10;
@@ -34,10 +34,20 @@ pub enum Keyword {
     ExclusiveMinimum,
     /// `items`
     Items,
+    /// `maxItems`
+    MaxItems,
+    /// `maxLength`
+    MaxLength,
+    /// `maxProperties`
+    MaxProperties,
     /// `maximum`
     Maximum,
     /// `minItems`
     MinItems,
+    /// `minLength`
+    MinLength,
+    /// `minProperties`
+    MinProperties,
     /// `minimum`
     Minimum,
     /// `not`
@@ -52,6 +62,15 @@ pub enum Keyword {
     Title,
     /// `type`
     Type,
+}
+
+/// A set of keywords that are taken (JSON Schema Core 2020-12, section 8.1.2).
+#[derive(Clone, Copy)]
+pub enum Vocabulary {
+    /// All but the limits of how long texts, lists and maps are, of which it has `minItems` alone.
+    Default,
+    /// All.
+    Wide,
 }
 
 /// The form of a keyword's value.
@@ -85,7 +104,7 @@ pub enum Form {
 
 impl Keyword {
     /// The keywords in the byte order of their names.
-    pub const ALL: [Keyword; 22] = [
+    pub const ALL: [Keyword; 27] = [
         Keyword::Comment,
         Keyword::Defs,
         Keyword::Ref,
@@ -99,8 +118,13 @@ impl Keyword {
         Keyword::ExclusiveMaximum,
         Keyword::ExclusiveMinimum,
         Keyword::Items,
+        Keyword::MaxItems,
+        Keyword::MaxLength,
+        Keyword::MaxProperties,
         Keyword::Maximum,
         Keyword::MinItems,
+        Keyword::MinLength,
+        Keyword::MinProperties,
         Keyword::Minimum,
         Keyword::Not,
         Keyword::PrefixItems,
@@ -128,8 +152,13 @@ impl Keyword {
             Keyword::ExclusiveMaximum => "exclusiveMaximum",
             Keyword::ExclusiveMinimum => "exclusiveMinimum",
             Keyword::Items => "items",
+            Keyword::MaxItems => "maxItems",
+            Keyword::MaxLength => "maxLength",
+            Keyword::MaxProperties => "maxProperties",
             Keyword::Maximum => "maximum",
             Keyword::MinItems => "minItems",
+            Keyword::MinLength => "minLength",
+            Keyword::MinProperties => "minProperties",
             Keyword::Minimum => "minimum",
             Keyword::Not => "not",
             Keyword::PrefixItems => "prefixItems",
@@ -167,7 +196,12 @@ impl Keyword {
             | Keyword::ExclusiveMinimum
             | Keyword::Maximum
             | Keyword::Minimum => Form::Integer,
-            Keyword::MinItems => Form::Count,
+            Keyword::MaxItems
+            | Keyword::MaxLength
+            | Keyword::MaxProperties
+            | Keyword::MinItems
+            | Keyword::MinLength
+            | Keyword::MinProperties => Form::Count,
             Keyword::Required => Form::Texts,
             Keyword::Comment | Keyword::Description | Keyword::Title => Form::Text,
             Keyword::AdditionalProperties | Keyword::Items | Keyword::Not => Form::Schema,
@@ -182,6 +216,44 @@ impl Keyword {
         match self {
             Keyword::Schema | Keyword::Defs => root,
             _ => true,
+        }
+    }
+
+    /// Whether the keyword is taken where those of the vocabulary are (JSON Schema Core 2020-12, section 8.1.2).
+    pub fn is_in(self, vocabulary: Vocabulary) -> bool
+        ensures { result ≡ is_in vocabulary self }
+    {
+        match self {
+            Keyword::MaxItems
+            | Keyword::MaxLength
+            | Keyword::MaxProperties
+            | Keyword::MinLength
+            | Keyword::MinProperties => match vocabulary {
+                Vocabulary::Default => false,
+                Vocabulary::Wide => true,
+            },
+            Keyword::Comment
+            | Keyword::Defs
+            | Keyword::Ref
+            | Keyword::Schema
+            | Keyword::AdditionalProperties
+            | Keyword::AllOf
+            | Keyword::AnyOf
+            | Keyword::Const
+            | Keyword::Description
+            | Keyword::Enum
+            | Keyword::ExclusiveMaximum
+            | Keyword::ExclusiveMinimum
+            | Keyword::Items
+            | Keyword::Maximum
+            | Keyword::MinItems
+            | Keyword::Minimum
+            | Keyword::Not
+            | Keyword::PrefixItems
+            | Keyword::Properties
+            | Keyword::Required
+            | Keyword::Title
+            | Keyword::Type => true,
         }
     }
 }

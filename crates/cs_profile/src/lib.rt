@@ -9,7 +9,7 @@ mod schema;
 mod schema_doc;
 
 pub use fault::SchemaFault;
-pub use keyword::{Form, Keyword};
+pub use keyword::{Form, Keyword, Vocabulary};
 pub use laws::one_meaning;
 pub use schema::{JsonKind, KeywordValue, Keywords, Schema};
 pub use schema_doc::SchemaDoc;

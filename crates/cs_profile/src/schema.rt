@@ -51,8 +51,18 @@ pub struct Keywords {
     pub above: Option<i64>,
     /// `exclusiveMaximum`
     pub below: Option<i64>,
+    /// `maxItems`
+    pub max_items: Option<i64>,
+    /// `maxLength`
+    pub max_length: Option<i64>,
+    /// `maxProperties`
+    pub max_properties: Option<i64>,
     /// `minItems`
     pub min_items: Option<i64>,
+    /// `minLength`
+    pub min_length: Option<i64>,
+    /// `minProperties`
+    pub min_properties: Option<i64>,
     /// `required`
     pub required: Vec<String>,
     /// `properties`
@@ -84,7 +94,12 @@ impl Drop for Keywords {
             maximum: _,
             above: _,
             below: _,
+            max_items: _,
+            max_length: _,
+            max_properties: _,
             min_items: _,
+            min_length: _,
+            min_properties: _,
             required: _,
             properties: _,
             additional: _,
@@ -149,7 +164,12 @@ impl Keywords {
             maximum: None,
             above: None,
             below: None,
+            max_items: None,
+            max_length: None,
+            max_properties: None,
             min_items: None,
+            min_length: None,
+            min_properties: None,
             required: Vec::new(alloc),
             properties: BTreeMap::new(alloc),
             additional: None,
@@ -177,8 +197,13 @@ impl Keywords {
             Keyword::ExclusiveMaximum => self.below = value.integer(),
             Keyword::ExclusiveMinimum => self.above = value.integer(),
             Keyword::Items => self.rest = value.schema(),
+            Keyword::MaxItems => self.max_items = value.integer(),
+            Keyword::MaxLength => self.max_length = value.integer(),
+            Keyword::MaxProperties => self.max_properties = value.integer(),
             Keyword::Maximum => self.maximum = value.integer(),
             Keyword::MinItems => self.min_items = value.integer(),
+            Keyword::MinLength => self.min_length = value.integer(),
+            Keyword::MinProperties => self.min_properties = value.integer(),
             Keyword::Minimum => self.minimum = value.integer(),
             Keyword::Not => self.negated = value.schema(),
             Keyword::PrefixItems => self.prefix = value.schemas(alloc),

@@ -7,6 +7,7 @@ use Rattle.cs_package.specs.Expression.{Expression, atom, kind, range, integer, 
 use Rattle.cs_package.specs.Inside.{ComparedWith, compared_with, with_nothing, with_text, with_integer, with_range}
 use Rattle.cs_package.specs.View.{expression_of}
 use Rattle.cs_package.specs.declared.shape.Shape.{Shape}
+use Rattle.cs_rules.specs.Alike.{Compared}
 use Rattle.cs_instance.specs.Constraint.{Outline}
 use Rattle.cs_instance.specs.Steps.{test_of}
 use Rattle.cs_question.specs.declared.nodes.Literal.{Literal}
@@ -14,6 +15,10 @@ use Rattle.cs_question.specs.declared.nodes.Node.TheVariants as node
 use Rattle.cs_question.specs.declared.nodes.Nodes.{Nodes}
 use Rattle.cs_question.specs.Nodes.{nodes_on}
 use Rattle.cs_question.specs.Outlines.{agrees, node_verdict, may}
+
+-- marks of integers alone
+abbrev pub integers_alone : List ℤ → Compared
+integers_alone ks = record { texts = []; integers = ks; lengths = [] }
 
 -- whether integers are compared, and texts
 abbrev pub compares_integers : ComparedWith → Bool

@@ -60,7 +60,9 @@ pub(crate) fn above<'a, C: Drop>(links: &'a [Link<C>], link: &Link<C>) -> Option
 pub fn chain_to<C: Drop>(alloc: Global, links: &[Link<C>], place: usize) -> Made<Vec<&Link<C>>> {
     let upward = successors(links.get(place), |link| above(links, *link));
     let mut chain = Vec::new(alloc);
-    chain.extend(upward.take(links.len()))?;
+    for link in upward.take(links.len()) {
+        chain.push(link)?; // `extend` goes on where the room that it asks for first is refused
+    }
     chain.reverse();
     Ok(chain)
 }

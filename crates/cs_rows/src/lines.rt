@@ -2,13 +2,13 @@
 use crate::fakes::{Input, Output};
 use crate::tables::{Row, cell, check};
 use cs_judge::{LinesOutcome, Prepared, prepare, run_lines};
-use cs_tool::{Fault, Rules};
+use cs_tool::{Fault, Rules, Vocabulary};
 use std::alloc::{AllocError, Global};
 use std::io::{ErrorKind, sink};
 use std::test::Fail;
 
 /// The call that judges, its source or its schema, the input, and the answers, or the number of a refusal. A `;` is a newline,
-/// and there is one behind each answer.
+/// and there is one behind each answer. `validate` takes the keywords of the default profile, and `validate_by` all.
 const LINES: &str =
     r##"vet => #P: int & >=1 & <=65535 => 8080;0;[1;65535 => valid;invalid;error 25;valid
 vet => #P: string => "a";"b"; => valid;valid
@@ -17,6 +17,8 @@ vet => #P: int => ; => error 25
 validate => {"type":"integer"} => 1;"a";;1.5; => valid;invalid;error 25;error 26
 validate => {"type":"integer"} => 1 => valid
 validate => [1 => 1;2 => 20
+validate => {"maxLength":2} => "ab";"abc" => 21
+validate_by => {"maxLength":2} => "ab";"abc" => valid;invalid
 agree => #P: [...int] => [];[1,"a"] => valid;invalid
 agree => #Q: int => 1;2 => 13"##;
 
@@ -32,8 +34,11 @@ struct Case<'a> {
 /// The rules of a call for `#P`.
 fn rules_of(alloc: Global, call: &str, text: &str) -> Result<Rules, AllocError> {
     let text = Vec::from_slice(alloc, text.as_bytes())?;
-    if call == "validate" {
-        return Ok(Rules::Schema { schema: text });
+    if let Some(vocabulary) = vocabulary_of(call) {
+        return Ok(Rules::Schema {
+            vocabulary,
+            schema: text,
+        });
     }
     let sources = vec![in alloc; text]?;
     let root = String::from_str(alloc, "#P")?;
@@ -41,6 +46,15 @@ fn rules_of(alloc: Global, call: &str, text: &str) -> Result<Rules, AllocError> 
         "vet" => Rules::Root { sources, root },
         _ => Rules::Both { sources, root },
     })
+}
+
+/// The keywords that a call takes, if it judges by a schema.
+fn vocabulary_of(call: &str) -> Option<Vocabulary> {
+    match call {
+        "validate" => Some(Vocabulary::Default),
+        "validate_by" => Some(Vocabulary::Wide),
+        _ => None,
+    }
 }
 
 /// What the run over that input answers.

@@ -1,12 +1,14 @@
 -- Verdicts by kind, worked by the definitions on samples.
-use Rattle.std.proofs.Common.{◌≡◌, ◌<◌, ℕ, zero, suc, inl, inr, ℤ, pos, negsuc, int_lt, Bool, true, false, not, List, [], ◌∷◌, ◌++◌, Option, Some, None, Equal, Greater, map, refl, ap, ◌∙◌, subst, arith}
+use Rattle.std.proofs.Common.{◌≡◌, ◌<◌, ℕ, zero, suc, inl, inr, ℤ, pos, negsuc, nat_le, nat_lt, int_lt, Bool, true, false, not, List, [], ◌∷◌, ◌++◌, Option, Some, None, Equal, Greater, map, refl, sym, ap, ◌∙◌, subst, arith}
 use Rattle.std.specs.Prelude.{slice_get}
 use Rattle.std.specs.Ordering.{int_cmp}
 use Rattle.cs_document.specs.Document.{null, text, boolean, integer}
 use Rattle.cs_document.specs.Opened.{Opened, a_null, a_boolean, an_integer, a_text, a_list, an_object}
+use Rattle.cs_document.specs.Sizes.{text_length}
 use Rattle.cs_table.specs.Decided.{IsNoneOf}
 use Rattle.cs_rules.specs.Alike.{Compared, AreAlike, IsToldBy, HasMore}
-use Rattle.cs_rules.specs.Classed.{HasClass, HasClassAt, IsPlace, by_place}
+use Rattle.cs_rules.specs.Lengths.{TellsLength, AreLengths}
+use Rattle.cs_rules.specs.Classed.{HasClass, HasClassAt, IsPlace, IsTextPlace, IsReached, by_place}
 use Rattle.cs_rules.specs.Steps.{Step}
 use Rattle.cs_rules.specs.Kinds.{verdict_of, row_of, kind_place, both, either, Decides, decided_by, all_decided, any_decided, AreDecided, IsItem, Foretells}
 use Rattle.cs_rules.specs.Rows.{verdict_at, kind_answer, AreOpen, AreRowsOf}
@@ -210,13 +212,13 @@ out_of_order h = let l : 2 < 0 = h.ascends 0 1 (omega arith) (omega arith) in om
 not_without_rows : ¬ (AreRowsOf step (0 ∷ 1 ∷ []) None)
 not_without_rows l = omega (arith, l)
 
--- ---- scalars that no mark tells apart: the marks are the text a and the integer 5
+-- ---- scalars that no mark tells apart: the marks are the text a, the integer 5 and the lengths 1 and 3
 
 abbrev marks : Compared
-marks = record { texts = (97 ∷ []) ∷ []; integers = pos 5 ∷ [] }
+marks = record { texts = (97 ∷ []) ∷ []; integers = pos 5 ∷ []; lengths = 1 ∷ 3 ∷ [] }
 
 abbrev none : Compared
-none = record { texts = []; integers = [] }
+none = record { texts = []; integers = []; lengths = [] }
 
 null_is_like_null : AreAlike none a_null a_null
 null_is_like_null = tt
@@ -257,11 +259,36 @@ at_the_mark_and_above h = let clash : false ≡ true = h.0.1 in cc
 no_mark_between : AreAlike none (an_integer (pos 4)) (an_integer (pos 6))
 no_mark_between = tt
 
-texts_at_no_mark : AreAlike marks (a_text []) (a_text (98 ∷ []))
-texts_at_no_mark = (refl, tt)
+-- texts of one, two, three and four characters, of which the last has two bytes
+abbrev b : List ℕ
+b = 98 ∷ []
 
-a_text_at_a_mark : ¬ (AreAlike marks (a_text (97 ∷ [])) (a_text (98 ∷ [])))
-a_text_at_a_mark h = let clash : true ≡ false = h.0 in cc
+abbrev bc : List ℕ
+bc = 98 ∷ 99 ∷ []
+
+abbrev bcd : List ℕ
+bcd = 98 ∷ 99 ∷ 100 ∷ []
+
+abbrev bcdé : List ℕ
+bcdé = 98 ∷ 99 ∷ 100 ∷ 195 ∷ 169 ∷ []
+
+between_the_lengths : AreAlike marks (a_text b) (a_text bc)
+between_the_lengths = ((refl, tt), (refl, (refl, tt)))
+
+at_the_greatest_length_and_above : AreAlike marks (a_text bcd) (a_text bcdé)
+at_the_greatest_length_and_above = ((refl, tt), (refl, (refl, tt)))
+
+below_a_length_and_at_it : ¬ (AreAlike marks (a_text bc) (a_text bcd))
+below_a_length_and_at_it h = let clash : false ≡ true = h.1.1.0 in cc
+
+below_the_least_length_and_at_it : ¬ (AreAlike marks (a_text []) (a_text b))
+below_the_least_length_and_at_it h = let clash : false ≡ true = h.1.0 in cc
+
+no_length_between : AreAlike none (a_text []) (a_text bcd)
+no_length_between = (tt, tt)
+
+a_text_at_a_mark : ¬ (AreAlike marks (a_text (97 ∷ [])) (a_text b))
+a_text_at_a_mark h = let clash : true ≡ false = h.0.0 in cc
 
 -- ---- what marks tell: this rule asks for integers below 5
 
@@ -308,12 +335,16 @@ not_told_by_none h =
     let clash : true ≡ false = h (λ r. false) (λ y p. false) (λ y p. false) (integer (pos 4)) (integer (pos 6)) (an_integer (pos 4)) (an_integer (pos 6)) (λ y. null, refl) (λ y. null, refl) tt in cc
 
 more_marks : HasMore none marks
-more_marks = ((97 ∷ []) ∷ [], pos 5 ∷ [], refl, refl)
+more_marks = ((97 ∷ []) ∷ [], pos 5 ∷ [], 1 ∷ 3 ∷ [], refl, refl, refl)
 
 fewer_marks : ¬ (HasMore marks none)
-fewer_marks h = let clash : [] ≡ pos 5 ∷ [] ++ h.1 = h.3 in cc
+fewer_marks h = let clash : [] ≡ pos 5 ∷ [] ++ h.1 = h.4 in cc
 
--- ---- classes: null, false and true; three of integers, below the mark, at it and above it; three of texts
+fewer_lengths : ¬ (HasMore marks (record { texts = marks.texts; integers = marks.integers; lengths = 1 ∷ [] }))
+fewer_lengths h = let clash : 1 ∷ [] ≡ 1 ∷ 3 ∷ [] ++ h.2 = h.5 in cc
+
+-- ---- classes: null, false and true; three of integers, below the mark, at it and above it; of texts one at the mark, and three of others, below the first
+-- length, from it on and from the second on
 
 null_false_true : HasClass marks a_null 0 × HasClass marks (a_boolean false) 1 × HasClass marks (a_boolean true) 2
 null_false_true = (refl, refl, refl)
@@ -340,11 +371,81 @@ at_the_mark_has_not_the_first h = not_between h.0 (omega (arith, h.1)) h.3
         let first : a.0 ≡ 0 = omega (arith, z, a.1) in
         let clash : Equal ≡ Greater = a.2 0 (pos 5) refl ∙ ap (by_place 0) first in cc
 
-text_at_the_mark : HasClass marks (a_text (97 ∷ [])) 7
-text_at_the_mark = (1, refl, inl (0, 97 ∷ [], refl, refl, refl))
+text_at_the_mark : HasClass marks (a_text (97 ∷ [])) 6
+text_at_the_mark = (0, refl, inl refl)
+
+reaches_none : IsReached (1 ∷ 3 ∷ []) 0 0
+reaches_none zero x e = let is : 1 ≡ x = cc in subst (λ y. nat_le y 0 ≡ false) is refl
+reaches_none (suc zero) x e = let is : 3 ≡ x = cc in subst (λ y. nat_le y 0 ≡ false) is refl
+reaches_none (suc (suc k)) x e = let clash : None ≡ Some x = e in cc
+
+reaches_one : (n : ℕ) → nat_le 1 n ≡ true → nat_le 3 n ≡ false → IsReached (1 ∷ 3 ∷ []) n 1
+reaches_one n one three zero x e = let is : 1 ≡ x = cc in subst (λ y. nat_le y n ≡ true) is one
+reaches_one n one three (suc zero) x e = let is : 3 ≡ x = cc in subst (λ y. nat_le y n ≡ false) is three
+reaches_one n one three (suc (suc k)) x e = let clash : None ≡ Some x = e in cc
+
+reaches_both : (n : ℕ) → nat_le 1 n ≡ true → nat_le 3 n ≡ true → IsReached (1 ∷ 3 ∷ []) n 2
+reaches_both n one three zero x e = let is : 1 ≡ x = cc in subst (λ y. nat_le y n ≡ true) is one
+reaches_both n one three (suc zero) x e = let is : 3 ≡ x = cc in subst (λ y. nat_le y n ≡ true) is three
+reaches_both n one three (suc (suc k)) x e = let clash : None ≡ Some x = e in cc
+
+text_below_the_lengths : HasClass marks (a_text []) 7
+text_below_the_lengths = (1, refl, inr (0, refl, (refl, tt), reaches_none))
+
+-- two texts of one class, at the first length and just below the second
+texts_between_the_lengths : HasClass marks (a_text b) 8 × HasClass marks (a_text bc) 8
+texts_between_the_lengths = ((2, refl, inr (1, refl, (refl, tt), reaches_one 1 refl refl)), (2, refl, inr (1, refl, (refl, tt), reaches_one 2 refl refl)))
+
+texts_at_the_second_length_and_above : HasClass marks (a_text bcd) 9 × HasClass marks (a_text bcdé) 9
+texts_at_the_second_length_and_above = ((3, refl, inr (2, refl, (refl, tt), reaches_both 3 refl refl)), (3, refl, inr (2, refl, (refl, tt), reaches_both 4 refl refl)))
+
+at_a_length_is_not_below_it : ¬ (HasClass marks (a_text bcd) 8)
+at_a_length_is_not_below_it h = not_there h.0 (omega (arith, h.1)) h.2
+  where
+    not_there : (p : ℕ) → p ≡ 2 → IsTextPlace marks bcd p → ⊥
+    not_there p z (inl a) = let past : None ≡ Some bcd = subst (λ i. slice_get marks.texts i ≡ Some bcd) z a in cc
+    not_there p z (inr a) =
+        let one : a.0 ≡ 1 = omega (arith, z, a.1) in
+        let clash : true ≡ false = a.3 1 3 refl ∙ ap (nat_lt 1) one in cc
+
+a_marked_text_is_not_behind : ¬ (HasClass marks (a_text (97 ∷ [])) 8)
+a_marked_text_is_not_behind h = not_there h.0 (omega (arith, h.1)) h.2
+  where
+    not_there : (p : ℕ) → p ≡ 2 → IsTextPlace marks (97 ∷ []) p → ⊥
+    not_there p z (inl a) = let past : None ≡ Some (97 ∷ []) = subst (λ i. slice_get marks.texts i ≡ Some (97 ∷ [])) z a in cc
+    not_there p z (inr a) = let clash : true ≡ false = a.2.0 in cc
 
 no_class_of_lists : ¬ (HasClassAt marks (Some (a_list [])) 0)
 no_class_of_lists h = h
 
 no_class_past_the_items : ¬ (HasClassAt marks None 0)
 no_class_past_the_items h = h
+
+-- ---- how long the texts of a document are: of its first items, of which two are texts
+
+abbrev items : List (Opened ℕ)
+items = a_text bcd ∷ a_null ∷ a_text b ∷ []
+
+all_known : AreLengths items (3 ∷ 0 ∷ 1 ∷ [])
+all_known zero s e n f =
+    let same : bcd ≡ s = cc in
+    let is : 3 ≡ n = cc in
+    sym is ∙ ap text_length same
+all_known (suc zero) s e n f = cc
+all_known (suc (suc zero)) s e n f =
+    let same : b ≡ s = cc in
+    let is : 1 ≡ n = cc in
+    sym is ∙ ap text_length same
+all_known (suc (suc (suc i))) s e n f = cc
+
+none_known : AreLengths items []
+none_known i s e n f = let clash : None ≡ Some n = f in cc
+
+not_of_another : ¬ (AreLengths items (3 ∷ 0 ∷ 3 ∷ []))
+not_of_another h = let clash : 3 ≡ 1 = h 2 b refl 3 refl in omega (arith, clash)
+
+not_the_bytes : ¬ (TellsLength (5 ∷ []) 0 bcdé)
+not_the_bytes h = let clash : 5 ≡ 4 = h 5 refl in omega (arith, clash)
+
+known_or_not : TellsLength (4 ∷ []) 0 bcdé × TellsLength (4 ∷ []) 1 b
+known_or_not = ((λ n f. let is : 4 ≡ n = cc in sym is), (λ n f. let clash : None ≡ Some n = f in cc))

@@ -1,16 +1,16 @@
 -- Classes of scalars: those of one class are alike.
-use Rattle.std.specs.Prelude.{◌≡◌, ℕ, zero, suc, ◌+◌, ◌*◌, ◌≤◌, ◌⊎◌, nat_lt, ℤ, int_lt, Bool, true, false, if◌then◌else◌, cond, List, [], ◌∷◌, length, Option, Some, None, slice_get}
+use Rattle.std.specs.Prelude.{◌≡◌, ℕ, suc, ◌+◌, ◌*◌, ◌≤◌, ◌⊎◌, nat_lt, nat_le, ℤ, int_lt, Bool, true, false, if◌then◌else◌, cond, List, [], ◌∷◌, length, Option, Some, None, slice_get}
 use Rattle.std.specs.List.{AllByRecursion as Each}
-use Rattle.std.specs.Ordering.{nat_cmp, int_cmp, is_lt, is_eq, ordering_reverse}
+use Rattle.std.specs.Ordering.{int_cmp, is_lt, ordering_reverse}
 use Rattle.std.specs.declared.cmp.Ordering.{Ordering}
 use Rattle.std.specs.declared.cmp.Ordering.TheVariants.{Less, Equal, Greater}
 use Rattle.std.specs.Cmp.{IsTotalOrder}
-use Rattle.std.specs.Cmp.Lexicographic.{slice_cmp, nat_list_cmp_total}
 use Rattle.std.specs.Str.{bytes_eq}
 use Rattle.std.proofs.Common.{refl, sym, ap, subst, ◌∙◌, inl, inr, arith}
 use Rattle.std.proofs.lemmas.Cmp.{int_cmp_total}
-use Rattle.std.proofs.lemmas.Map.Text.{is_eq-slice_cmp}
+use Rattle.std.proofs.lemmas.Option.{slice_get_within}
 use Rattle.cs_document.specs.Opened.{Opened, a_null, a_boolean, an_integer, a_text, a_list, an_object}
+use Rattle.cs_document.specs.Sizes.{text_length}
 use Rattle.cs_document.specs.Inside.{InsideBelow}
 use Rattle.cs_rules.specs.Alike.{Compared, AreAlike}
 
@@ -24,6 +24,16 @@ IsPlace {X} ord xs p =
     ((i : ℕ) × (x : X) × (p ≡ 2 * i + 1) × (slice_get xs i ≡ Some x) × (ord x ≡ Equal))
     ⊎ ((i : ℕ) × (p ≡ 2 * i) × ((k : ℕ) (x : X) → slice_get xs k ≡ Some x → ord x ≡ by_place k i))
 
+-- so many of the lengths, which are in order, are at most n
+abbrev pub IsReached : List ℕ → ℕ → ℕ → Type 0
+IsReached lengths n p = (k x : ℕ) → slice_get lengths k ≡ Some x → nat_le x n ≡ nat_lt k p
+
+-- where a text is among the marks: at one, or behind them by how many of the lengths it reaches
+abbrev pub IsTextPlace : Compared → List ℕ → ℕ → Type 0
+IsTextPlace m s p =
+    (slice_get m.texts p ≡ Some s)
+    ⊎ ((k : ℕ) × (p ≡ length m.texts + k) × Each (λ u. bytes_eq u s ≡ false) m.texts × IsReached m.lengths (text_length s) k)
+
 -- the number of a boolean's class
 abbrev pub boolean_class : Bool → ℕ
 boolean_class b = if b then 2 else 1
@@ -33,7 +43,7 @@ abbrev pub HasClass : Compared → Opened ℕ → ℕ → Type 0
 HasClass m a_null c = c ≡ 0
 HasClass m (a_boolean b) c = c ≡ boolean_class b
 HasClass m (an_integer z) c = (p : ℕ) × (c ≡ 3 + p) × (p ≤ 2 * length m.integers) × IsPlace (λ k. int_cmp k z) m.integers p
-HasClass m (a_text s) c = (p : ℕ) × (c ≡ 4 + 2 * length m.integers + p) × IsPlace (λ t. slice_cmp nat_cmp t s) m.texts p
+HasClass m (a_text s) c = (p : ℕ) × (c ≡ 4 + 2 * length m.integers + p) × IsTextPlace m s p
 HasClass m _ c = ⊥
 
 -- the class of an item, if there is one
@@ -43,7 +53,7 @@ HasClassAt m (Some x) c = HasClass m x c
 
 -- ---- what is at one place compares the same with each mark
 
-each_from : {X : Type 0} (P : X → Type 0) (xs : List X) → ((k : ℕ) (x : X) → slice_get xs k ≡ Some x → P x) → Each P xs
+pub each_from : {X : Type 0} (P : X → Type 0) (xs : List X) → ((k : ℕ) (x : X) → slice_get xs k ≡ Some x → P x) → Each P xs
 each_from P [] h = tt
 each_from P (x ∷ xs) h = (h 0 x refl, each_from P xs (λ k y e. h (suc k) y e))
 
@@ -77,12 +87,36 @@ same_integer k z w e = (
   sym (less_is k z) ∙ ap is_lt e ∙ less_is k w,
 )
 
-same_text : (t r s : List ℕ) → slice_cmp nat_cmp t r ≡ slice_cmp nat_cmp t s → bytes_eq t r ≡ bytes_eq t s
-same_text t r s e = sym (is_eq-slice_cmp t r) ∙ ap is_eq e ∙ is_eq-slice_cmp t s
-
 each_more : {X : Type 0} (P Q : X → Type 0) → ((x : X) → P x → Q x) → (xs : List X) → Each P xs → Each Q xs
 each_more P Q f [] h = tt
 each_more P Q f (x ∷ xs) h = (f x h.0, each_more P Q f xs h.1)
+
+each_both : {X : Type 0} (P Q R : X → Type 0) → ((x : X) → P x → Q x → R x) → (xs : List X) → Each P xs → Each Q xs → Each R xs
+each_both P Q R f [] h k = tt
+each_both P Q R f (x ∷ xs) h k = (f x h.0 k.0, each_both P Q R f xs h.1 k.1)
+
+module _ (m : Compared) (s t : List ℕ) where
+  one_text : s ≡ t → AreAlike m (a_text s) (a_text t)
+  one_text e = (
+    each_from _ m.texts (λ i u _. ap (bytes_eq u) e),
+    each_from _ m.lengths (λ i k _. ap (λ v. nat_le k (text_length v)) e),
+  )
+
+  same_text : (p : ℕ) → IsTextPlace m s p → IsTextPlace m t p → AreAlike m (a_text s) (a_text t)
+  same_text p (inl a) (inl b) =
+      let one : Some s ≡ Some t = sym a ∙ b in
+      one_text cc
+  same_text p (inl a) (inr b) =
+      let at = slice_get_within m.texts p s a in
+      absurd (omega (arith, at, b.1))
+  same_text p (inr a) (inl b) =
+      let at = slice_get_within m.texts p t b in
+      absurd (omega (arith, at, a.1))
+  same_text p (inr a) (inr b) =
+      let same : a.0 ≡ b.0 = omega (arith, a.1, b.1) in (
+        each_both _ _ _ (λ u e k. e ∙ sym k) m.texts a.2 b.2,
+        each_from _ m.lengths (λ i k at. a.3 i k at ∙ ap (nat_lt i) same ∙ sym (b.3 i k at)),
+      )
 
 -- ---- scalars of one class are alike
 
@@ -119,7 +153,7 @@ module _ (m : Compared) (c : ℕ) where
   alike (a_text s) (an_integer w) h k = absurd (omega (arith, k.1, k.2, h.1))
   alike (a_text s) (a_text t) h k =
       let same : h.0 ≡ k.0 = omega (arith, h.1, k.1) in
-      each_more _ _ (λ u e. same_text u s t e) m.texts (same_place nat_list_cmp_total m.texts s t k.0 (subst (IsPlace (λ u. slice_cmp nat_cmp u s) m.texts) same h.2) k.2)
+      same_text m s t k.0 (subst (IsTextPlace m s) same h.2) k.2
   alike (a_list v) y h k = absurd h
   alike (an_object v) y h k = absurd h
   alike x (a_list v) h k = absurd k

@@ -6,6 +6,7 @@ pub mod Looks
 pub mod Knowns
 pub mod Kinds
 pub mod Alike
+pub mod Lengths
 pub mod Classed
 pub mod Sharing
 pub mod Rows

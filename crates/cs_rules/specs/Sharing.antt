@@ -1,6 +1,6 @@
 -- Items of one class get the same answers from a judge of numbered rules, where marks tell what each rule asks of scalars.
-use Rattle.std.specs.Prelude.{◌≡◌, ℕ, ◌<◌, Bool, List, Option, Some, None, length, slice_get, slice_index}
-use Rattle.std.proofs.Common.{refl, sym, ◌∙◌, lt_trans, arith}
+use Rattle.std.specs.Prelude.{◌≡◌, ℕ, Bool, List, Option, Some, None, length, slice_get, slice_index}
+use Rattle.std.proofs.Common.{refl, ◌∙◌, lt_trans, arith}
 use Rattle.std.proofs.Math.Logic.{∥∥₁_elim}
 use Rattle.std.proofs.lemmas.Option.{slice_get_within}
 use mathlib.Core.Bool.{Bool-set}
@@ -9,10 +9,9 @@ use Rattle.cs_document.specs.Opened.{Opened}
 use Rattle.cs_flat.specs.Items.{AreItems}
 use Rattle.cs_flat.specs.Nodes.{node_at}
 use Rattle.cs_table.specs.Classes.{AnswersByClass}
-use Rattle.cs_table.specs.Judged.{AllVerdicts}
 use Rattle.cs_rules.specs.Alike.{Compared, IsToldBy}
 use Rattle.cs_rules.specs.Answers.{step_at, answer}
-use Rattle.cs_rules.specs.Classed.{HasClass, HasClassAt, alike, nothing_inside}
+use Rattle.cs_rules.specs.Classed.{HasClassAt, alike, nothing_inside}
 use Rattle.cs_rules.specs.Steps.{Step, LooksAtParts, ArePlaced}
 
 -- each of these rules is told by the marks

@@ -1,6 +1,7 @@
 // Books of numbered rules, which any number of documents are judged by.
 ghost use Rattle.cs_rules.specs.Steps.{ArePlaced, AreLower};
-ghost use Rattle.cs_rules.specs.Props.{inside_prop};
+ghost use Rattle.cs_rules.specs.Lengths.{AreLengths};
+ghost use Rattle.cs_rules.specs.Props.{inside_prop, lengths_prop};
 ghost use Rattle.cs_rules.specs.Rows.{AreRowsOf};
 ghost use Rattle.cs_rules.specs.Sharing.{AreToldBy};
 ghost use Rattle.cs_flat.specs.Items.{AreItems};
@@ -24,7 +25,6 @@ pub struct Numbering<R: Asks> {
 }
 
 /// Numbered rules with what is decided of each kind of values: all that judging takes and that no document changes.
-#[derive(Drop)]
 pub struct Rulebook<R: Asks> {
     pub numbering: Numbering<R>,
     /// What is decided of each kind of values; none where the table for it would be too large.
@@ -35,6 +35,16 @@ pub struct Rulebook<R: Asks> {
     pub(crate) ghost marked: { ∥ AreToldBy R.step numbering.rules.items classes ∥₁ },
 }
 
+impl<R: Asks> Drop for Rulebook<R> {
+    fn drop(self) {
+        let Rulebook {
+            numbering: _,
+            rows: _,
+            classes: _,
+        } = self;
+    }
+}
+
 /// Judges the values of one document by a book of rules.
 #[derive(Drop)]
 pub struct RulebookJudge<'a, R: Asks> {
@@ -42,8 +52,11 @@ pub struct RulebookJudge<'a, R: Asks> {
     pub flat: &'a Flat<'a>,
     /// Whether values are judged by class: only where the document has as many values as there are classes.
     by_class: bool,
+    /// How long the texts of the document are, if a rule asks for that.
+    pub lengths: Vec<usize>,
     pub ghost lower: { AreLower flat.now } by { Prim.hlevel inside_prop },
     pub ghost shown: { ∥ AreItems (values flat.now) flat.now ∥₁ },
+    pub ghost measured: { AreLengths flat.now lengths.items } by { Prim.hlevel lengths_prop },
 }
 
 impl<R: Asks> Rulebook<R> {
@@ -68,23 +81,33 @@ impl<R: Asks> Rulebook<R> {
         })
     }
 
-    /// The judge of a document by these rules.
-    pub fn over<'b>(&'b self, flat: &'b Flat<'b>) -> RulebookJudge<'b, R>
-        ensures book { result.book.now.numbering ≡ self.now.numbering }
-        ensures flat { result.flat.now ≡ flat.now }
+    /// The judge of a document by these rules. Only memory can run out, where a rule asks how long texts are.
+    pub fn over<'b>(&'b self, flat: &'b Flat<'b>) -> Result<RulebookJudge<'b, R>, AllocError>
+        ensures book { IfOk result (λ j. j.book.now.numbering ≡ self.now.numbering) }
+        ensures flat { IfOk result (λ j. j.flat.now ≡ flat.now) }
     {
         let by_class = self.classes.count() <= flat.len();
-        RulebookJudge {
+        let lengths = self.classes.lengths_in(flat)?;
+        Ok(RulebookJudge {
             book: self,
             flat,
             by_class,
-        }
+            lengths,
+        })
     }
 
     /// The verdict on a value of a document by a rule, where those of earlier pairs are done.
     #[inline]
-    pub(crate) fn judge(&self, flat: &Flat<'_>, item: usize, rule: usize, done: &Verdicts) -> bool
+    pub(crate) fn judge(
+        &self,
+        flat: &Flat<'_>,
+        lengths: &[usize],
+        item: usize,
+        rule: usize,
+        done: &Verdicts,
+    ) -> bool
         requires lower { AreLower flat.now }
+        requires lengths { AreLengths flat.now lengths.now }
         requires item { item < length flat.now }
         requires rule { rule < length self.now.numbering.rules.items }
         requires items { done.now.items ≡ length flat.now }
@@ -98,6 +121,7 @@ impl<R: Asks> Rulebook<R> {
             item,
             children: &self.numbering.children,
             done,
+            lengths,
         };
         self.numbering.rules[rule].holds(&value, flat, &known)
     }
@@ -124,11 +148,12 @@ impl<R: Asks> Rulebook<R> {
 
     /// The class of a value of a document, if it is a scalar.
     #[inline]
-    pub(crate) fn class(&self, flat: &Flat<'_>, item: usize) -> Option<usize>
-        requires { item < length flat.now }
+    pub(crate) fn class(&self, flat: &Flat<'_>, lengths: &[usize], item: usize) -> Option<usize>
+        requires item { item < length flat.now }
+        requires lengths { AreLengths flat.now lengths.now }
         ensures { IfSome result (HasClassAt self.now.classes (slice_get flat.now item)) }
     {
-        self.classes.class(&flat.item(item))
+        self.classes.class(&flat.item(item), item, lengths)
     }
 }
 
@@ -164,7 +189,7 @@ impl<'a, R: Asks> Judge for RulebookJudge<'a, R> {
 
     #[inline]
     fn judge(&self, item: usize, rule: usize, done: &Verdicts) -> bool {
-        self.book.judge(self.flat, item, rule, done)
+        self.book.judge(self.flat, &self.lengths, item, rule, done)
     }
 
     #[inline]
@@ -192,7 +217,7 @@ impl<'a, R: Asks> Judge for RulebookJudge<'a, R> {
     #[inline]
     fn class(&self, item: usize) -> Option<usize> {
         if self.by_class {
-            self.book.class(self.flat, item)
+            self.book.class(self.flat, &self.lengths, item)
         } else {
             None
         }

@@ -1,6 +1,7 @@
 // The judge of a document's values by numbered rules.
 ghost use Rattle.cs_rules.specs.Steps.{AreLower};
-ghost use Rattle.cs_rules.specs.Props.{inside_prop};
+ghost use Rattle.cs_rules.specs.Lengths.{AreLengths};
+ghost use Rattle.cs_rules.specs.Props.{inside_prop, lengths_prop};
 ghost use Rattle.cs_flat.specs.Items.{AreItems};
 ghost use Rattle.cs_flat.specs.Listed.{values};
 
@@ -17,8 +18,11 @@ pub struct RuleJudge<'a, R: Asks> {
     pub flat: &'a Flat<'a>,
     /// Whether values are judged by class: only where the document has as many values as there are classes.
     by_class: bool,
+    /// How long the texts of the document are, if a rule asks for that.
+    lengths: Vec<usize>,
     pub ghost lower: { AreLower flat.now } by { Prim.hlevel inside_prop },
     pub ghost shown: { ∥ AreItems (values flat.now) flat.now ∥₁ },
+    ghost measured: { AreLengths flat.now lengths.items } by { Prim.hlevel lengths_prop },
 }
 
 impl<'a, R: Asks> Judge for RuleJudge<'a, R> {
@@ -53,7 +57,7 @@ impl<'a, R: Asks> Judge for RuleJudge<'a, R> {
 
     #[inline]
     fn judge(&self, item: usize, rule: usize, done: &Verdicts) -> bool {
-        self.book.judge(self.flat, item, rule, done)
+        self.book.judge(self.flat, &self.lengths, item, rule, done)
     }
 
     #[inline]
@@ -80,7 +84,7 @@ impl<'a, R: Asks> Judge for RuleJudge<'a, R> {
     #[inline]
     fn class(&self, item: usize) -> Option<usize> {
         if self.by_class {
-            self.book.class(self.flat, item)
+            self.book.class(self.flat, &self.lengths, item)
         } else {
             None
         }
@@ -101,10 +105,12 @@ impl<'a, R: Asks> RuleJudge<'a, R> {
     {
         let book = Rulebook::of(alloc, numbering)?;
         let by_class = book.classes.count() <= flat.len();
+        let lengths = book.classes.lengths_in(flat)?;
         Ok(RuleJudge {
             book,
             flat,
             by_class,
+            lengths,
         })
     }
 }

@@ -3,6 +3,7 @@ ghost use Rattle.std.specs.Prelude.{◌<◌};
 ghost use Rattle.std.specs.List.{AllByRecursion};
 ghost use Rattle.cs_rules.specs.Props.{below_prop};
 
+use crate::lengths::length_at;
 use cs_table::Verdicts;
 
 /// The verdicts on a value by the rules before the one that is asked, and those on the values inside it.
@@ -13,6 +14,8 @@ pub struct Known<'a> {
     /// The rules that are asked of values inside.
     pub children: &'a [usize],
     pub done: &'a Verdicts,
+    /// How long the texts of the document are, by the numbers of their items; empty where no rule asks for that.
+    pub lengths: &'a [usize],
     pub ghost here: { item < done.now.items },
     pub ghost within: { AllByRecursion (λ q. q < done.now.rules) children.now } by { Prim.hlevel below_prop },
 }
@@ -20,7 +23,9 @@ pub struct Known<'a> {
 impl Known<'_> {
     ghost use Rattle.std.specs.Prelude.{◌≡◌};
     ghost use Rattle.std.specs.List.{list_all, list_any};
+    ghost use Rattle.cs_document.specs.Sizes as sizes;
     ghost use Rattle.cs_rules.specs.Knowns.{verdict_here, verdict_inside, value_count, rule_count, place_count};
+    ghost use Rattle.cs_rules.specs.Lengths.{TellsLength};
 
     /// The verdict on the value itself by an earlier rule.
     #[inline]
@@ -39,6 +44,15 @@ impl Known<'_> {
         ensures { result ≡ verdict_inside self.now child place }
     {
         self.done.get(child, self.children[place])
+    }
+
+    /// How many characters the value itself has, which is this text.
+    #[inline]
+    pub fn text_length(&self, text: &str) -> usize
+        requires { TellsLength self.now.lengths.now self.now.item text.now }
+        ensures { result ≡ sizes.text_length text.now }
+    {
+        length_at(self.lengths, self.item, text)
     }
 
     /// Whether all of these rules hold of the value itself.

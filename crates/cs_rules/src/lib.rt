@@ -6,6 +6,7 @@ mod by_kind;
 mod classes;
 mod judge;
 mod known;
+mod lengths;
 mod marks;
 mod numberer;
 mod rows;

@@ -8,6 +8,7 @@ ghost use Rattle.cs_rules.specs.Steps.{Step, LooksAtParts};
 ghost use Rattle.cs_rules.specs.Kinds.{Foretells};
 ghost use Rattle.cs_rules.specs.Alike.{IsToldBy, HasMore};
 ghost use Rattle.cs_rules.specs.Knowns.{verdict_here, verdict_inside, value_count, rule_count, place_count};
+ghost use Rattle.cs_rules.specs.Lengths.{AreLengths};
 
 use crate::{ByKind, Known, Marks};
 use cs_flat::{Flat, Item};
@@ -28,6 +29,7 @@ pub trait Asks: Drop {
         requires parts { below self.now (rule_count known.now) (place_count known.now) }
         requires ascends { AscendsInside (item_view value.now) }
         requires children { InsideBelow (value_count known.now) (item_view value.now) }
+        requires lengths { AreLengths flat.now known.now.lengths.now }
         ensures { result ≡ step self.now (verdict_here known.now) (verdict_inside known.now)
             (node_at (values flat.now) known.now.item) (item_view value.now) };
 
@@ -35,7 +37,7 @@ pub trait Asks: Drop {
     fn by_kind(&self, earlier: &[ByKind]) -> ByKind
         ensures { Foretells (step self.now) earlier.now result };
 
-    /// Adds to the marks what the rule compares texts and integers with. Only memory can run out.
+    /// Adds to the marks what the rule compares texts and integers with, and the lengths of texts. Only memory can run out.
     fn mark(&self, marks: &mut Marks) -> Result<(), AllocError>
         ensures told { OnOk result (IsToldBy (step self.now) marks.new) }
         ensures more { OnOk result (HasMore marks.old marks.new) };

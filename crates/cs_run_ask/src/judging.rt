@@ -8,6 +8,7 @@ use cs_run_call::{
     read_input, sources_of,
 };
 use cs_tool::{Fault, Rules};
+use cs_widen::vocabulary_of;
 use std::alloc::Global;
 use std::fs::File;
 use std::io::Read;
@@ -40,7 +41,8 @@ fn input_of(call: Call<'_, '_>, command: &str) -> Result<(Rules, Option<Vec<u8>>
 fn rules_of(call: Call<'_, '_>, command: &str) -> Result<Rules, Fault> {
     if command == "validate" {
         let schema = read_input(call.rt, Some(call.word("schema")))?;
-        return Ok(Rules::Schema { schema });
+        let vocabulary = vocabulary_of(call.profile());
+        return Ok(Rules::Schema { vocabulary, schema });
     }
     let root = String::from_str(call.alloc(), call.word("root"))?;
     let sources = given_sources(call)?;
@@ -67,7 +69,7 @@ fn judge_read(call: Call<'_, '_>, rules: &Rules, text: Option<&[u8]>) -> Status 
         None => None,
     };
     let schema = match rules {
-        Rules::Schema { schema } => Some(named_text(call.word("schema"), schema)),
+        Rules::Schema { schema, .. } => Some(named_text(call.word("schema"), schema)),
         Rules::Root { .. } | Rules::Both { .. } => None,
     };
     let about = About {

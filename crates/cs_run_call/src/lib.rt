@@ -95,9 +95,10 @@ impl<'m, 'w> Call<'m, 'w> {
     pub fn meant_rules(self, rules: &Rules) -> Result<Option<Rules>, Fault> {
         let alloc = self.alloc();
         let (given, root) = match rules {
-            Rules::Schema { schema } => {
+            Rules::Schema { vocabulary, schema } => {
+                let vocabulary = *vocabulary;
                 let meant = schema_stands_for_in(alloc, self.profile(), schema)?;
-                return Ok(meant.map(|schema| Rules::Schema { schema }));
+                return Ok(meant.map(|schema| Rules::Schema { vocabulary, schema }));
             }
             Rules::Root { sources, root } | Rules::Both { sources, root } => (sources, root),
         };

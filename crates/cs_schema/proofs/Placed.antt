@@ -5,9 +5,10 @@ use Rattle.std.specs.Fmt.{decimal}
 use Rattle.cs_document.specs.Document.{Document, null, boolean, integer, text, list, object, Documents, no_documents, document, Members, no_members, member}
 use Rattle.cs_profile.specs.Keywords.{reference_start, text_after}
 use Rattle.cs_profile.specs.Places.{at_key, at_index, escaped}
-use Rattle.cs_profile.specs.Shapes.{form_at, has_form, by_form}
+use Rattle.cs_profile.specs.Shapes.{form_at, taken_at, has_form, by_form}
 use Rattle.cs_profile.specs.Profile.{Fault, undefined, Visit, value_at, keyword_at, first, or_else, fault_of, shape_fault, form_fault, is_truth, undefined_at, reference_fault, unless_defined, within, visits, member_visits, list_visits, element_visits, map_visits, named_visits}
 use Rattle.cs_profile.specs.Values.{value_visits}
+use Rattle.cs_profile.specs.declared.keyword.Vocabulary.{Vocabulary}
 use Rattle.cs_profile.specs.declared.keyword.Form.{Form}
 use Rattle.cs_profile.specs.declared.keyword.Form.TheVariants as form
 use Rattle.cs_schema.specs.Reading.{inside, below}
@@ -125,9 +126,9 @@ form_placed : (p q n : List ℕ) (v : Document) (f : Option Form) → form_fault
 form_placed p q n v None = refl
 form_placed p q n v (Some f) = shape_placed p q n (has_form f v)
 
-pub faults_placed : IsPlaced fault_of
-faults_placed p (value_at q d) = shape_placed p q [] (is_truth d)
-faults_placed p (keyword_at root q k v) = form_placed p q k v (form_at root k)
+pub faults_placed : (taken : Vocabulary) → IsPlaced (fault_of taken)
+faults_placed taken p (value_at q d) = shape_placed p q [] (is_truth d)
+faults_placed taken p (keyword_at root q k v) = form_placed p q k v (taken_at taken root k)
 
 module _ (known : List ℕ → Bool) where
   test_placed : (p q n : List ℕ) (ok : Bool) → (if ok then None else Some (undefined (p ++ q) n)) ≡ option_map (below p) (if ok then None else Some (undefined q n))

@@ -4,8 +4,9 @@ use Rattle.cs_document.specs.Document.{Document, boolean, object, text, Members,
 use Rattle.cs_profile.specs.Keywords.{listed_under, defined, reference_start, text_after}
 use Rattle.cs_profile.specs.Loops.{NoLoop}
 use Rattle.cs_profile.specs.Refusal.{IsLoop}
-use Rattle.cs_profile.specs.Shapes.{dialect, form_at, has_form}
+use Rattle.cs_profile.specs.Shapes.{dialect, taken_at, has_form}
 use Rattle.cs_profile.specs.Profile.{Fault, undefined, Visit, value_at, keyword_at, first, fault_of, or_else, shape_fault, form_fault, is_truth, undefined_at, reference_fault, unless_defined, visits, member_visits, walk_fault, name_fault, IsSchema}
+use Rattle.cs_profile.specs.declared.keyword.Vocabulary.{Vocabulary}
 use Rattle.cs_profile.specs.declared.keyword.Form.{Form}
 use Rattle.cs_profile.specs.Trim.{trim, trimmed, trimmed_members, with_dialect}
 use Rattle.cs_profile.specs.SchemaDocument.{present, slots_of, schema_view, definitions_view, unless_no_map, SchemaValue, document_of, IsWellFormed}
@@ -21,6 +22,7 @@ use Rattle.cs_profile.proofs.Definitions.{named, with_defs, viewed, not_present,
 use Rattle.cs_profile.proofs.Faultless.{Faultless}
 use Rattle.cs_profile.proofs.Profiles.{defined_in_trimmed, is_some-map}
 use Rattle.cs_profile.proofs.Referring.{walk_fault_trimmed, name_fault_trimmed, no_loop_untrimmed, refusal_untrimmed}
+use Rattle.cs_profile.proofs.Vocabularies.{wide_fault}
 use Rattle.cs_profile.proofs.Views.{view-Always, view-Object}
 
 -- ---- which names are defined
@@ -93,9 +95,9 @@ form_of_walk : (place k : List ℕ) (v : Document) (r : Option Form) → AllFaul
 form_of_walk place k v None = refl
 form_of_walk place k v (Some r) = shape_of_walk place k (has_form r v)
 
-visit_of_walk : (v : Visit) → AllFaults is_of_walk (fault_of v)
-visit_of_walk (value_at place d) = shape_of_walk place [] (is_truth d)
-visit_of_walk (keyword_at root place k v) = form_of_walk place k v (form_at root k)
+visit_of_walk : (taken : Vocabulary) (v : Visit) → AllFaults is_of_walk (fault_of taken v)
+visit_of_walk taken (value_at place d) = shape_of_walk place [] (is_truth d)
+visit_of_walk taken (keyword_at root place k v) = form_of_walk place k v (taken_at taken root k)
 
 module _ (known : List ℕ → Bool) where
   test_of_name : (place n : List ℕ) (b : Bool) → AllFaults is_of_name (if b then None else Some (undefined place n))
@@ -119,37 +121,37 @@ module _ (known : List ℕ → Bool) where
   visit_of_name (keyword_at root place k v) = keyword_of_name place v (bytes_eq k (codes "$ref"))
 
 -- of the walk
-pub refused_by_walk : (e : SchemaFault) (d : Document) → Refuses e (walk_fault d) → IsRefusal e d
-refused_by_walk fault.OutOfMemory d h = tt
-refused_by_walk (fault.Keyword p n) d h = h
-refused_by_walk (fault.Shape p n) d h = h
-refused_by_walk (fault.Reference p n) d h =
-    let clash : false ≡ true = subst (AllFaults is_of_walk) h (all_first is_of_walk fault_of visit_of_walk (visits true [] d)) in cc
-refused_by_walk (fault.Loop ns) d h = absurd h
+pub refused_by_walk : (taken : Vocabulary) (e : SchemaFault) (d : Document) → Refuses e (walk_fault taken d) → IsRefusal taken e d
+refused_by_walk taken fault.OutOfMemory d h = tt
+refused_by_walk taken (fault.Keyword p n) d h = h
+refused_by_walk taken (fault.Shape p n) d h = h
+refused_by_walk taken (fault.Reference p n) d h =
+    let clash : false ≡ true = subst (AllFaults is_of_walk) h (all_first is_of_walk (fault_of taken) (visit_of_walk taken) (visits true [] d)) in cc
+refused_by_walk taken (fault.Loop ns) d h = absurd h
 
 -- of a name
-pub refused_by_name : (e : SchemaFault) (d : Document) → walk_fault d ≡ None → Refuses e (name_fault d) → IsRefusal e d
-refused_by_name fault.OutOfMemory d w h = tt
-refused_by_name (fault.Keyword p n) d w h =
+pub refused_by_name : (taken : Vocabulary) (e : SchemaFault) (d : Document) → walk_fault taken d ≡ None → Refuses e (name_fault d) → IsRefusal taken e d
+refused_by_name taken fault.OutOfMemory d w h = tt
+refused_by_name taken (fault.Keyword p n) d w h =
     let known : List ℕ → Bool = λ m. is_some (defined d m) in
     let clash : false ≡ true = subst (AllFaults is_of_name) h (all_first is_of_name (undefined_at known) (visit_of_name known) (visits true [] d)) in cc
-refused_by_name (fault.Shape p n) d w h =
+refused_by_name taken (fault.Shape p n) d w h =
     let known : List ℕ → Bool = λ m. is_some (defined d m) in
     let clash : false ≡ true = subst (AllFaults is_of_name) h (all_first is_of_name (undefined_at known) (visit_of_name known) (visits true [] d)) in cc
-refused_by_name (fault.Reference p n) d w h = (w, h)
-refused_by_name (fault.Loop ns) d w h = absurd h
+refused_by_name taken (fault.Reference p n) d w h = (w, h)
+refused_by_name taken (fault.Loop ns) d w h = absurd h
 
 no_loop : (d : Document) (ns : List (List ℕ)) → NoLoop d → IsLoop d ns → ⊥
 no_loop d [] none h = h
 no_loop d (n ∷ ns) none h = none n ns h
 
 -- of a schema of the profile, only memory refuses
-pub only_memory : (e : SchemaFault) (d : Document) → IsSchema d → IsRefusal e d → e ≡ fault.OutOfMemory
-only_memory fault.OutOfMemory d s h = refl
-only_memory (fault.Keyword p n) d s h = let clash = sym s.shaped ∙ h in cc
-only_memory (fault.Shape p n) d s h = let clash = sym s.shaped ∙ h in cc
-only_memory (fault.Reference p n) d s h = let clash = sym s.named ∙ h.1 in cc
-only_memory (fault.Loop ns) d s h = absurd (no_loop d (map string_bytes ns.items) s.no_loop h.told.loop)
+pub only_memory : (taken : Vocabulary) (e : SchemaFault) (d : Document) → IsSchema taken d → IsRefusal taken e d → e ≡ fault.OutOfMemory
+only_memory taken fault.OutOfMemory d s h = refl
+only_memory taken (fault.Keyword p n) d s h = let clash = sym s.shaped ∙ h in cc
+only_memory taken (fault.Shape p n) d s h = let clash = sym s.shaped ∙ h in cc
+only_memory taken (fault.Reference p n) d s h = let clash = sym s.named ∙ h.1 in cc
+only_memory taken (fault.Loop ns) d s h = absurd (no_loop d (map string_bytes ns.items) s.no_loop h.told.loop)
 
 -- ---- what was read
 
@@ -165,29 +167,29 @@ pub bare_object : (k : Box Keywords Global) (es : List (String Global × Schema)
 bare_object k es b e = let clash : object (present (slots_of k.value)) ≡ boolean b = sym (view-Object k) ∙ e in cc
 
 -- a root with its definitions is what was read of a document without a fault of a keyword, a value or a name
-pub record WasRead (d : Document) (v : SchemaValue) : Type 0 where
+pub record WasRead (taken : Vocabulary) (d : Document) (v : SchemaValue) : Type 0 where
   pub trimmed : document_of v ≡ trim d
-  pub shaped : walk_fault d ≡ None
+  pub shaped : walk_fault taken d ≡ None
   pub named : name_fault d ≡ None
 
-pub was_read : (d : Document) (ms : Members) (p : Parts) (k : Box Keywords Global) → d ≡ object ms → k.value ≡ p.keywords → Faultless (member_visits true [] ms) → present (slots p) ≡ trimmed_members true ms
-    → first (undefined_at (is_defined_in p.definitions.entries)) (member_visits true [] ms) ≡ None → WasRead d (record { root = Object k; definitions = p.definitions.entries })
-was_read d ms p k is own right made known =
-    subst (λ e. WasRead e (record { root = Object k; definitions = p.definitions.entries })) (sym is) (record {
+pub was_read : (taken : Vocabulary) (d : Document) (ms : Members) (p : Parts) (k : Box Keywords Global) → d ≡ object ms → k.value ≡ p.keywords → Faultless taken (member_visits true [] ms) → present (slots p) ≡ trimmed_members true ms
+    → first (undefined_at (is_defined_in p.definitions.entries)) (member_visits true [] ms) ≡ None → WasRead taken d (record { root = Object k; definitions = p.definitions.entries })
+was_read taken d ms p k is own right made known =
+    subst (λ e. WasRead taken e (record { root = Object k; definitions = p.definitions.entries })) (sym is) (record {
       trimmed = document_is ms p k own made;
       shaped = right;
       named = sym (names_are ms p made) ∙ known;
     })
 
-pub well_formed : (d : Document) (v : SchemaValue) → WasRead d v → ((b : Bool) → schema_view v.root ≡ boolean b → v.definitions ≡ []) → IsWellFormed v
-well_formed d v r bare = record {
-  shaped = ap walk_fault r.trimmed ∙ walk_fault_trimmed d r.shaped;
+pub well_formed : (taken : Vocabulary) (d : Document) (v : SchemaValue) → WasRead taken d v → ((b : Bool) → schema_view v.root ≡ boolean b → v.definitions ≡ []) → IsWellFormed v
+well_formed taken d v r bare = record {
+  shaped = wide_fault taken (document_of v) (ap (walk_fault taken) r.trimmed ∙ walk_fault_trimmed taken d r.shaped);
   named = ap name_fault r.trimmed ∙ name_fault_trimmed d ∙ r.named;
   bare = bare;
 }
 
-pub unlooped : (d : Document) (v : SchemaValue) → WasRead d v → NoLoop (document_of v) → NoLoop d
-unlooped d v r h = no_loop_untrimmed d (subst NoLoop r.trimmed h)
+pub unlooped : (taken : Vocabulary) (d : Document) (v : SchemaValue) → WasRead taken d v → NoLoop (document_of v) → NoLoop d
+unlooped taken d v r h = no_loop_untrimmed d (subst NoLoop r.trimmed h)
 
-pub looped : (e : SchemaFault) (d : Document) (v : SchemaValue) → WasRead d v → IsLoopRefusal e (document_of v) → IsRefusal e d
-looped e d v r h = refusal_untrimmed e d r.shaped r.named (subst (IsLoopRefusal e) r.trimmed h)
+pub looped : (taken : Vocabulary) (e : SchemaFault) (d : Document) (v : SchemaValue) → WasRead taken d v → IsLoopRefusal e (document_of v) → IsRefusal taken e d
+looped taken e d v r h = refusal_untrimmed taken e d r.shaped r.named (subst (IsLoopRefusal e) r.trimmed h)

@@ -9,6 +9,7 @@ use Rattle.cs_profile.specs.Profile.{Fault, unknown, misshapen, undefined, Visit
 use Rattle.cs_profile.specs.Trim.{trimmed_members}
 use Rattle.cs_profile.specs.Values.{value_visits, value_trims, trimmed_value}
 use Rattle.cs_profile.specs.SchemaDocument.{Slot, present, slots_of, unless_no_map, text_document, schema_view, definitions_view, value_at}
+use Rattle.cs_profile.specs.declared.keyword.Vocabulary.{Vocabulary}
 use Rattle.cs_profile.specs.declared.keyword.Form.{Form}
 use Rattle.cs_profile.specs.declared.keyword.Keyword.{Keyword}
 use Rattle.cs_profile.specs.declared.schema.Schema.{Schema}
@@ -22,9 +23,9 @@ use Rattle.cs_schema.specs.declared.parts.Parts.{Parts}
 abbrev pub inside : Form → Document → List Visit
 inside f v = by_form f (value_visits [] v)
 
--- the first fault of a keyword or a value that the walk meets
-abbrev pub fault_in : List Visit → Option Fault
-fault_in vs = first fault_of vs
+-- the first fault of a keyword or a value that the walk meets, by the keywords that are taken
+abbrev pub fault_in : Vocabulary → List Visit → Option Fault
+fault_in taken vs = first (fault_of taken) vs
 
 -- what trimming leaves of a value of a form
 abbrev pub kept_value : Form → Document → Option Document

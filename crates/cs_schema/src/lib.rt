@@ -9,6 +9,6 @@ mod read;
 mod texts;
 mod write;
 
-pub use cs_profile::{SchemaDoc, SchemaFault, one_meaning};
+pub use cs_profile::{SchemaDoc, SchemaFault, Vocabulary, one_meaning};
 pub use read::read_schema;
 pub use write::to_doc;

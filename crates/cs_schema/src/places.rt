@@ -9,7 +9,7 @@ ghost use Rattle.cs_schema.specs.Reading.{Refuses, IsBelow};
 use crate::SchemaFault;
 use std::alloc::{AllocError, Global};
 
-/// The fault of a keyword outside the profile.
+/// The fault of a keyword that isn't taken.
 pub(crate) fn unknown_keyword(alloc: Global, name: &str) -> SchemaFault
     ensures { Refuses result (Some (unknown [] name.now)) }
 {

@@ -3,6 +3,7 @@ ghost use Rattle.std.specs.Prelude.{◌≡◌, IfOk, OnOk, IsOkUnless, Some, Non
 ghost use Rattle.cs_document.specs.Document.{text as a_text, integer, list};
 ghost use Rattle.cs_document.specs.View.{doc_view, list_view, object_view};
 ghost use Rattle.cs_profile.specs.Profile.{IsSchema};
+ghost use Rattle.cs_profile.specs.declared.keyword.Vocabulary.TheVariants as vocabulary;
 ghost use Rattle.cs_profile.specs.Trim.{trim};
 ghost use Rattle.cs_profile.specs.SchemaDocument.{kind_name, schema_view, schemas_view, definitions_view, slots_of, present, unless_no_list, unless_no_map, reference_document, text_document, document_of};
 ghost use Rattle.cs_profile.specs.Keywords.{name_of};
@@ -22,7 +23,7 @@ type Members = BTreeMap<String, Doc>;
 /// run out.
 pub fn to_doc(alloc: Global, schema: &SchemaDoc) -> Result<Doc, SchemaFault>
     ensures found { IfOk result (λ d. doc_view d ≡ document_of schema.now) }
-    ensures profile { IsSchema (document_of schema.now) }
+    ensures profile { IsSchema vocabulary.Wide (document_of schema.now) }
     ensures trimmed { trim (document_of schema.now) ≡ document_of schema.now }
     ensures memory { IsOkUnless result SchemaFault.OutOfMemory }
 {
@@ -100,8 +101,13 @@ fn keyword_doc(
         Keyword::ExclusiveMaximum => Ok(integer_doc(keywords.below)),
         Keyword::ExclusiveMinimum => Ok(integer_doc(keywords.above)),
         Keyword::Items => option_doc(alloc, &keywords.rest),
+        Keyword::MaxItems => Ok(integer_doc(keywords.max_items)),
+        Keyword::MaxLength => Ok(integer_doc(keywords.max_length)),
+        Keyword::MaxProperties => Ok(integer_doc(keywords.max_properties)),
         Keyword::Maximum => Ok(integer_doc(keywords.maximum)),
         Keyword::MinItems => Ok(integer_doc(keywords.min_items)),
+        Keyword::MinLength => Ok(integer_doc(keywords.min_length)),
+        Keyword::MinProperties => Ok(integer_doc(keywords.min_properties)),
         Keyword::Minimum => Ok(integer_doc(keywords.minimum)),
         Keyword::Not => option_doc(alloc, &keywords.negated),
         Keyword::PrefixItems => list_doc(alloc, &keywords.prefix),

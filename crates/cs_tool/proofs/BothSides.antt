@@ -3,13 +3,14 @@ use Rattle.std.proofs.Common.{◌≡◌, ℕ, Bool, List, sym, ap, ap₂, subst,
 use Rattle.cs_document.specs.Document.{Document}
 use Rattle.cs_package.specs.Environment.{Names}
 use Rattle.cs_instance.specs.Instance.{Rule, definition, IsInstance}
+use Rattle.cs_profile.specs.declared.keyword.Vocabulary.{Vocabulary}
 use Rattle.cs_schema.specs.Validity.{IsValidity}
 use Rattle.cs_tool.specs.Headline.{IsExport, IsVerdict, IsValidated}
 use Rattle.cs_tool.proofs.Declared.{one_environment, one_name}
 use Rattle.cs_tool.proofs.Texts.{one_document}
 
--- what is judged by an exported text is judged by the root's definition
-pub validate-says-instance : (sources : List (List ℕ)) (root text doc : List ℕ) (b : Bool) (exported : IsExport sources root text) (validated : IsValidated text doc b)
+-- what is judged by an exported text is judged by the root's definition, whichever keywords are taken
+pub validate-says-instance : {taken : Vocabulary} (sources : List (List ℕ)) (root text doc : List ℕ) (b : Bool) (exported : IsExport sources root text) (validated : IsValidated taken text doc b)
     → (I : Rule → Document → Bool) → IsInstance exported.environment I → b ≡ I (definition exported.name) validated.document
 validate-says-instance sources root text doc b exported validated I is_I =
     let V = exported.one_validity.some.0 in
@@ -20,7 +21,7 @@ validate-says-instance sources root text doc b exported validated I is_I =
     judged ∙ ap (λ s. V s x) (sym same_schema) ∙ exported.admits V I is_V is_I x validated.proper
 
 -- what `export`, `vet` and `validate` answer agrees
-pub vet-and-validate-agree : (sources : List (List ℕ)) (root text doc : List ℕ) (a b : Bool) → IsExport sources root text → IsVerdict sources root doc a → IsValidated text doc b → a ≡ b
+pub vet-and-validate-agree : {taken : Vocabulary} (sources : List (List ℕ)) (root text doc : List ℕ) (a b : Bool) → IsExport sources root text → IsVerdict sources root doc a → IsValidated taken text doc b → a ≡ b
 vet-and-validate-agree sources root text doc a b exported verdict validated =
     let I = exported.one_instance.some.0 in
     let is_I = exported.one_instance.some.1 in

@@ -14,6 +14,7 @@ use Rattle.cs_instance.specs.declared.fault.InstanceFault.{InstanceFault}
 use Rattle.cs_instance.specs.declared.fault.InstanceFault.TheVariants as instance
 use Rattle.cs_profile.proofs.Meanings.{one_meaning}
 use Rattle.cs_profile.proofs.TrimLaw.{keeps_validity}
+use Rattle.cs_profile.specs.declared.keyword.Vocabulary.{Vocabulary}
 use Rattle.cs_profile.specs.Validity.{IsValidity, OneMeaning as OneValidity}
 use Rattle.cs_validate.proofs.Trimmed.{many_trimmed, many_untrimmed}
 use Rattle.cs_validate.specs.Refusal.{IsRefusal as IsSchemaRefusal, AreManyPairs as AreManyBySchema}
@@ -49,9 +50,9 @@ ManyOfRoot sources root text items rules false = RootHasManyPairs sources root t
 ManyOfRoot sources root text items rules true = ⊥
 
 -- by a schema alone
-abbrev pub ManyOfSchema : List ℕ → List ℕ → ManyPairs
-ManyOfSchema schema_text text items rules true = SchemaHasManyPairs schema_text text items rules
-ManyOfSchema schema_text text items rules false = ⊥
+abbrev pub ManyOfSchema : Vocabulary → List ℕ → List ℕ → ManyPairs
+ManyOfSchema taken schema_text text items rules true = SchemaHasManyPairs taken schema_text text items rules
+ManyOfSchema taken schema_text text items rules false = ⊥
 
 -- by the root, and by the exported schema
 abbrev pub ManyOfBoth : List (List ℕ) → List ℕ → List ℕ → ManyPairs
@@ -87,8 +88,8 @@ module _ (text : List ℕ) (many : ManyPairs) where
   })
 
   -- the trimmed schema has as many rules
-  pub by_schema : (schema_text : List ℕ) (S : Document) → IsSchemaOf schema_text S → (d : Document) → Reads text d
-      → ((i r : ℕ) → SchemaHasManyPairs schema_text text i r → many i r true) → (e : TableFault) → IsSchemaRefusal e S d → Refuses text many (of_validate e)
+  pub by_schema : {taken : Vocabulary} (schema_text : List ℕ) (S : Document) → IsSchemaOf taken schema_text S → (d : Document) → Reads text d
+      → ((i r : ℕ) → SchemaHasManyPairs taken schema_text text i r → many i r true) → (e : TableFault) → IsSchemaRefusal e S d → Refuses text many (of_validate e)
   by_schema schema_text S is d read pairs validate.OutOfMemory h = tt
   by_schema schema_text S is d read pairs (validate.TooManyPairs i r) h = let schema = is.text in pairs i r (record {
     input = record { schema = schema.document; read_schema = schema.read; profile = schema.profile; document = d; read = read };
@@ -114,7 +115,7 @@ few_of_root sources root text ready i r many =
     let there = subst (λ F. HasManyByRoot F x.name x.document) same_environment (many_by_root x.environment x.name x.document i r many.many) in
     ready.within (subst₂ (HasManyByRoot y.environment) same_name same_document there)
 
-pub few_of_schema : (schema_text text : List ℕ) → IsReadyToValidate schema_text text → (i r : ℕ) → ¬ (SchemaHasManyPairs schema_text text i r)
+pub few_of_schema : {taken : Vocabulary} (schema_text text : List ℕ) → IsReadyToValidate taken schema_text text → (i r : ℕ) → ¬ (SchemaHasManyPairs taken schema_text text i r)
 few_of_schema schema_text text ready i r many =
     let x = many.input in
     let y = ready.input in
@@ -126,7 +127,7 @@ pub few_of_vet : (sources : List (List ℕ)) (root text : List ℕ) → IsReadyT
 few_of_vet sources root text ready i r false = few_of_root sources root text ready i r
 few_of_vet sources root text ready i r true = λ h. h
 
-pub few_of_validate : (schema_text text : List ℕ) → IsReadyToValidate schema_text text → (i r : ℕ) (b : Bool) → ¬ (ManyOfSchema schema_text text i r b)
+pub few_of_validate : {taken : Vocabulary} (schema_text text : List ℕ) → IsReadyToValidate taken schema_text text → (i r : ℕ) (b : Bool) → ¬ (ManyOfSchema taken schema_text text i r b)
 few_of_validate schema_text text ready i r true = few_of_schema schema_text text ready i r
 few_of_validate schema_text text ready i r false = λ h. h
 
@@ -151,8 +152,8 @@ verdict sources root text E n d b declares read proper one answer few = record {
 }
 
 -- what the answer says of the trimmed schema, it says of the schema
-pub validated : (schema_text text : List ℕ) (S d : Document) (b : Bool) → IsSchemaOf schema_text S → Reads text d → IsDocument d
-    → OneValidity S → ¬ (HasManyBySchema S d) → ((W : Document → Document → Bool) → IsValidity S W → b ≡ W S d) → IsValidated schema_text text b
+pub validated : {taken : Vocabulary} (schema_text text : List ℕ) (S d : Document) (b : Bool) → IsSchemaOf taken schema_text S → Reads text d → IsDocument d
+    → OneValidity S → ¬ (HasManyBySchema S d) → ((W : Document → Document → Bool) → IsValidity S W → b ≡ W S d) → IsValidated taken schema_text text b
 validated schema_text text S d b is read proper one few answer =
     let s = is.text.document in
     let trimmed = is.trimmed in

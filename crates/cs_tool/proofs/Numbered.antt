@@ -2,11 +2,12 @@
 use Rattle.std.proofs.Common.{◌≡◌, ℕ, List, sym, subst}
 use Rattle.cs_document.specs.Document.{Document}
 use Rattle.cs_package.specs.Environment.{Environment}
+use Rattle.cs_profile.specs.declared.keyword.Vocabulary.{Vocabulary}
 use Rattle.cs_tool.specs.Accepted.{DeclaresRoot}
 use Rattle.cs_tool.specs.Sides.{IsSchemaOf, AreSidesOf}
 
-pub numbered_schema : {schema_text : List ℕ} {S R : Document} → IsSchemaOf schema_text S → R ≡ S → IsSchemaOf schema_text R
-numbered_schema {schema_text = s} is same = subst (IsSchemaOf s) (sym same) is
+pub numbered_schema : {taken : Vocabulary} {schema_text : List ℕ} {S R : Document} → IsSchemaOf taken schema_text S → R ≡ S → IsSchemaOf taken schema_text R
+numbered_schema {taken = v} {schema_text = s} is same = subst (IsSchemaOf v s) (sym same) is
 
 pub numbered_sides : {sources : List (List ℕ)} {root : List ℕ} {E F : Environment} {n m : List ℕ} {S R : Document}
     → AreSidesOf sources root E n S → DeclaresRoot sources root F m → R ≡ S → AreSidesOf sources root F m R

@@ -7,6 +7,7 @@ use Rattle.cs_document.specs.declared.fault.DocFault.TheVariants as doc
 use Rattle.cs_json.specs.Refusal as unread
 use Rattle.cs_json.specs.Texts.{Reads}
 use Rattle.cs_json.specs.Refusal.{IsJson, HasOtherNumber}
+use Rattle.cs_profile.specs.declared.keyword.Vocabulary.{Vocabulary}
 use Rattle.cs_tool.specs.CallRefusals.{IsSchemaText, ValidateRefusal}
 use Rattle.cs_tool.specs.Conversions.{of_schema_text}
 use Rattle.cs_tool.specs.declared.fault.Fault.TheVariants.{OutOfMemory}
@@ -26,12 +27,12 @@ pub one_document : (b : List ℕ) (d e : Document) → Reads b d → Reads b e �
 one_document b d e reads also = cc (reads.1, also.1)
 
 -- what refuses a schema's text is why `validate` does, and none but memory refuses that of a schema
-pub unread_schema : (s t : List ℕ) (e : DocFault) → unread.IsRefusal e s → ValidateRefusal s t (of_schema_text e)
-unread_schema s t doc.OutOfMemory h = tt
-unread_schema s t (doc.NotJson o c) h = h
-unread_schema s t (doc.NotInteger o) h = h
+pub unread_schema : (taken : Vocabulary) (s t : List ℕ) (e : DocFault) → unread.IsRefusal e s → ValidateRefusal taken s t (of_schema_text e)
+unread_schema taken s t doc.OutOfMemory h = tt
+unread_schema taken s t (doc.NotJson o c) h = h
+unread_schema taken s t (doc.NotInteger o) h = h
 
-pub schema_alone : (s : List ℕ) → IsSchemaText s → (e : DocFault) → unread.IsRefusal e s → of_schema_text e ≡ OutOfMemory
+pub schema_alone : {taken : Vocabulary} (s : List ℕ) → IsSchemaText taken s → (e : DocFault) → unread.IsRefusal e s → of_schema_text e ≡ OutOfMemory
 schema_alone s is doc.OutOfMemory h = refl
 schema_alone s is (doc.NotJson o c) h = absurd (h.0 (is_json s is.document is.read))
 schema_alone s is (doc.NotInteger o) h = absurd (no_other s is.document is.read h.0)

@@ -1,5 +1,6 @@
 -- What the call of both sides answers.
 use Rattle.std.specs.Prelude.{ℕ, List, Bool}
+use Rattle.cs_profile.specs.declared.keyword.Vocabulary.TheVariants as vocabularies
 use Rattle.cs_tool.specs.Headline.{IsExport, IsVerdict, IsValidated}
 use Rattle.cs_tool.specs.Translated.{IsTranslated}
 
@@ -10,4 +11,4 @@ pub record IsAgreement (sources : List (List ℕ)) (root text : List ℕ) (answe
   pub schema_text : List ℕ
   pub exported : IsExport sources root schema_text
   pub translated : IsTranslated sources root schema_text
-  pub validated : IsValidated schema_text text answer
+  pub validated : IsValidated vocabularies.Default schema_text text answer

@@ -8,6 +8,7 @@ use Rattle.cs_schema.specs.Profile.{IsSchema}
 use Rattle.cs_schema.specs.Refusal as schema
 use Rattle.cs_profile.specs.declared.fault.SchemaFault.{SchemaFault}
 use Rattle.cs_profile.specs.declared.fault.SchemaFault.TheVariants as schema_fault
+use Rattle.cs_profile.specs.declared.keyword.Vocabulary.{Vocabulary}
 use Rattle.cs_tool.specs.First.{First}
 use Rattle.cs_tool.specs.Ready.{IsReady, RootHasManyPairs, SchemaHasManyPairs, ExportHasManyPairs}
 use Rattle.cs_tool.specs.declared.fault.Fault.{Fault}
@@ -25,31 +26,31 @@ VetRefusal sources root text (NotInteger offset false) = IsReady sources root ×
 VetRefusal sources root text (TooManyPairs items rules false) = RootHasManyPairs sources root text items rules
 VetRefusal sources root text f = First sources root f
 
--- the schema's text is read as a document, which is no schema of the profile by this fault
-pub record IsNoSchema (schema_text : List ℕ) (f : SchemaFault) : Type 0 where
+-- the schema's text is read as a document, which is no schema with only keywords that are taken, by this fault
+pub record IsNoSchema (taken : Vocabulary) (schema_text : List ℕ) (f : SchemaFault) : Type 0 where
   pub document : Document
   pub read : Reads schema_text document
-  pub refused : schema.IsRefusal f document
+  pub refused : schema.IsRefusal taken f document
 
--- the schema's text is read as a schema of the profile
-pub record IsSchemaText (schema_text : List ℕ) : Type 0 where
+-- the schema's text is read as a schema with only keywords that are taken
+pub record IsSchemaText (taken : Vocabulary) (schema_text : List ℕ) : Type 0 where
   pub document : Document
   pub read : Reads schema_text document
-  pub profile : IsSchema document
+  pub profile : IsSchema taken document
 
 -- the document's text comes after the schema's, and the pairs come last
-abbrev pub ValidateRefusal : List ℕ → List ℕ → Fault → Type 0
-ValidateRefusal schema_text text OutOfMemory = Unit {0}
-ValidateRefusal schema_text text (SchemaNotJson offset is_cut) = unread.IsRefusal (doc.NotJson offset is_cut) schema_text
-ValidateRefusal schema_text text (Keyword place name) = IsNoSchema schema_text (schema_fault.Keyword place name)
-ValidateRefusal schema_text text (Shape place name) = IsNoSchema schema_text (schema_fault.Shape place name)
-ValidateRefusal schema_text text (Reference place name) = IsNoSchema schema_text (schema_fault.Reference place name)
-ValidateRefusal schema_text text (Loop names) = IsNoSchema schema_text (schema_fault.Loop names)
-ValidateRefusal schema_text text (NotInteger offset true) = unread.IsRefusal (doc.NotInteger offset) schema_text
-ValidateRefusal schema_text text (NotInteger offset false) = IsSchemaText schema_text × unread.IsRefusal (doc.NotInteger offset) text
-ValidateRefusal schema_text text (NotJson offset is_cut) = IsSchemaText schema_text × unread.IsRefusal (doc.NotJson offset is_cut) text
-ValidateRefusal schema_text text (TooManyPairs items rules true) = SchemaHasManyPairs schema_text text items rules
-ValidateRefusal schema_text text _ = ⊥
+abbrev pub ValidateRefusal : Vocabulary → List ℕ → List ℕ → Fault → Type 0
+ValidateRefusal taken schema_text text OutOfMemory = Unit {0}
+ValidateRefusal taken schema_text text (SchemaNotJson offset is_cut) = unread.IsRefusal (doc.NotJson offset is_cut) schema_text
+ValidateRefusal taken schema_text text (Keyword place name) = IsNoSchema taken schema_text (schema_fault.Keyword place name)
+ValidateRefusal taken schema_text text (Shape place name) = IsNoSchema taken schema_text (schema_fault.Shape place name)
+ValidateRefusal taken schema_text text (Reference place name) = IsNoSchema taken schema_text (schema_fault.Reference place name)
+ValidateRefusal taken schema_text text (Loop names) = IsNoSchema taken schema_text (schema_fault.Loop names)
+ValidateRefusal taken schema_text text (NotInteger offset true) = unread.IsRefusal (doc.NotInteger offset) schema_text
+ValidateRefusal taken schema_text text (NotInteger offset false) = IsSchemaText taken schema_text × unread.IsRefusal (doc.NotInteger offset) text
+ValidateRefusal taken schema_text text (NotJson offset is_cut) = IsSchemaText taken schema_text × unread.IsRefusal (doc.NotJson offset is_cut) text
+ValidateRefusal taken schema_text text (TooManyPairs items rules true) = SchemaHasManyPairs taken schema_text text items rules
+ValidateRefusal taken schema_text text _ = ⊥
 
 -- the conditions of an export come first, then the document's text, and last its pairs with the rules of the root or of the
 -- exported schema

@@ -7,6 +7,8 @@ use Rattle.cs_guard.specs.Reachable.{Reaches}
 use Rattle.cs_instance.specs.Instance.{Rule, definition, IsInstance}
 use Rattle.cs_instance.specs.Instance as instance
 use Rattle.cs_instance.specs.Rules.{HasManyPairs}
+use Rattle.cs_profile.specs.declared.keyword.Vocabulary.{Vocabulary}
+use Rattle.cs_profile.specs.declared.keyword.Vocabulary.TheVariants as vocabularies
 use Rattle.cs_schema.specs.Keywords.{defined}
 use Rattle.cs_schema.specs.Profile.{IsSchema}
 use Rattle.cs_schema.specs.Root.{reference_to, with_definitions}
@@ -23,12 +25,12 @@ pub record IsExport (sources : List (List ℕ)) (root text : List ℕ) : Type 0 
   pub environment : Environment
   pub name : List ℕ
   pub declares : DeclaresRoot sources root environment name
-  -- the text is the compact text of a schema of the profile, nests no deeper than `most_schema_depth` (114) and is read as that schema
+  -- the text is the compact text of a schema of the default profile, nests no deeper than `most_schema_depth` (114) and is read as that schema
   pub schema : Document
   pub written : text ≡ text_of schema
   pub nested : depth schema ≤ most_schema_depth
   pub read : Reads text schema
-  pub profile : IsSchema schema
+  pub profile : IsSchema vocabularies.Default schema
   pub trimmed : trim schema ≡ schema
   -- it refers to the root's definition, and defines exactly the names that this one reaches, itself among them
   pub refers : (ds : Option Document) × (schema ≡ with_dialect (with_definitions ds (reference_to name)))
@@ -52,11 +54,11 @@ pub record IsVerdict (sources : List (List ℕ)) (root text : List ℕ) (answer 
   pub one_instance : instance.OneMeaning environment
   pub holds : (I : Rule → Document → Bool) → IsInstance environment I → answer ≡ I (definition name) document
 
--- the answer says whether the document is valid against the schema
-pub record IsValidated (schema_text text : List ℕ) (answer : Bool) : Type 0 where
+-- the answer says whether the document is valid against the schema, which has only keywords that are taken
+pub record IsValidated (taken : Vocabulary) (schema_text text : List ℕ) (answer : Bool) : Type 0 where
   pub schema : Document
   pub read_schema : Reads schema_text schema
-  pub profile : IsSchema schema
+  pub profile : IsSchema taken schema
   pub document : Document
   pub read : Reads text document
   pub proper : IsDocument document

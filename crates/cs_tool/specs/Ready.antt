@@ -5,6 +5,8 @@ use Rattle.cs_json.specs.Texts.{Reads}
 use Rattle.cs_package.specs.Environment.{Environment}
 use Rattle.cs_instance.specs.Refusal.{AreManyPairs}
 use Rattle.cs_instance.specs.Rules.{HasManyPairs}
+use Rattle.cs_profile.specs.declared.keyword.Vocabulary.{Vocabulary}
+use Rattle.cs_profile.specs.declared.keyword.Vocabulary.TheVariants as vocabularies
 use Rattle.cs_schema.specs.Profile.{IsSchema}
 use Rattle.cs_validate.specs.Refusal as invalid
 use Rattle.cs_validate.specs.Rules as validate
@@ -24,11 +26,11 @@ pub record VetInput (sources : List (List ℕ)) (root text : List ℕ) : Type 0 
   pub document : Document
   pub read : Reads text document
 
--- what `validate` judges: the schema of the profile that the one text is read as, and the document that the other is
-pub record ValidateInput (schema_text text : List ℕ) : Type 0 where
+-- what `validate` judges: the schema with only keywords that are taken that the one text is read as, and the document that the other is
+pub record ValidateInput (taken : Vocabulary) (schema_text text : List ℕ) : Type 0 where
   pub schema : Document
   pub read_schema : Reads schema_text schema
-  pub profile : IsSchema schema
+  pub profile : IsSchema taken schema
   pub document : Document
   pub read : Reads text document
 
@@ -40,8 +42,8 @@ pub record RootHasManyPairs (sources : List (List ℕ)) (root text : List ℕ) (
   pub many : AreManyPairs input.environment input.name input.document items rules
 
 -- the document has so many values and the schema so many rules, which make more pairs than a table may have
-pub record SchemaHasManyPairs (schema_text text : List ℕ) (items rules : ℕ) : Type 0 where
-  pub input : ValidateInput schema_text text
+pub record SchemaHasManyPairs (taken : Vocabulary) (schema_text text : List ℕ) (items rules : ℕ) : Type 0 where
+  pub input : ValidateInput taken schema_text text
   pub many : invalid.AreManyPairs input.schema input.document items rules
 
 -- the same of the document that the text is read as, and the exported schema
@@ -49,7 +51,7 @@ pub record ExportHasManyPairs (sources : List (List ℕ)) (root text : List ℕ)
   pub schema_text : List ℕ
   pub exported : IsExport sources root schema_text
   pub translated : IsTranslated sources root schema_text
-  pub many : SchemaHasManyPairs schema_text text items rules
+  pub many : SchemaHasManyPairs vocabularies.Default schema_text text items rules
 
 -- ---- what is answered, unless memory runs out
 
@@ -59,8 +61,8 @@ pub record IsReadyToVet (sources : List (List ℕ)) (root text : List ℕ) : Typ
   pub within : ¬ (HasManyPairs input.environment input.name input.document)
 
 -- there is what `validate` judges, and the document has no more pairs with the schema's rules than a table may have
-pub record IsReadyToValidate (schema_text text : List ℕ) : Type 0 where
-  pub input : ValidateInput schema_text text
+pub record IsReadyToValidate (taken : Vocabulary) (schema_text text : List ℕ) : Type 0 where
+  pub input : ValidateInput taken schema_text text
   pub within : ¬ (validate.HasManyPairs input.schema input.document)
 
 -- `vet` can judge, and the document has no more pairs with the exported schema's rules than a table may have

@@ -2,15 +2,17 @@
 use Rattle.std.specs.Prelude.{◌≡◌, ℕ, List}
 use Rattle.cs_document.specs.Document.{Document}
 use Rattle.cs_package.specs.Environment.{Environment}
+use Rattle.cs_profile.specs.declared.keyword.Vocabulary.{Vocabulary}
+use Rattle.cs_profile.specs.declared.keyword.Vocabulary.TheVariants as vocabularies
 use Rattle.cs_schema.specs.Trim.{trim}
 use Rattle.cs_tool.specs.Accepted.{DeclaresRoot}
 use Rattle.cs_tool.specs.Headline.{IsExport}
 use Rattle.cs_tool.specs.Translated.{IsTranslated}
 use Rattle.cs_tool.specs.CallRefusals.{IsSchemaText}
 
--- the text is that of a schema, which is this one when it is trimmed
-pub record IsSchemaOf (schema_text : List ℕ) (schema : Document) : Type 0 where
-  pub text : IsSchemaText schema_text
+-- the text is that of a schema with only keywords that are taken, which is this one when it is trimmed
+pub record IsSchemaOf (taken : Vocabulary) (schema_text : List ℕ) (schema : Document) : Type 0 where
+  pub text : IsSchemaText taken schema_text
   pub trimmed : schema ≡ trim text.document
 
 -- the sources declare the root as this definition, and the schema is that of the exported text
@@ -19,4 +21,4 @@ pub record AreSidesOf (sources : List (List ℕ)) (root : List ℕ) (E : Environ
   pub schema_text : List ℕ
   pub exported : IsExport sources root schema_text
   pub translated : IsTranslated sources root schema_text
-  pub read : IsSchemaOf schema_text schema
+  pub read : IsSchemaOf vocabularies.Default schema_text schema

@@ -1,5 +1,6 @@
 // The calls that judge one document.
 ghost use Rattle.std.specs.Prelude.{IfOk, IfErr, IsOkUnless};
+ghost use Rattle.cs_profile.specs.declared.keyword.Vocabulary.TheVariants as vocabularies;
 ghost use Rattle.cs_tool.specs.Given.{bytes_in};
 ghost use Rattle.cs_tool.specs.Headline.{IsVerdict, IsValidated};
 ghost use Rattle.cs_tool.specs.Agreement.{IsAgreement};
@@ -11,6 +12,7 @@ use crate::judgements::{judge_both, judge_root, judge_schema};
 use crate::numbering::{number_root, number_schema};
 use crate::read_rules::{read_both, read_root, read_schema_text};
 use cs_json::Scratch;
+use cs_profile::Vocabulary;
 use cs_table::Verdicts;
 use std::alloc::Global;
 
@@ -30,16 +32,36 @@ pub fn vet(alloc: Global, sources: &[&[u8]], root: &str, doc: &[u8]) -> Result<b
     judge_root(&rules, alloc, doc, &mut scratch, &mut Verdicts::new(alloc))
 }
 
-/// Whether the document is valid against the schema.
+/// Whether the document is valid against the schema, which has only keywords of the default profile.
 ///
-/// Refusals in order: `SchemaNotJson` and `NotInteger`, of the schema's text; those of a schema outside the
-/// profile; `NotJson` and `NotInteger`, of the document; then `TooManyPairs`, of the document and the schema's rules.
+/// Refusals: those of [`validate_by`] with the default vocabulary.
 pub fn validate(alloc: Global, schema: &[u8], doc: &[u8]) -> Result<bool, Fault>
-    ensures found { IfOk result (λ b. IsValidated schema.now doc.now b) }
-    ensures refused { IfErr result (λ e. ValidateRefusal schema.now doc.now e) }
-    ensures only { IsReadyToValidate schema.now doc.now → IsOkUnless result Fault.OutOfMemory }
+    ensures found { IfOk result (λ b. IsValidated vocabularies.Default schema.now doc.now b) }
+    ensures refused { IfErr result
+        (λ e. ValidateRefusal vocabularies.Default schema.now doc.now e) }
+    ensures only { IsReadyToValidate vocabularies.Default schema.now doc.now
+        → IsOkUnless result Fault.OutOfMemory }
 {
-    let schema = read_schema_text(alloc, schema)?;
+    validate_by(alloc, Vocabulary::Default, schema, doc)
+}
+
+/// Whether the document is valid against the schema, which has only keywords of the vocabulary.
+///
+/// Refusals in order: `SchemaNotJson` and `NotInteger`, of the schema's text; those of a schema outside the profile, or with
+/// a keyword that the vocabulary hasn't; `NotJson` and `NotInteger`, of the document; then `TooManyPairs`, of the document
+/// and the schema's rules.
+pub fn validate_by(
+    alloc: Global,
+    vocabulary: Vocabulary,
+    schema: &[u8],
+    doc: &[u8],
+) -> Result<bool, Fault>
+    ensures found { IfOk result (λ b. IsValidated vocabulary schema.now doc.now b) }
+    ensures refused { IfErr result (λ e. ValidateRefusal vocabulary schema.now doc.now e) }
+    ensures only { IsReadyToValidate vocabulary schema.now doc.now
+        → IsOkUnless result Fault.OutOfMemory }
+{
+    let schema = read_schema_text(alloc, vocabulary, schema)?;
     let rules = number_schema(alloc, &schema)?;
     let mut scratch = Scratch::new(alloc);
     judge_schema(&rules, alloc, doc, &mut scratch, &mut Verdicts::new(alloc))

@@ -3,7 +3,6 @@ ghost use Rattle.std.specs.Prelude.{◌≡◌, ℕ, ◌≤◌, List, IfOk, IfErr
 ghost use Rattle.cs_document.specs.Document.{depth};
 ghost use Rattle.cs_json.specs.Texts.{Reads, text_of};
 ghost use Rattle.cs_package.specs.Environment.{Names};
-ghost use Rattle.cs_schema.specs.Profile.{IsSchema};
 ghost use Rattle.cs_schema.specs.SchemaDocument.{document_of};
 ghost use Rattle.cs_schema.specs.Trim.{trim};
 ghost use Rattle.cs_tool.specs.Accepted.{IsAccepted};
@@ -58,7 +57,6 @@ pub(crate) fn exported(alloc: Global, guarded: &Guarded, root: &str) -> Result<V
 fn text_of_schema(alloc: Global, schema: &SchemaDoc) -> Result<Vec<u8>, Fault>
     ensures found { IfOk result (λ text. (text.items ≡ text_of (document_of schema.now))
         × (depth (document_of schema.now) ≤ 127 → Reads text.items (document_of schema.now))) }
-    ensures profile { IsSchema (document_of schema.now) }
     ensures trimmed { trim (document_of schema.now) ≡ document_of schema.now }
     ensures memory { IsOkUnless result Fault.OutOfMemory }
 {

@@ -1,5 +1,6 @@
 // Judging the document of a text by numbered rules. The memory of `scratch` and `table` is used again.
 ghost use Rattle.std.specs.Prelude.{ℕ, List, IfOk, IfErr, IsOkUnless};
+ghost use Rattle.cs_profile.specs.declared.keyword.Vocabulary.{Vocabulary};
 ghost use Rattle.cs_tool.specs.Accepted.{DeclaresRoot};
 ghost use Rattle.cs_tool.specs.Agreement.{IsAgreement};
 ghost use Rattle.cs_tool.specs.CallRefusals.{VetRefusal, ValidateRefusal, AgreeRefusal};
@@ -37,7 +38,7 @@ pub fn judge_root(
     Ok(is_instance(rules, alloc, &doc, table)?)
 }
 
-/// Whether the document is valid against the schema, as `validate` answers.
+/// Whether the document is valid against the schema, as `validate_by` answers.
 pub fn judge_schema(
     rules: &SchemaRules<'_>,
     alloc: Global,
@@ -45,12 +46,12 @@ pub fn judge_schema(
     scratch: &mut Scratch,
     table: &mut Verdicts,
 ) -> Result<bool, Fault>
-    ensures found { (schema : List ℕ) → IsSchemaOf schema rules.now
-        → IfOk result (λ b. IsValidated schema text.now b) }
-    ensures refused { (schema : List ℕ) → IsSchemaOf schema rules.now
-        → IfErr result (λ e. ValidateRefusal schema text.now e) }
-    ensures only { (schema : List ℕ) → IsSchemaOf schema rules.now
-        → IsReadyToValidate schema text.now → IsOkUnless result Fault.OutOfMemory }
+    ensures found { (taken : Vocabulary) (schema : List ℕ) → IsSchemaOf taken schema rules.now
+        → IfOk result (λ b. IsValidated taken schema text.now b) }
+    ensures refused { (taken : Vocabulary) (schema : List ℕ) → IsSchemaOf taken schema rules.now
+        → IfErr result (λ e. ValidateRefusal taken schema text.now e) }
+    ensures only { (taken : Vocabulary) (schema : List ℕ) → IsSchemaOf taken schema rules.now
+        → IsReadyToValidate taken schema text.now → IsOkUnless result Fault.OutOfMemory }
 {
     let doc = read_document(alloc, text, scratch)?;
     Ok(is_valid(rules, alloc, &doc, table)?)

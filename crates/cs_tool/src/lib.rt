@@ -21,8 +21,9 @@ mod slices;
 mod verdicts;
 mod writes;
 
-pub use calls::{agree, validate, vet};
+pub use calls::{agree, validate, validate_by, vet};
 pub use commands::command;
+pub use cs_profile::Vocabulary;
 pub use earlier::earlier_law;
 pub use exports::export;
 pub use fault::Fault;

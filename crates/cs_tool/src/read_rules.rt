@@ -13,6 +13,7 @@ use crate::exports::exported;
 use crate::packages::accepted_package;
 use cs_guard::Guarded;
 use cs_json::read_doc;
+use cs_profile::Vocabulary;
 use cs_schema::{SchemaDoc, read_schema};
 use std::alloc::Global;
 
@@ -30,14 +31,20 @@ pub fn read_root(alloc: Global, sources: &[&[u8]], root: &str) -> Result<Guarded
     Ok(guarded)
 }
 
-/// The schema of a schema's text, trimmed. Its refusals hold whatever the document is.
-pub fn read_schema_text(alloc: Global, text: &[u8]) -> Result<SchemaDoc, Fault>
-    ensures found { IfOk result (λ s. IsSchemaOf text.now (document_of s)) }
-    ensures refused { (doc : List ℕ) → IfErr result (λ e. ValidateRefusal text.now doc e) }
-    ensures only { IsSchemaText text.now → IsOkUnless result Fault.OutOfMemory }
+/// The schema of a schema's text, trimmed, which has only keywords of the vocabulary. Its refusals hold whatever the document
+/// is.
+pub fn read_schema_text(
+    alloc: Global,
+    vocabulary: Vocabulary,
+    text: &[u8],
+) -> Result<SchemaDoc, Fault>
+    ensures found { IfOk result (λ s. IsSchemaOf vocabulary text.now (document_of s)) }
+    ensures refused { (doc : List ℕ)
+        → IfErr result (λ e. ValidateRefusal vocabulary text.now doc e) }
+    ensures only { IsSchemaText vocabulary text.now → IsOkUnless result Fault.OutOfMemory }
 {
     match read_doc(alloc, text) {
-        Ok(doc) => Ok(read_schema(alloc, &doc)?),
+        Ok(doc) => Ok(read_schema(alloc, vocabulary, &doc)?),
         Err(fault) => Err(of_schema_text(fault)),
     }
 }
@@ -54,6 +61,10 @@ pub fn read_both(
     ensures only { IsReady (bytes_in sources.now) root.now → IsOkUnless result Fault.OutOfMemory }
 {
     let guarded = accepted_package(alloc, sources)?;
-    let schema = read_schema_text(alloc, &exported(alloc, &guarded, root)?)?;
+    let schema = read_schema_text(
+        alloc,
+        Vocabulary::Default,
+        &exported(alloc, &guarded, root)?,
+    )?;
     Ok((guarded, schema))
 }

@@ -15,7 +15,7 @@ pub enum Request {
         root: String,
         doc: Vec<u8>,
     },
-    /// Whether the document is valid against the schema.
+    /// Whether the document is valid against the schema, which has only keywords of the default profile.
     Validate {
         schema: Vec<u8>,
         doc: Option<Vec<u8>>,

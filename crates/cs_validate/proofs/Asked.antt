@@ -1,11 +1,11 @@
 -- What the keywords of an object ask, put together.
 use Rattle.std.proofs.Common.{rules, ◌≡◌, ℕ, zero, suc, ◌+◌, ◌<◌, ◌≤◌, ℤ, pos, negsuc, Bool, true, false, ◌&&◌, List, [], ◌∷◌, ◌++◌, Option, Some, None, length, drop, option_map, refl, sym, ap, ap₂, ◌∙◌, arith}
-use Rattle.std.specs.Prelude.{IfSome, option_to_list}
+use Rattle.std.specs.Prelude.{IfSome, option_to_list, slice_get}
 use Rattle.std.specs.List.{list_all, flat_map, AllByRecursion as Each}
 use Rattle.std.proofs.Math.Bool.{and-true, and_assoc}
 use Rattle.std.proofs.lemmas.List.Folds.{list_all-append}
 use Rattle.cs_document.specs.Document.{Document, Entry}
-use Rattle.cs_document.specs.Opened.{Opened, an_integer, a_list, an_object}
+use Rattle.cs_document.specs.Opened.{Opened, an_integer, a_text, a_list, an_object}
 use Rattle.cs_document.proofs.Each.{each_of, each_under, all_same as each_same, all_true}
 use Rattle.cs_profile.specs.Keywords.{name_of, all_keywords}
 use Rattle.cs_profile.specs.declared.keyword.Keyword.{Keyword}
@@ -14,10 +14,12 @@ use Rattle.cs_profile.proofs.Names.{by_name, each_named, every_keyword}
 use Rattle.cs_profile.specs.Constraint.{Assertion, valid_by, at_keys, at_other_keys, in_front, behind, valid_by_all, valid_by_any, not_valid_by}
 use Rattle.cs_profile.specs.Validity.{if_number, if_array, if_object, if_there, front_holds, holds}
 use Rattle.cs_profile.specs.Numbered.{numbered as numbers_from, names_in}
+use Rattle.cs_rules.specs.Lengths.{AreLengths, tells}
+use Rattle.cs_rules.specs.declared.known.Known.{Known}
 use Rattle.cs_validate.specs.declared.rules.Conjunction.{Conjunction}
 use Rattle.cs_validate.specs.Numbering.{ClaimBelow}
 use Rattle.cs_validate.specs.Steps.{claim_of, claims_of, places_from, unless_empty, of_count, items_place, prefix_place, properties_place}
-use Rattle.cs_validate.specs.Asked.{asks_any, asks_integer, asks_here, if_count, asks_list, asks_map, asks_kind, AreBelowHere, AreBelowInside}
+use Rattle.cs_validate.specs.Asked.{asks_any, asks_integer, asks_text, asks_here, if_count, asks_list, asks_map, asks_kind, TellsOf, AreBelowHere, AreBelowInside}
 
 -- ---- places one after another
 
@@ -46,6 +48,12 @@ module _ {X : Type 0} where
   places_next m [] i p l h = absurd (omega (arith, l))
   places_next m (x ∷ xs) zero p l h = h.1
   places_next m (x ∷ xs) (suc i) p l h = places_next m xs i p (omega (arith, l)) h
+
+-- ---- how long a value is
+
+pub tells_of : (items : List (Opened ℕ)) (k : Known) (x : Opened ℕ) → AreLengths items k.lengths.now → slice_get items k.item ≡ Some x → TellsOf k x
+tells_of items k (a_text s) h e = tells items k.lengths.now k.item s h e
+tells_of items k _ h e = tt
 
 -- ---- claims that stand
 
@@ -90,14 +98,17 @@ here_keywords = keyword.Ref ∷ keyword.AllOf ∷ keyword.AnyOf ∷ keyword.Not 
 abbrev integer_keywords : List Keyword
 integer_keywords = keyword.ExclusiveMaximum ∷ keyword.Maximum ∷ keyword.ExclusiveMinimum ∷ keyword.Minimum ∷ []
 
+abbrev text_keywords : List Keyword
+text_keywords = keyword.MaxLength ∷ keyword.MinLength ∷ []
+
 abbrev list_keywords : List Keyword
-list_keywords = keyword.MinItems ∷ keyword.PrefixItems ∷ keyword.Items ∷ []
+list_keywords = keyword.MaxItems ∷ keyword.MinItems ∷ keyword.PrefixItems ∷ keyword.Items ∷ []
 
 abbrev map_keywords : List Keyword
-map_keywords = keyword.Required ∷ keyword.Properties ∷ keyword.AdditionalProperties ∷ []
+map_keywords = keyword.MaxProperties ∷ keyword.MinProperties ∷ keyword.Required ∷ keyword.Properties ∷ keyword.AdditionalProperties ∷ []
 
 abbrev kind_keywords : List Keyword
-kind_keywords = integer_keywords ++ (list_keywords ++ map_keywords)
+kind_keywords = integer_keywords ++ (text_keywords ++ (list_keywords ++ map_keywords))
 
 abbrev silent_keywords : List Keyword
 silent_keywords = keyword.Comment ∷ keyword.Defs ∷ keyword.Description ∷ keyword.Schema ∷ keyword.Title ∷ []
@@ -125,6 +136,10 @@ front_any : {H K : Type 0} (here : H → Bool) (here' : K → Bool) (inside : �
 front_any here here' inside [] ys = refl
 front_any here here' inside (p ∷ ps) [] = refl
 front_any here here' inside (p ∷ ps) (y ∷ ys) = ap (λ b. inside y p && b) (front_any here here' inside ps ys)
+
+abbrev if_text : (List ℕ → Bool) → Opened ℕ → Bool
+if_text p (a_text s) = p s
+if_text p _ = true
 
 both : {a a' b b' : Bool} → a ≡ a' → b ≡ b' → (a && b) ≡ (a' && b')
 both e f = ap₂ ◌&&◌ e f
@@ -166,6 +181,10 @@ module _ (here : ℕ → Bool) (inside : ℕ → ℕ → Bool) (d : Document) (c
   integer_same (an_integer z) = simp (and_assoc, and-true) (search same)
   integer_same _ = search none
 
+  text_same : (x : Opened ℕ) → claimed_all x text_keywords ≡ if_text (asks_text c.keywords.now) x
+  text_same (a_text s) = simp and-true (search same)
+  text_same _ = search none
+
   list_same : (x : Opened ℕ) → claimed_all x list_keywords ≡ if_array (asks_list inside c) x
   list_same (a_list ys) = simp (and_assoc, and-true) (search same)
   list_same _ = search none
@@ -174,15 +193,19 @@ module _ (here : ℕ → Bool) (inside : ℕ → ℕ → Bool) (d : Document) (c
   map_same (an_object ms) = simp (and_assoc, and-true) (search same)
   map_same _ = search none
 
-  one_kind : (x : Opened ℕ) → (if_number (asks_integer c.keywords.now) x && (if_array (asks_list inside c) x && if_object (asks_map inside c) x)) ≡ asks_kind inside c x
+  one_kind : (x : Opened ℕ)
+      → (if_number (asks_integer c.keywords.now) x && (if_text (asks_text c.keywords.now) x && (if_array (asks_list inside c) x && if_object (asks_map inside c) x))) ≡ asks_kind inside c x
   one_kind (an_integer z) = and-true (asks_integer c.keywords.now z)
+  one_kind (a_text s) = and-true (asks_text c.keywords.now s)
   one_kind (a_list ys) = and-true (asks_list inside c ys)
   one_kind _ = refl
 
   kind_same : (x : Opened ℕ) → claimed_all x kind_keywords ≡ asks_kind inside c x
   kind_same x =
-      list_all-append (claimed x) integer_keywords (list_keywords ++ map_keywords)
-      ∙ both (integer_same x) (list_all-append (claimed x) list_keywords map_keywords ∙ both (list_same x) (map_same x))
+      list_all-append (claimed x) integer_keywords (text_keywords ++ (list_keywords ++ map_keywords))
+      ∙ both (integer_same x)
+      (list_all-append (claimed x) text_keywords (list_keywords ++ map_keywords)
+      ∙ both (text_same x) (list_all-append (claimed x) list_keywords map_keywords ∙ both (list_same x) (map_same x)))
       ∙ one_kind x
 
   pub claims_hold : (x : Opened ℕ) → list_all (passes x) (flat_map option_to_list (claims_of c)) ≡ (asks_any c d x && (asks_here here c && asks_kind inside c x))

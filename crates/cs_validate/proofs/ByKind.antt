@@ -13,7 +13,7 @@ use Rattle.cs_rules.specs.Kinds.{both, either, decided_by, verdict_of, AreDecide
 use Rattle.cs_rules.specs.declared.by_kind.ByKind.{ByKind}
 use Rattle.cs_rules.proofs.Foretold.{both_decides, either_decides, negated_decides}
 use Rattle.cs_validate.specs.declared.rules.Conjunction.{Conjunction}
-use Rattle.cs_validate.specs.Asked.{asks_type, asks_any, asks_reference, asks_alternative, asks_integer, asks_list, asks_map, asks_kind}
+use Rattle.cs_validate.specs.Asked.{asks_type, asks_any, asks_reference, asks_alternative, asks_integer, asks_text, asks_list, asks_map, asks_kind}
 use Rattle.cs_validate.specs.Kinds.{if_asked, equals_by_kind, among_by_kind, any_by_kind, reference_by_kind, negation_by_kind}
 
 -- the map without members has no key
@@ -119,14 +119,15 @@ then_true true b e = (refl, (let f : Some true ≡ Some b = e in cc))
 then_true false b e = cc
 
 -- where nothing is asked of a kind, its values are valid by the keywords of their kind
-module _ (c : Conjunction) (k : ByKind) (n : k.null ≡ Some true) (t : k.boolean ≡ Some true) (s : k.text ≡ Some true) (i l m : Bool)
+module _ (c : Conjunction) (k : ByKind) (n : k.null ≡ Some true) (t : k.boolean ≡ Some true) (i s l m : Bool)
     (ints : (k.integer ≡ then_some i true) × (i ≡ true → (z : ℤ) → asks_integer c.keywords.now z ≡ true))
+    (texts : (k.text ≡ then_some s true) × (s ≡ true → (u : List ℕ) → asks_text c.keywords.now u ≡ true))
     (lists : (k.list ≡ then_some l true) × (l ≡ true → (inside : ℕ → ℕ → Bool) (ys : List ℕ) → asks_list inside c ys ≡ true))
     (maps : (k.object ≡ then_some m true) × (m ≡ true → (inside : ℕ → ℕ → Bool) (ms : List (Entry ℕ)) → asks_map inside c ms ≡ true)) where
   pub absence_decides : (x : Opened ℕ) (inside : ℕ → ℕ → Bool) → Decides (verdict_of k x) (asks_kind inside c x)
   absence_decides a_null inside b e = (let f : Some true ≡ Some b = sym n ∙ e in cc)
   absence_decides (a_boolean v) inside b e = (let f : Some true ≡ Some b = sym t ∙ e in cc)
-  absence_decides (a_text v) inside b e = (let f : Some true ≡ Some b = sym s ∙ e in cc)
   absence_decides (an_integer z) inside b e = let f = then_true i b (sym ints.0 ∙ e) in ints.1 f.0 z ∙ f.1
+  absence_decides (a_text u) inside b e = let f = then_true s b (sym texts.0 ∙ e) in texts.1 f.0 u ∙ f.1
   absence_decides (a_list ys) inside b e = let f = then_true l b (sym lists.0 ∙ e) in lists.1 f.0 inside ys ∙ f.1
   absence_decides (an_object ms) inside b e = let f = then_true m b (sym maps.0 ∙ e) in maps.1 f.0 inside ms ∙ f.1

@@ -1,26 +1,29 @@
 -- What each keyword asks, over small lists of numbers, worked by the definitions. A wrong expectation stops the check here.
-use Rattle.std.proofs.Common.{◌≡◌, ◌+◌, ◌*◌, ℕ, ℤ, pos, negsuc, Bool, true, false, List, [], ◌∷◌, Some, None, map, length, codes, nat_eq, nat_lt, nat_le, refl, arith}
+use Rattle.std.proofs.Common.{◌≡◌, ◌+◌, ◌*◌, ℕ, ℤ, pos, negsuc, Bool, true, false, List, [], ◌∷◌, Some, None, map, length, codes, nat_eq, nat_lt, refl, arith}
 use Rattle.std.specs.Prelude.{String}
 use Rattle.std.specs.declared.alloc.Global.{Global}
 use Rattle.cs_document.specs.Document.{Document, null, boolean, text}
 use Rattle.cs_document.specs.Opened.{Opened, a_null, a_boolean, an_integer, a_text, a_list, an_object}
+use Rattle.cs_document.specs.Sizes.{Counted, Characters, Elements, Keys}
 use Rattle.cs_document.specs.View.{doc_view}
 use Rattle.cs_document.specs.declared.doc.Doc.{Doc}
 use Rattle.cs_document.proofs.SampleDocuments.{number, array, map_of}
 use Rattle.cs_flat.specs.Nodes.{nodes}
 use Rattle.cs_profile.specs.Keywords as keyword
-use Rattle.cs_profile.specs.Constraint.{texts_in, Assertion, nothing, valid_by, has_kind, equals, is_among, at_least, at_most, above, below, has_keys, at_keys, at_other_keys, in_front, behind, at_least_long, valid_by_all, valid_by_any, not_valid_by, always, never, conjunction}
+use Rattle.cs_profile.specs.Constraint.{texts_in, Assertion, nothing, valid_by, has_kind, equals, is_among, at_least, at_most, above, below, has_keys, at_keys, at_other_keys, in_front, behind, at_least_long, at_most_long, valid_by_all, valid_by_any, not_valid_by, always, never, conjunction}
 use Rattle.cs_profile.specs.Validity.{holds}
 use Rattle.cs_profile.specs.Numbered.{numbered as numbers_from}
+use Rattle.cs_profile.specs.declared.keyword.Keyword.TheVariants as word
+use Rattle.cs_profile.specs.declared.schema.Keywords.{Keywords}
 use Rattle.cs_profile.specs.declared.schema.Schema.{Schema}
 use Rattle.cs_profile.specs.declared.schema.JsonKind.TheVariants as kind
 use Rattle.cs_validate.specs.declared.rules.Conjunction.{Conjunction}
 use Rattle.cs_validate.specs.Numbering.{map_constraint, said, PartsBelow}
 use Rattle.cs_validate.specs.Rules.{rules_of, HasManyPairs}
-use Rattle.cs_validate.specs.Steps.{kind_of, unless_empty, of_count, places_from, items_place, prefix_place, properties_place}
-use Rattle.cs_validate.specs.Asked.{if_count}
+use Rattle.cs_validate.specs.Steps.{kind_of, unless_empty, of_count, places_from, items_place, prefix_place, properties_place, claim_of}
+use Rattle.cs_validate.specs.Asked.{is_at_most_long, is_at_least_long, asks_text, asks_list, asks_map}
 use Rattle.cs_validate.specs.Kinds.{equals_by_kind, among_by_kind, any_by_kind, reference_by_kind, negation_by_kind}
-use Rattle.cs_validate.specs.Marked.{integers_in, texts_of, integers_of}
+use Rattle.cs_validate.specs.Marked.{integers_in, count_in, lengths_of, texts_of, integers_of}
 use Rattle.cs_rules.specs.Steps.{Step}
 use Rattle.cs_rules.specs.Alike.{Compared, AreAlike, IsToldBy}
 use Rattle.cs_rules.specs.declared.by_kind.ByKind.{ByKind}
@@ -100,17 +103,76 @@ around_three : map (λ z. each_holds null (an_integer z) limits) (negsuc 3 ∷ p
     ≡ (false ∷ true ∷ false ∷ true ∷ []) ∷ (false ∷ true ∷ false ∷ true ∷ []) ∷ (true ∷ true ∷ false ∷ false ∷ []) ∷ (true ∷ false ∷ true ∷ false ∷ []) ∷ []
 around_three = refl
 
+-- ---- lengths (Validation, sections 6.3 to 6.5)
+
+-- U+1F600 is one character of four bytes, and an "e" with a combining accent are two of three
+abbrev face : List ℕ
+face = 240 ∷ 159 ∷ 152 ∷ 128 ∷ []
+
+abbrev accented : List ℕ
+accented = 101 ∷ 204 ∷ 129 ∷ []
+
+abbrev up_to_three : (ℕ → Assertion ℕ ℕ) → List (Assertion ℕ ℕ)
+up_to_three f = map f (0 ∷ 1 ∷ 2 ∷ 3 ∷ [])
+
+long_texts : map (λ s. each_holds null (a_text s) (up_to_three (at_least_long Characters))) ([] ∷ face ∷ accented ∷ [])
+    ≡ (true ∷ false ∷ false ∷ false ∷ []) ∷ (true ∷ true ∷ false ∷ false ∷ []) ∷ (true ∷ true ∷ true ∷ false ∷ []) ∷ []
+long_texts = refl
+
+short_texts : map (λ s. each_holds null (a_text s) (up_to_three (at_most_long Characters))) ([] ∷ face ∷ accented ∷ codes "abc" ∷ [])
+    ≡ (true ∷ true ∷ true ∷ true ∷ []) ∷ (false ∷ true ∷ true ∷ true ∷ []) ∷ (false ∷ false ∷ true ∷ true ∷ []) ∷ (false ∷ false ∷ false ∷ true ∷ []) ∷ []
+short_texts = refl
+
+long_lists : map (λ ys. each_holds null (a_list ys) (up_to_three (at_least_long Elements))) ([] ∷ (5 ∷ 5 ∷ []) ∷ []) ≡ (true ∷ false ∷ false ∷ false ∷ []) ∷ (true ∷ true ∷ true ∷ false ∷ []) ∷ []
+long_lists = refl
+
+short_lists : map (λ ys. each_holds null (a_list ys) (up_to_three (at_most_long Elements))) ([] ∷ (5 ∷ 5 ∷ []) ∷ []) ≡ (true ∷ true ∷ true ∷ true ∷ []) ∷ (false ∷ false ∷ true ∷ true ∷ []) ∷ []
+short_lists = refl
+
+long_maps : map (λ x. each_holds null x (up_to_three (at_least_long Keys))) (an_object [] ∷ mapped ∷ []) ≡ (true ∷ false ∷ false ∷ false ∷ []) ∷ (true ∷ true ∷ true ∷ false ∷ []) ∷ []
+long_maps = refl
+
+short_maps : map (λ x. each_holds null x (up_to_three (at_most_long Keys))) (an_object [] ∷ mapped ∷ []) ≡ (true ∷ true ∷ true ∷ true ∷ []) ∷ (false ∷ false ∷ true ∷ true ∷ []) ∷ []
+short_maps = refl
+
+-- what isn't of the kind is valid: "a", [.., .., ..] and {"a": .., "b": ..} are too short for these, and too long for those
+abbrev of_each_count : (Counted → Assertion ℕ ℕ) → List (Assertion ℕ ℕ)
+of_each_count f = map f (Characters ∷ Elements ∷ Keys ∷ [])
+
+other_lengths : (map (λ x. each_holds null x (of_each_count (λ c. at_least_long c 9))) (a_null ∷ a_boolean true ∷ an_integer (pos 0) ∷ a_text A ∷ listed ∷ mapped ∷ [])
+    ≡ (true ∷ true ∷ true ∷ []) ∷ (true ∷ true ∷ true ∷ []) ∷ (true ∷ true ∷ true ∷ []) ∷ (false ∷ true ∷ true ∷ []) ∷ (true ∷ false ∷ true ∷ []) ∷ (true ∷ true ∷ false ∷ []) ∷ [])
+    × (map (λ x. each_holds null x (of_each_count (λ c. at_most_long c 0))) (a_null ∷ a_boolean true ∷ an_integer (pos 9) ∷ a_text A ∷ listed ∷ mapped ∷ [])
+    ≡ (true ∷ true ∷ true ∷ []) ∷ (true ∷ true ∷ true ∷ []) ∷ (true ∷ true ∷ true ∷ []) ∷ (false ∷ true ∷ true ∷ []) ∷ (true ∷ false ∷ true ∷ []) ∷ (true ∷ true ∷ false ∷ []) ∷ [])
+other_lengths = (refl, refl)
+
+-- a limit below zero, which no schema document has, asks nothing, and so does none
+limits_of_lengths : (map (λ o. is_at_least_long o 3) (None ∷ Some (negsuc 4) ∷ Some (pos 0) ∷ Some (pos 3) ∷ Some (pos 4) ∷ []) ≡ true ∷ true ∷ true ∷ true ∷ false ∷ [])
+    × (map (λ o. is_at_most_long o 3) (None ∷ Some (negsuc 4) ∷ Some (pos 2) ∷ Some (pos 3) ∷ Some (pos 4) ∷ []) ≡ true ∷ true ∷ false ∷ true ∷ true ∷ [])
+limits_of_lengths = (refl, refl)
+
+counts_alone : map (of_count {H = ℕ} {I = ℕ} (at_least_long Elements)) (pos 3 ∷ negsuc 0 ∷ []) ≡ at_least_long Elements 3 ∷ nothing ∷ []
+counts_alone = refl
+
+module _ (c : Conjunction) where
+  length_claims : c.keywords.now.max_items ≡ Some (pos 1) → c.keywords.now.max_length ≡ Some (pos 2) → c.keywords.now.max_properties ≡ Some (pos 3)
+      → c.keywords.now.min_items ≡ Some (pos 4) → c.keywords.now.min_length ≡ Some (pos 5) → c.keywords.now.min_properties ≡ Some (pos 6)
+      → map (claim_of c) (word.MaxItems ∷ word.MaxLength ∷ word.MaxProperties ∷ word.MinItems ∷ word.MinLength ∷ word.MinProperties ∷ [])
+      ≡ Some (at_most_long Elements 1) ∷ Some (at_most_long Characters 2) ∷ Some (at_most_long Keys 3) ∷ Some (at_least_long Elements 4) ∷ Some (at_least_long Characters 5) ∷ Some (at_least_long Keys 6) ∷ []
+  length_claims e f g h i j = rw (e, f, g, h, i, j) refl
+
+  lists_asked : c.keywords.now.max_items ≡ Some (pos 2) → c.keywords.now.min_items ≡ Some (pos 1) → c.keywords.now.prefix.items ≡ [] → c.keywords.now.rest ≡ None
+      → map (asks_list nat_eq c) ([] ∷ (5 ∷ []) ∷ (5 ∷ 6 ∷ []) ∷ (5 ∷ 6 ∷ 7 ∷ []) ∷ []) ≡ false ∷ true ∷ true ∷ false ∷ []
+  lists_asked e f g h = rw (e, f, g, h) refl
+
+  maps_asked : c.keywords.now.max_properties ≡ Some (pos 1) → c.keywords.now.min_properties ≡ Some (pos 1) → c.required ≡ [] → c.keywords.now.properties.entries ≡ [] → c.keywords.now.additional ≡ None
+      → map (asks_map nat_eq c) ([] ∷ ((A, 1) ∷ []) ∷ ((A, 1) ∷ (B, 2) ∷ []) ∷ []) ≡ false ∷ true ∷ false ∷ []
+  maps_asked e f g h i = rw (e, f, g, h, i) refl
+
+module _ (k : Keywords) where
+  texts_asked : k.max_length ≡ Some (pos 2) → k.min_length ≡ Some (pos 1) → map (asks_text k) ([] ∷ face ∷ accented ∷ (101 ∷ 204 ∷ 129 ∷ 97 ∷ []) ∷ []) ≡ false ∷ true ∷ true ∷ false ∷ []
+  texts_asked e f = rw (e, f) refl
+
 -- ---- lists (Validation, section 6.4; Core, section 10.3.1)
-
-lengths : each_holds null listed (at_least_long 0 ∷ at_least_long 3 ∷ at_least_long 4 ∷ []) ≡ true ∷ true ∷ false ∷ []
-lengths = refl
-
--- a length below zero, which no schema document has, asks nothing
-lengths_of : map (if_count (λ l. nat_le l 3)) (negsuc 4 ∷ pos 0 ∷ pos 3 ∷ pos 4 ∷ []) ≡ true ∷ true ∷ true ∷ false ∷ []
-lengths_of = refl
-
-length_claims : map (of_count {H = ℕ} {I = ℕ} at_least_long) (pos 3 ∷ negsuc 0 ∷ []) ≡ at_least_long 3 ∷ nothing ∷ []
-length_claims = refl
 
 -- an element that isn't there is asked for by nothing
 fronts : each_holds null listed (in_front [] ∷ in_front (5 ∷ 6 ∷ []) ∷ in_front (5 ∷ 7 ∷ []) ∷ in_front (5 ∷ 6 ∷ 7 ∷ 9 ∷ []) ∷ []) ≡ true ∷ true ∷ false ∷ true ∷ []
@@ -134,7 +196,7 @@ additional = refl
 -- ---- values of other kinds
 
 abbrev of_lists_and_maps : List (Assertion ℕ ℕ)
-of_lists_and_maps = at_least_long 9 ∷ in_front (9 ∷ []) ∷ behind 0 9 ∷ has_keys (A ∷ []) ∷ at_keys ((A, 9) ∷ []) ∷ at_other_keys [] 9 ∷ []
+of_lists_and_maps = at_least_long Elements 9 ∷ in_front (9 ∷ []) ∷ behind 0 9 ∷ has_keys (A ∷ []) ∷ at_keys ((A, 9) ∷ []) ∷ at_other_keys [] 9 ∷ []
 
 other_kinds : map (λ x. each_holds null x of_lists_and_maps) (a_null ∷ a_boolean true ∷ an_integer (pos 0) ∷ a_text A ∷ a_list [] ∷ an_object [] ∷ [])
     ≡ (true ∷ true ∷ true ∷ true ∷ true ∷ true ∷ [])
@@ -212,29 +274,42 @@ marked_integers = refl
 module _ (c : Conjunction) (v : Doc) where
   all_marked : c.keywords.now.equal ≡ Some v → doc_view v ≡ number 7 → c.one_of ≡ Some (text A ∷ number 1 ∷ [])
       → c.keywords.now.maximum ≡ Some (pos 9) → c.keywords.now.minimum ≡ Some (pos 2) → c.keywords.now.below ≡ None → c.keywords.now.above ≡ Some (negsuc 0)
-      → (texts_of c ≡ A ∷ []) × (integers_of c ≡ pos 7 ∷ pos 1 ∷ pos 9 ∷ pos 2 ∷ negsuc 0 ∷ [])
-  all_marked e is f g h i j = rw (e, is, f, g, h, i, j) (refl, refl)
+      → c.keywords.now.max_length ≡ Some (pos 5) → c.keywords.now.min_length ≡ Some (pos 4)
+      → (texts_of c ≡ A ∷ []) × (integers_of c ≡ pos 7 ∷ pos 1 ∷ pos 9 ∷ pos 2 ∷ negsuc 0 ∷ []) × (lengths_of c.keywords.now ≡ 6 ∷ 4 ∷ [])
+  all_marked e is f g h i j l m = rw (e, is, f, g, h, i, j, l, m) (refl, refl, refl)
 
   none_marked : c.keywords.now.equal ≡ None → c.one_of ≡ None
       → c.keywords.now.maximum ≡ None → c.keywords.now.minimum ≡ None → c.keywords.now.below ≡ None → c.keywords.now.above ≡ None
-      → (texts_of c ≡ []) × (integers_of c ≡ [])
-  none_marked e f g h i j = rw (e, f, g, h, i, j) (refl, refl)
+      → c.keywords.now.max_length ≡ None → c.keywords.now.min_length ≡ None
+      → (texts_of c ≡ []) × (integers_of c ≡ []) × (lengths_of c.keywords.now ≡ [])
+  none_marked e f g h i j l m = rw (e, f, g, h, i, j, l, m) (refl, refl, refl)
+
+-- an integer below zero is no count
+counts_marked : map count_in (None ∷ Some (negsuc 0) ∷ Some (pos 0) ∷ Some (pos 7) ∷ []) ≡ [] ∷ [] ∷ (0 ∷ []) ∷ (7 ∷ []) ∷ []
+counts_marked = refl
 
 -- integers between marks are all alike, and what isn't marked is told apart all the same
 abbrev claimed : Assertion ℕ ℕ → Step
 claimed a here inside d x = holds here inside a d x
 
-abbrev marks : List (List ℕ) → List ℤ → Compared
-marks ts zs = record { texts = ts; integers = zs }
+abbrev marks : List (List ℕ) → List ℤ → List ℕ → Compared
+marks ts zs ls = record { texts = ts; integers = zs; lengths = ls }
 
-integers_between : AreAlike (marks [] (pos 3 ∷ pos 8 ∷ [])) (an_integer (pos 4)) (an_integer (pos 7))
+integers_between : AreAlike (marks [] (pos 3 ∷ pos 8 ∷ []) []) (an_integer (pos 4)) (an_integer (pos 7))
 integers_between = ((refl, refl), ((refl, refl), tt))
 
-limit_unmarked : IsToldBy (claimed (at_most (pos 3))) (marks [] (pos 2 ∷ [])) → ⊥
+lengths_between : AreAlike (marks [] [] (1 ∷ 3 ∷ [])) (a_text face) (a_text accented)
+lengths_between = (tt, (refl, (refl, tt)))
+
+limit_unmarked : IsToldBy (claimed (at_most (pos 3))) (marks [] (pos 2 ∷ []) []) → ⊥
 limit_unmarked told = let e : true ≡ false = told here nat_eq nat_eq (number 3) (number 4) (an_integer (pos 3)) (an_integer (pos 4)) ((λ i. null), refl) ((λ i. null), refl) ((refl, refl), tt) in cc
 
-text_unmarked : IsToldBy (claimed (equals (text A))) (marks (B ∷ []) []) → ⊥
-text_unmarked told = let e : true ≡ false = told here nat_eq nat_eq (text A) (text (codes "c")) (a_text A) (a_text (codes "c")) ((λ i. null), refl) ((λ i. null), refl) (refl, tt) in cc
+text_unmarked : IsToldBy (claimed (equals (text A))) (marks (B ∷ []) [] []) → ⊥
+text_unmarked told = let e : true ≡ false = told here nat_eq nat_eq (text A) (text (codes "c")) (a_text A) (a_text (codes "c")) ((λ i. null), refl) ((λ i. null), refl) ((refl, tt), tt) in cc
+
+-- a text of two characters is too long from there on, and not from one on
+length_unmarked : IsToldBy (claimed (at_most_long Characters 1)) (marks [] [] (1 ∷ [])) → ⊥
+length_unmarked told = let e : true ≡ false = told here nat_eq nat_eq (text face) (text accented) (a_text face) (a_text accented) ((λ i. null), refl) ((λ i. null), refl) (tt, (refl, tt)) in cc
 
 -- ---- constraints over numbers
 
@@ -242,8 +317,8 @@ without_nothing : map (said {H = ℕ} {I = ℕ}) (always ∷ never ∷ conjuncti
 without_nothing = refl
 
 -- the first map is of schemas asked of the same document, and the second of those asked of documents inside
-renamed : map_constraint (λ r. r + 10) (λ p. p + 20) (conjunction (valid_by (Some 1) ∷ at_keys ((A, 1) ∷ []) ∷ at_other_keys (A ∷ []) 2 ∷ in_front (3 ∷ []) ∷ behind 1 4 ∷ valid_by_all (5 ∷ []) ∷ valid_by_any (6 ∷ []) ∷ not_valid_by 7 ∷ at_least_long 8 ∷ []))
-    ≡ conjunction (valid_by (Some 11) ∷ at_keys ((A, 21) ∷ []) ∷ at_other_keys (A ∷ []) 22 ∷ in_front (23 ∷ []) ∷ behind 1 24 ∷ valid_by_all (15 ∷ []) ∷ valid_by_any (16 ∷ []) ∷ not_valid_by 17 ∷ at_least_long 8 ∷ [])
+renamed : map_constraint (λ r. r + 10) (λ p. p + 20) (conjunction (valid_by (Some 1) ∷ at_keys ((A, 1) ∷ []) ∷ at_other_keys (A ∷ []) 2 ∷ in_front (3 ∷ []) ∷ behind 1 4 ∷ valid_by_all (5 ∷ []) ∷ valid_by_any (6 ∷ []) ∷ not_valid_by 7 ∷ at_least_long Keys 8 ∷ at_most_long Elements 9 ∷ []))
+    ≡ conjunction (valid_by (Some 11) ∷ at_keys ((A, 21) ∷ []) ∷ at_other_keys (A ∷ []) 22 ∷ in_front (23 ∷ []) ∷ behind 1 24 ∷ valid_by_all (15 ∷ []) ∷ valid_by_any (16 ∷ []) ∷ not_valid_by 17 ∷ at_least_long Keys 8 ∷ at_most_long Elements 9 ∷ [])
 renamed = refl
 
 below_both : PartsBelow 2 1 (conjunction (valid_by_all (0 ∷ 1 ∷ []) ∷ behind 5 0 ∷ []))

@@ -10,8 +10,9 @@ use Rattle.std.proofs.lemmas.List.Folds.{list_all-map, list_all-append}
 use Rattle.cs_document.specs.Document.{Document, Entry, under}
 use Rattle.cs_document.specs.Opened.{Opened, a_null, a_boolean, an_integer, a_text, a_list, an_object}
 use Rattle.cs_document.specs.Inside.{map_entry, map_opened}
+use Rattle.cs_document.specs.Sizes.{Counted, Characters, Elements, Keys, size_of}
 use Rattle.cs_profile.specs.Keywords.{Kind, Null, Boolean, Object, Array, Number, String, Integer}
-use Rattle.cs_profile.specs.Constraint.{Assertion, nothing, valid_by, has_kind, at_least, at_most, above, below, has_keys, at_keys, at_other_keys, in_front, behind, at_least_long, valid_by_all, valid_by_any, Constraint, always, never, conjunction}
+use Rattle.cs_profile.specs.Constraint.{Assertion, nothing, valid_by, has_kind, at_least, at_most, above, below, has_keys, at_keys, at_other_keys, in_front, behind, at_least_long, at_most_long, valid_by_all, valid_by_any, Constraint, always, never, conjunction}
 use Rattle.cs_profile.specs.Validity.{is_of_kind, if_number, if_array, if_object, if_there, front_holds, holds, is_satisfied}
 use Rattle.cs_validate.specs.Numbering.{map_assertion, map_constraint, asserted, said}
 
@@ -125,6 +126,12 @@ module _ {A B H I : Type 0} (f : A → B) (here : H → Bool) (inside : B → I 
   object_at p q h (an_object ms) = h ms
   object_at p q h _ = refl
 
+  size_at : (c : Counted) (x : Opened A) → size_of c (map_opened f x) ≡ size_of c x
+  size_at Characters (a_text s) = refl
+  size_at Elements (a_list ys) = ap Some (length-map ys f)
+  size_at Keys (an_object ms) = ap Some (length-map ms (map_entry f))
+  size_at _ _ = refl
+
   claim_at : (a : Assertion H I) (d : Document) (x : Opened A) → holds here inside a d (map_opened f x) ≡ holds here (λ y s. inside (f y) s) a d x
   claim_at (has_kind k) d x = kind_at f k x
   claim_at (at_least l) d x = number_at (λ n. int_le l n) x
@@ -136,7 +143,8 @@ module _ {A B H I : Type 0} (f : A → B) (here : H → Bool) (inside : B → I 
   claim_at (at_other_keys ks s) d x = object_at _ _ (λ ms. list_all-map (λ (m : Entry B). list_any (bytes_eq m.0) ks || inside m.1 s) (map_entry f) ms) x
   claim_at (in_front ss) d x = array_at _ _ (front_at ss) x
   claim_at (behind n s) d x = array_at _ _ (rest_at n s) x
-  claim_at (at_least_long n) d x = array_at _ _ (λ ys. ap (nat_le n) (length-map ys f)) x
+  claim_at (at_least_long c n) d x = ap (if_there (λ k. nat_le n k)) (size_at c x)
+  claim_at (at_most_long c n) d x = ap (if_there (λ k. nat_le k n)) (size_at c x)
   claim_at _ d x = refl
 
   claims_at : (claims : List (Assertion H I)) (d : Document) (x : Opened A) → list_all (λ a. holds here inside a d (map_opened f x)) claims ≡ list_all (λ a. holds here (λ y s. inside (f y) s) a d x) claims

@@ -1,5 +1,5 @@
--- A rule gives the same for scalars that its marks don't tell apart: the values of `const` and `enum`, and the limits of integers.
-use Rattle.std.proofs.Common.{◌≡◌, ℕ, ℤ, int_le, int_lt, Bool, ◌&&◌, List, [], ◌∷◌, ◌++◌, Option, Some, None, cond, refl, sym, ap, ap₂, subst, ◌∙◌, arith}
+-- A rule gives the same for scalars that its marks don't tell apart: the values of `const` and `enum`, and the limits of integers and of lengths of texts.
+use Rattle.std.proofs.Common.{◌≡◌, ℕ, suc, ℤ, pos, negsuc, nat_le, int_le, int_lt, Bool, ◌&&◌, List, [], ◌∷◌, ◌++◌, map, Option, Some, None, cond, refl, sym, ap, ap₂, subst, ◌∙◌, arith}
 use Rattle.std.proofs.lemmas.Int.{ints}
 use Rattle.std.specs.Prelude.{option_map, option_to_list, not}
 use Rattle.std.specs.List.{AllByRecursion as Each}
@@ -8,6 +8,7 @@ use Rattle.std.specs.Ordering.{is_eq, int_eq}
 use Rattle.std.specs.declared.cmp.Ordering.TheVariants.{Less, Equal, Greater}
 use Rattle.cs_document.specs.Document.{Document, null, boolean, integer, text, document_eq}
 use Rattle.cs_document.specs.Opened.{Opened, a_null, a_boolean, an_integer, a_text}
+use Rattle.cs_document.specs.Sizes.{text_length}
 use Rattle.cs_document.specs.View.{doc_view}
 use Rattle.cs_document.specs.declared.doc.Doc.{Doc}
 use Rattle.cs_document.proofs.Each.{each_of, each_front, each_back, any_same}
@@ -20,8 +21,8 @@ use Rattle.cs_rules.specs.Alike.{Compared, AreAlike, IsToldBy}
 use Rattle.cs_validate.specs.declared.rules.Rule.TheVariants as rule
 use Rattle.cs_validate.specs.declared.rules.Conjunction.{Conjunction}
 use Rattle.cs_validate.specs.Steps.{kind_of, step}
-use Rattle.cs_validate.specs.Asked.{asks_const, asks_enum, asks_any, asks_integer, asks_kind}
-use Rattle.cs_validate.specs.Marked.{integers_in, listed, constants_of, limits_of, texts_of, integers_of, AddsMarks}
+use Rattle.cs_validate.specs.Asked.{asks_const, asks_enum, asks_any, asks_integer, is_at_most_long, is_at_least_long, asks_text, asks_kind}
+use Rattle.cs_validate.specs.Marked.{integers_in, listed, constants_of, limits_of, count_in, lengths_of, texts_of, integers_of, AddsMarks}
 use Rattle.cs_validate.proofs.Asked.{claims_hold}
 
 -- ---- documents that are scalars
@@ -74,13 +75,13 @@ integers_same z w (_ ∷ vs) h = (refl, integers_same z w vs h)
 abbrev EqualTo : Document → Document → Document → Type 0
 EqualTo d d' v = document_eq v d ≡ document_eq v d'
 
-constants_same : (vs : List Document) (zs : List ℤ) (d d' : Document) (x x' : Opened ℕ) → IsItem d x → IsItem d' x'
-    → AreAlike (record { texts = texts_in vs; integers = integers_in vs ++ zs }) x x' → Each (EqualTo d d') vs
-constants_same vs zs d d' a_null a_null is is' h = rw (null_is d is, null_is d' is') (each_of _ (λ v. refl) vs)
-constants_same vs zs d d' (a_boolean b) (a_boolean c) is is' h = rw (boolean_is d b is, boolean_is d' c is', h) (each_of _ (λ v. refl) vs)
-constants_same vs zs d d' (an_integer z) (an_integer w) is is' h = rw (integer_is d z is, integer_is d' w is') (integers_same z w vs (each_front (SameSide z w) (integers_in vs) zs h))
-constants_same vs zs d d' (a_text s) (a_text t) is is' h = rw (text_is d s is, text_is d' t is') (texts_same s t vs h)
-constants_same vs zs d d' _ _ is is' h = absurd h
+constants_same : (vs : List Document) (zs : List ℤ) (ls : List ℕ) (d d' : Document) (x x' : Opened ℕ) → IsItem d x → IsItem d' x'
+    → AreAlike (record { texts = texts_in vs; integers = integers_in vs ++ zs; lengths = ls }) x x' → Each (EqualTo d d') vs
+constants_same vs zs ls d d' a_null a_null is is' h = rw (null_is d is, null_is d' is') (each_of _ (λ v. refl) vs)
+constants_same vs zs ls d d' (a_boolean b) (a_boolean c) is is' h = rw (boolean_is d b is, boolean_is d' c is', h) (each_of _ (λ v. refl) vs)
+constants_same vs zs ls d d' (an_integer z) (an_integer w) is is' h = rw (integer_is d z is, integer_is d' w is') (integers_same z w vs (each_front (SameSide z w) (integers_in vs) zs h))
+constants_same vs zs ls d d' (a_text s) (a_text t) is is' h = rw (text_is d s is, text_is d' t is') (texts_same s t vs h.0)
+constants_same vs zs ls d d' _ _ is is' h = absurd h
 
 const_same : (d d' : Document) (o : Option Doc) → Each (EqualTo d d') (option_to_list (option_map doc_view o)) → asks_const o d ≡ asks_const o d'
 const_same d d' None h = refl
@@ -127,38 +128,68 @@ limits_same k z w h =
     let over = limit_same z w (λ n l. int_lt l n) (λ l s. s.1) k.above (each_back S (reached ++ option_to_list k.below) (option_to_list k.above) h) in
     both (both under at_most) (both over at_least)
 
+-- ---- by limits of lengths
+
+-- what a length that is marked tells apart
+abbrev SameReach : ℕ → ℕ → ℕ → Type 0
+SameReach n m k = nat_le k n ≡ nat_le k m
+
+within_is : (n l : ℕ) → nat_le n l ≡ not (nat_le (suc l) n)
+within_is n l = grind arith
+
+most_same : (n m : ℕ) (o : Option ℤ) → Each (SameReach n m) (map suc (count_in o)) → is_at_most_long o n ≡ is_at_most_long o m
+most_same n m None h = refl
+most_same n m (Some (pos l)) h = within_is n l ∙ ap not h.0 ∙ sym (within_is m l)
+most_same n m (Some (negsuc l)) h = refl
+
+least_same : (n m : ℕ) (o : Option ℤ) → Each (SameReach n m) (count_in o) → is_at_least_long o n ≡ is_at_least_long o m
+least_same n m None h = refl
+least_same n m (Some (pos l)) h = h.0
+least_same n m (Some (negsuc l)) h = refl
+
+lengths_same : (k : Keywords) (s t : List ℕ) → Each (SameReach (text_length s) (text_length t)) (lengths_of k) → asks_text k s ≡ asks_text k t
+lengths_same k s t h =
+    let n = text_length s in
+    let m = text_length t in
+    let most = map suc (count_in k.max_length) in
+    let least = count_in k.min_length in
+    both (most_same n m k.max_length (each_front (SameReach n m) most least h)) (least_same n m k.min_length (each_back (SameReach n m) most least h))
+
 -- ---- by a rule
 
-alike_behind : (m n : Compared) (ts : List (List ℕ)) (zs : List ℤ) (x x' : Opened ℕ) → AddsMarks ts zs m n → AreAlike n x x' → AreAlike (record { texts = ts; integers = zs }) x x'
-alike_behind m n ts zs a_null a_null adds h = tt
-alike_behind m n ts zs (a_boolean b) (a_boolean c) adds h = h
-alike_behind m n ts zs (an_integer z) (an_integer w) adds h = each_back (SameSide z w) m.integers zs (subst (Each (SameSide z w)) adds.1 h)
-alike_behind m n ts zs (a_text s) (a_text t) adds h =
-    each_back (λ u. bytes_eq u s ≡ bytes_eq u t) m.texts ts (subst (Each (λ u. bytes_eq u s ≡ bytes_eq u t)) adds.0 h)
-alike_behind m n ts zs _ _ adds h = absurd h
+alike_behind : (m n : Compared) (ts : List (List ℕ)) (zs : List ℤ) (ls : List ℕ) (x x' : Opened ℕ) → AddsMarks ts zs ls m n → AreAlike n x x' → AreAlike (record { texts = ts; integers = zs; lengths = ls }) x x'
+alike_behind m n ts zs ls a_null a_null adds h = tt
+alike_behind m n ts zs ls (a_boolean b) (a_boolean c) adds h = h
+alike_behind m n ts zs ls (an_integer z) (an_integer w) adds h = each_back (SameSide z w) m.integers zs (subst (Each (SameSide z w)) adds.1 h)
+alike_behind m n ts zs ls (a_text s) (a_text t) adds h =
+    let Same = SameReach (text_length s) (text_length t) in (
+      each_back (λ u. bytes_eq u s ≡ bytes_eq u t) m.texts ts (subst (Each (λ u. bytes_eq u s ≡ bytes_eq u t)) adds.0 h.0),
+      each_back Same m.lengths ls (subst (Each Same) adds.2 h.1),
+    )
+alike_behind m n ts zs ls _ _ adds h = absurd h
 
 module _ (c : Conjunction) where
   abbrev own : Compared
-  own = record { texts = texts_of c; integers = integers_of c }
+  own = record { texts = texts_of c; integers = integers_of c; lengths = lengths_of c.keywords.now }
 
   of_kind_same : (inside inside' : ℕ → ℕ → Bool) (x x' : Opened ℕ) → AreAlike own x x' → asks_kind inside c x ≡ asks_kind inside' c x'
   of_kind_same inside inside' a_null a_null h = refl
   of_kind_same inside inside' (a_boolean b) (a_boolean c) h = refl
   of_kind_same inside inside' (an_integer z) (an_integer w) h =
       limits_same c.keywords.now z w (each_back (SameSide z w) (integers_in (constants_of c)) (limits_of c.keywords.now) h)
-  of_kind_same inside inside' (a_text s) (a_text t) h = refl
+  of_kind_same inside inside' (a_text s) (a_text t) h = lengths_same c.keywords.now s t h.1
   of_kind_same inside inside' _ _ h = absurd h
 
   module _ (d d' : Document) (x x' : Opened ℕ) (is : IsItem d x) (is' : IsItem d' x') (like : AreAlike own x x') where
     any_kind_same : asks_any c d x ≡ asks_any c d' x'
     any_kind_same =
-        let same = constants_same (constants_of c) (limits_of c.keywords.now) d d' x x' is is' like in
+        let same = constants_same (constants_of c) (limits_of c.keywords.now) (lengths_of c.keywords.now) d d' x x' is is' like in
         let constant = option_to_list (option_map doc_view c.keywords.now.equal) in
         both
         (both (there_same _ _ c.keywords.now.kind (each_of _ (λ j. kind_same own x x' like (kind_of j)) _)) (const_same d d' c.keywords.now.equal (each_front (EqualTo d d') constant (listed c.one_of) same)))
         (enum_same d d' c.one_of (each_back (EqualTo d d') constant (listed c.one_of) same))
 
-  pub keywords_told : (m n : Compared) → AddsMarks (texts_of c) (integers_of c) m n → IsToldBy (step (rule.Object c)) n
+  pub keywords_told : (m n : Compared) → AddsMarks (texts_of c) (integers_of c) (lengths_of c.keywords.now) m n → IsToldBy (step (rule.Object c)) n
   keywords_told m n adds = λ here inside inside' d d' x x' is is' h.
-      let like = alike_behind m n (texts_of c) (integers_of c) x x' adds h in
+      let like = alike_behind m n (texts_of c) (integers_of c) (lengths_of c.keywords.now) x x' adds h in
       claims_hold here inside d c x ∙ both (any_kind_same d d' x x' is is' like) (both refl (of_kind_same inside inside' x x' like)) ∙ sym (claims_hold here inside' d' c x')

@@ -5,7 +5,8 @@ use Rattle.std.specs.List.{list_all, list_any, AllByRecursion}
 use Rattle.std.specs.Str.{bytes_eq}
 use Rattle.std.specs.declared.alloc.Global.{Global}
 use Rattle.cs_document.specs.Document.{Document, Entry, under, document_eq}
-use Rattle.cs_document.specs.Opened.{Opened, a_list, an_integer, an_object}
+use Rattle.cs_document.specs.Opened.{Opened, a_text, a_list, an_integer, an_object}
+use Rattle.cs_document.specs.Sizes.{text_length}
 use Rattle.cs_document.specs.View.{doc_view}
 use Rattle.cs_profile.specs.Validity.{is_of_kind, if_there, front_holds}
 use Rattle.cs_profile.specs.Numbered.{numbered as numbers_from, names_in}
@@ -13,6 +14,8 @@ use Rattle.cs_document.specs.declared.doc.Doc.{Doc}
 use Rattle.cs_profile.specs.declared.schema.JsonKind.{JsonKind}
 use Rattle.cs_profile.specs.declared.schema.Keywords.{Keywords}
 use Rattle.cs_profile.specs.declared.schema.Schema.{Schema}
+use Rattle.cs_rules.specs.Lengths.{TellsLength}
+use Rattle.cs_rules.specs.declared.known.Known.{Known}
 use Rattle.cs_validate.specs.declared.rules.Conjunction.{Conjunction}
 use Rattle.cs_validate.specs.Steps.{kind_of, unless_empty, places_from, items_place, prefix_place, properties_place}
 
@@ -40,6 +43,22 @@ is_not_below k n = if_there (λ l. int_lt l n) k.above && if_there (λ l. int_le
 abbrev pub asks_integer : Keywords → ℤ → Bool
 asks_integer k n = is_not_above k n && is_not_below k n
 
+-- by an integer that is a count
+abbrev pub if_count : (ℕ → Bool) → ℤ → Bool
+if_count p (pos n) = p n
+if_count p _ = true
+
+-- by a limit of lengths, if it is there
+abbrev pub is_at_most_long : Option ℤ → ℕ → Bool
+is_at_most_long most n = if_there (if_count (λ l. nat_le n l)) most
+
+abbrev pub is_at_least_long : Option ℤ → ℕ → Bool
+is_at_least_long least n = if_there (if_count (λ l. nat_le l n)) least
+
+-- of a text (Validation, section 6.3): `maxLength` and `minLength`
+abbrev pub asks_text : Keywords → List ℕ → Bool
+asks_text k s = is_at_most_long k.max_length (text_length s) && is_at_least_long k.min_length (text_length s)
+
 -- by `$ref`
 abbrev pub asks_reference : (ℕ → Bool) → Conjunction → Bool
 asks_reference here c = if_there (λ n. option_map_or here c.reference false) c.keywords.now.reference
@@ -55,11 +74,6 @@ asks_here here c =
     && list_all here c.all_of.items
     && asks_alternative here c.any_of.items
     && if_there (λ r. not (here r)) c.negated
-
--- by an integer that is a count
-abbrev pub if_count : (ℕ → Bool) → ℤ → Bool
-if_count p (pos n) = p n
-if_count p _ = true
 
 -- declared names with places, from a place on
 abbrev pub places_named : ℕ → List (String Global × Schema) → List (Entry ℕ)
@@ -88,22 +102,31 @@ module _ (inside : ℕ → ℕ → Bool) (c : Conjunction) where
   -- of a list (Validation, section 6.4; Core, section 10.3.1)
   abbrev pub asks_list : List ℕ → Bool
   asks_list ys =
-      if_there (if_count (λ l. nat_le l (length ys))) c.keywords.now.min_items
+      is_at_most_long c.keywords.now.max_items (length ys)
+      && is_at_least_long c.keywords.now.min_items (length ys)
       && asks_front inside (places_from (prefix_place c) c.keywords.now.prefix.items) ys
       && if_there (λ s. list_all (λ y. inside y (items_place c)) (drop (length c.keywords.now.prefix.items) ys)) c.keywords.now.rest
 
   -- of a map (Validation, section 6.5; Core, section 10.3.2)
   abbrev pub asks_map : List (Entry ℕ) → Bool
   asks_map ms =
-      list_all (λ k. is_some (under k ms)) c.required
+      is_at_most_long c.keywords.now.max_properties (length ms)
+      && is_at_least_long c.keywords.now.min_properties (length ms)
+      && list_all (λ k. is_some (under k ms)) c.required
       && asks_named inside ms (places_named (properties_place c) c.keywords.now.properties.entries)
       && if_there (λ s. asks_others inside (names_in c.keywords.now.properties.entries) c.first ms) c.keywords.now.additional
 
   abbrev pub asks_kind : Opened ℕ → Bool
   asks_kind (an_integer n) = asks_integer c.keywords.now n
+  asks_kind (a_text s) = asks_text c.keywords.now s
   asks_kind (a_list ys) = asks_list ys
   asks_kind (an_object ms) = asks_map ms
   asks_kind _ = true
+
+-- the lengths that are known tell that of a value, if it is a text
+abbrev pub TellsOf : Known → Opened ℕ → Type 0
+TellsOf k (a_text s) = TellsLength k.lengths.now k.item s
+TellsOf k _ = Unit {0}
 
 -- numbers below n
 abbrev pub AreBelow : ℕ → List ℕ → Type 0

@@ -1,5 +1,5 @@
--- What rules compare texts and integers with.
-use Rattle.std.specs.Prelude.{◌≡◌, ℕ, ℤ, List, [], ◌∷◌, ◌++◌, Option, option_map, option_to_list}
+-- What rules compare texts, integers and lengths with.
+use Rattle.std.specs.Prelude.{◌≡◌, ℕ, suc, ℤ, pos, List, [], ◌∷◌, ◌++◌, Option, Some, option_map, option_to_list, map}
 use Rattle.std.specs.Option.{option_map_or}
 use Rattle.cs_document.specs.Document.{Document, integer}
 use Rattle.cs_document.specs.View.{doc_view}
@@ -26,15 +26,24 @@ constants_of c = option_to_list (option_map doc_view c.keywords.now.equal) ++ li
 abbrev pub limits_of : Keywords → List ℤ
 limits_of k = option_to_list k.maximum ++ option_to_list k.minimum ++ option_to_list k.below ++ option_to_list k.above
 
+-- an integer that is a count, if it is there
+abbrev pub count_in : Option ℤ → List ℕ
+count_in (Some (pos n)) = n ∷ []
+count_in _ = []
+
+-- the lengths from which on a text is too long by `maxLength`, and long enough by `minLength`
+abbrev pub lengths_of : Keywords → List ℕ
+lengths_of k = map suc (count_in k.max_length) ++ count_in k.min_length
+
 abbrev pub texts_of : Conjunction → List (List ℕ)
 texts_of c = texts_in (constants_of c)
 
 abbrev pub integers_of : Conjunction → List ℤ
 integers_of c = integers_in (constants_of c) ++ limits_of c.keywords.now
 
--- the second marks are the first ones, and behind them these texts and integers
-abbrev pub AddsMarks : List (List ℕ) → List ℤ → Compared → Compared → Type 0
-AddsMarks ts zs m n = (n.texts ≡ m.texts ++ ts) × (n.integers ≡ m.integers ++ zs)
+-- the second marks are the first ones, and behind them these texts, integers and lengths
+abbrev pub AddsMarks : List (List ℕ) → List ℤ → List ℕ → Compared → Compared → Type 0
+AddsMarks ts zs ls m n = (n.texts ≡ m.texts ++ ts) × (n.integers ≡ m.integers ++ zs) × (n.lengths ≡ m.lengths ++ ls)
 
 abbrev pub AddsScalars : List Document → Compared → Compared → Type 0
-AddsScalars ds m n = AddsMarks (texts_in ds) (integers_in ds) m n
+AddsScalars ds m n = AddsMarks (texts_in ds) (integers_in ds) [] m n

@@ -3,7 +3,7 @@ use Rattle.std.specs.Prelude.{◌≡◌, ℕ, ◌<◌, false, List, [], ◌∷�
 use Rattle.std.specs.List.{AllByRecursion, flat_map}
 use Rattle.cs_document.specs.Document.{Document, boolean, Entry}
 use Rattle.cs_document.specs.Inside.{map_entry}
-use Rattle.cs_profile.specs.Constraint.{Assertion, nothing, valid_by, has_kind, equals, is_among, at_least, at_most, above, below, has_keys, at_keys, at_other_keys, in_front, behind, at_least_long, valid_by_all, valid_by_any, not_valid_by, Constraint, always, never, conjunction, constraint_of}
+use Rattle.cs_profile.specs.Constraint.{Assertion, nothing, valid_by, has_kind, equals, is_among, at_least, at_most, above, below, has_keys, at_keys, at_other_keys, in_front, behind, at_least_long, at_most_long, valid_by_all, valid_by_any, not_valid_by, Constraint, always, never, conjunction, constraint_of}
 
 -- the same with f of each schema asked of the same document, and g of each asked of a document inside
 abbrev pub map_assertion : {H I J K : Type 0} → (H → J) → (I → K) → Assertion H I → Assertion J K
@@ -21,7 +21,8 @@ map_assertion f g (at_keys ps) = at_keys (map (map_entry g) ps)
 map_assertion f g (at_other_keys ks s) = at_other_keys ks (g s)
 map_assertion f g (in_front ss) = in_front (map g ss)
 map_assertion f g (behind n s) = behind n (g s)
-map_assertion f g (at_least_long n) = at_least_long n
+map_assertion f g (at_least_long c n) = at_least_long c n
+map_assertion f g (at_most_long c n) = at_most_long c n
 map_assertion f g (valid_by_all ss) = valid_by_all (map f ss)
 map_assertion f g (valid_by_any ss) = valid_by_any (map f ss)
 map_assertion f g (not_valid_by s) = not_valid_by (f s)

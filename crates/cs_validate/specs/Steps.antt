@@ -2,13 +2,14 @@
 use Rattle.std.specs.Prelude.{ℕ, suc, ◌+◌, ℤ, pos, true, false, List, [], ◌∷◌, Option, Some, None, option_map, option_to_list, map, length, slice_index}
 use Rattle.std.specs.Option.{option_map_or}
 use Rattle.std.specs.List.{flat_map}
+use Rattle.cs_document.specs.Sizes.{Characters, Elements, Keys}
 use Rattle.cs_document.specs.View.{doc_view}
 use Rattle.cs_rules.specs.Steps.{Step}
 use Rattle.cs_profile.specs.Keywords as named
 use Rattle.cs_profile.specs.Keywords.{Kind, all_keywords}
 use Rattle.cs_profile.specs.declared.keyword.Keyword.{Keyword}
 use Rattle.cs_profile.specs.declared.keyword.Keyword.TheVariants as keyword
-use Rattle.cs_profile.specs.Constraint.{Assertion, nothing, valid_by, has_kind, equals, is_among, at_least, at_most, above, below, has_keys, at_keys, at_other_keys, in_front, behind, at_least_long, valid_by_all, valid_by_any, not_valid_by, Constraint, always, never, conjunction}
+use Rattle.cs_profile.specs.Constraint.{Assertion, nothing, valid_by, has_kind, equals, is_among, at_least, at_most, above, below, has_keys, at_keys, at_other_keys, in_front, behind, at_least_long, at_most_long, valid_by_all, valid_by_any, not_valid_by, Constraint, always, never, conjunction}
 use Rattle.cs_profile.specs.Validity.{is_satisfied}
 use Rattle.cs_profile.specs.Numbered.{numbered as numbers_from, names_in}
 use Rattle.cs_profile.specs.declared.schema.JsonKind.{JsonKind}
@@ -67,8 +68,13 @@ claim_of c keyword.Enum = option_map is_among c.one_of
 claim_of c keyword.ExclusiveMaximum = option_map below c.keywords.now.below
 claim_of c keyword.ExclusiveMinimum = option_map above c.keywords.now.above
 claim_of c keyword.Items = option_map (λ s. behind (length c.keywords.now.prefix.items) (items_place c)) c.keywords.now.rest
+claim_of c keyword.MaxItems = option_map (of_count (at_most_long Elements)) c.keywords.now.max_items
+claim_of c keyword.MaxLength = option_map (of_count (at_most_long Characters)) c.keywords.now.max_length
+claim_of c keyword.MaxProperties = option_map (of_count (at_most_long Keys)) c.keywords.now.max_properties
 claim_of c keyword.Maximum = option_map at_most c.keywords.now.maximum
-claim_of c keyword.MinItems = option_map (of_count at_least_long) c.keywords.now.min_items
+claim_of c keyword.MinItems = option_map (of_count (at_least_long Elements)) c.keywords.now.min_items
+claim_of c keyword.MinLength = option_map (of_count (at_least_long Characters)) c.keywords.now.min_length
+claim_of c keyword.MinProperties = option_map (of_count (at_least_long Keys)) c.keywords.now.min_properties
 claim_of c keyword.Minimum = option_map at_least c.keywords.now.minimum
 claim_of c keyword.Not = option_map not_valid_by c.negated
 claim_of c keyword.PrefixItems = unless_empty in_front (places_from (prefix_place c) c.keywords.now.prefix.items)

@@ -7,7 +7,7 @@ ghost use Rattle.cs_rules.specs.Kinds.{verdict_of, AreDecided, Decides, Foretell
 ghost use Rattle.cs_profile.specs.Validity.{is_of_kind};
 ghost use Rattle.cs_validate.specs.declared.rules.Rule.TheVariants as rule;
 ghost use Rattle.cs_validate.specs.Steps.{step, kind_of};
-ghost use Rattle.cs_validate.specs.Asked.{asks_type, asks_here, asks_integer, asks_list, asks_map, asks_kind, asks_alternative};
+ghost use Rattle.cs_validate.specs.Asked.{asks_type, asks_here, asks_integer, asks_text, asks_list, asks_map, asks_kind, asks_alternative};
 ghost use Rattle.cs_validate.specs.Kinds.{if_asked, equals_by_kind, among_by_kind, any_by_kind, reference_by_kind, negation_by_kind};
 
 use crate::rules::{Conjunction, Rule};
@@ -194,12 +194,22 @@ fn asks_nothing_of_integers(keywords: &Keywords) -> bool
         && keywords.below.is_none()
 }
 
+/// Whether no text has to be counted.
+pub(crate) fn asks_nothing_of_texts(keywords: &Keywords) -> bool
+    ensures { result ≡ true → (s : List ℕ) → asks_text keywords.now s ≡ true }
+{
+    keywords.max_length.is_none() && keywords.min_length.is_none()
+}
+
 fn asks_nothing_of_lists(conjunction: &Conjunction<'_>) -> bool
     ensures { result ≡ true → (inside : ℕ → ℕ → Bool) (ys : List ℕ)
         → asks_list inside conjunction.now ys ≡ true }
 {
     let keywords = conjunction.keywords;
-    keywords.min_items.is_none() && keywords.prefix.is_empty() && keywords.rest.is_none()
+    keywords.max_items.is_none()
+        && keywords.min_items.is_none()
+        && keywords.prefix.is_empty()
+        && keywords.rest.is_none()
 }
 
 /// Whether no key is required: the map without members has them all.
@@ -214,7 +224,9 @@ fn asks_nothing_of_maps(conjunction: &Conjunction<'_>) -> bool
         → asks_map inside conjunction.now ms ≡ true }
 {
     let keywords = conjunction.keywords;
-    requires_nothing(&conjunction.required)
+    keywords.max_properties.is_none()
+        && keywords.min_properties.is_none()
+        && requires_nothing(&conjunction.required)
         && keywords.properties.is_empty()
         && keywords.additional.is_none()
 }
@@ -226,6 +238,7 @@ fn by_absence(conjunction: &Conjunction<'_>) -> ByKind
 {
     ByKind {
         integer: asks_nothing_of_integers(conjunction.keywords).then_some(true),
+        text: asks_nothing_of_texts(conjunction.keywords).then_some(true),
         list: asks_nothing_of_lists(conjunction).then_some(true),
         object: asks_nothing_of_maps(conjunction).then_some(true),
         ..ByKind::of(Some(true))

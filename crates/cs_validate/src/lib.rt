@@ -18,4 +18,4 @@ pub use judging::{is_valid, valid_judge, valid_table, valid_verdict};
 pub use numbered::{SchemaRules, schema_rules};
 pub use rules::{Conjunction, Rule};
 pub use steps::{behind, other_holds};
-pub use values::{has_kind, is_equal, is_listed, length_holds};
+pub use values::{has_kind, is_at_least_long, is_at_most_long, is_equal, is_listed};

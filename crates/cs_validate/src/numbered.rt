@@ -84,7 +84,8 @@ impl SchemaRules<'_> {
     {
         one_meaning(self.schema); // for the proof: there is one validity
         let last = flat.len() - 1; // the document itself
-        refill(&self.book.over(flat), table)?;
+        let judge = self.book.over(flat)?;
+        refill(&judge, table)?;
         Ok(table.get(last, self.root))
     }
 }

@@ -6,18 +6,20 @@ ghost use Rattle.cs_document.specs.Inside.{InsideBelow, AscendsInside, KeysAscen
 ghost use Rattle.cs_flat.specs.Listed.{values};
 ghost use Rattle.cs_flat.specs.Nodes.{node_at};
 ghost use Rattle.cs_flat.specs.View.{item_view, entry_of};
+ghost use Rattle.cs_rules.specs.Lengths.{TellsLength};
 ghost use Rattle.cs_rules.specs.Knowns.{verdict_here, verdict_inside, value_count, rule_count, place_count};
 ghost use Rattle.cs_profile.specs.Numbered.{names_in};
 ghost use Rattle.cs_profile.specs.Validity.{if_there};
 ghost use Rattle.cs_validate.specs.declared.rules.Rule.TheVariants as rule;
 ghost use Rattle.cs_validate.specs.Numbering.{PartsBelow};
 ghost use Rattle.cs_validate.specs.Steps.{step, asked_of, places_from, one_if};
-ghost use Rattle.cs_validate.specs.Asked.{asks_any, asks_reference, asks_here, asks_front, asks_named, asks_other, asks_others, asks_list, asks_map, asks_kind, places_named, AreBelow, EntriesBelow, ReferenceBelow, AreBelowHere, AreBelowInside};
+ghost use Rattle.cs_validate.specs.Asked.{asks_any, asks_reference, asks_here, asks_front, asks_named, asks_other, asks_others, asks_text, asks_list, asks_map, asks_kind, places_named, TellsOf, AreBelow, EntriesBelow, ReferenceBelow, AreBelowHere, AreBelowInside};
 
+use crate::by_kind::asks_nothing_of_texts;
 use crate::rules::{Conjunction, Rule};
-use crate::values::{any_holds, integer_holds, length_holds};
+use crate::values::{any_holds, integer_holds, is_at_least_long, is_at_most_long};
 use cs_flat::{Flat, Item, next_under};
-use cs_profile::Schema;
+use cs_profile::{Keywords, Schema};
 use cs_rules::Known;
 use std::collections::BTreeMap;
 use std::collections::btree_map::Keys;
@@ -187,6 +189,18 @@ pub fn behind(place: usize, schema: &Option<Schema>) -> usize
     }
 }
 
+/// What keywords ask of a text (Validation, section 6.3). Its characters are counted only where one of them asks how many.
+fn text_holds(keywords: &Keywords, text: &str, known: &Known<'_>) -> bool
+    requires length { TellsLength known.now.lengths.now known.now.item text.now }
+    ensures { result ≡ asks_text keywords.now text.now }
+{
+    if asks_nothing_of_texts(keywords) {
+        return true;
+    }
+    let length = known.text_length(text);
+    is_at_most_long(keywords.max_length, length) && is_at_least_long(keywords.min_length, length)
+}
+
 /// What keywords ask of a list (Validation, section 6.4; Core, section 10.3.1).
 fn list_holds(conjunction: &Conjunction<'_>, children: &[usize], known: &Known<'_>) -> bool
     requires parts { AreBelowInside (place_count known.now) conjunction.now }
@@ -196,7 +210,8 @@ fn list_holds(conjunction: &Conjunction<'_>, children: &[usize], known: &Known<'
     let keywords = conjunction.keywords;
     let items = behind(conjunction.first, &keywords.additional);
     let prefix = behind(items, &keywords.rest);
-    length_holds(keywords.min_items, children.len())
+    is_at_most_long(keywords.max_items, children.len())
+        && is_at_least_long(keywords.min_items, children.len())
         && front_holds(&keywords.prefix, prefix, children, known)
         && (keywords.rest.is_none() || rest_holds(keywords.prefix.len(), items, children, known))
 }
@@ -213,7 +228,9 @@ fn map_holds(conjunction: &Conjunction<'_>, members: &[(&str, usize)], known: &K
     let items = behind(conjunction.first, &keywords.additional);
     let prefix = behind(items, &keywords.rest);
     let properties = prefix + keywords.prefix.len();
-    conjunction.required.are_keys(members)
+    is_at_most_long(keywords.max_properties, members.len())
+        && is_at_least_long(keywords.min_properties, members.len())
+        && conjunction.required.are_keys(members)
         && properties_hold(&keywords.properties, properties, members, known)
         && (keywords.additional.is_none()
             || others_hold(&keywords.properties, conjunction.first, members, known))
@@ -224,13 +241,15 @@ fn kind_holds(conjunction: &Conjunction<'_>, value: &Item<'_>, known: &Known<'_>
     requires parts { AreBelowInside (place_count known.now) conjunction.now }
     requires ascends { AscendsInside (item_view value.now) }
     requires children { InsideBelow (value_count known.now) (item_view value.now) }
+    requires length { TellsOf known.now (item_view value.now) }
     ensures { result ≡ asks_kind (verdict_inside known.now) conjunction.now (item_view value.now) }
 {
     match value {
         Item::Int(n) => integer_holds(conjunction.keywords, *n),
+        Item::Text(text) => text_holds(conjunction.keywords, text, known),
         Item::List(children) => list_holds(conjunction, children, known),
         Item::Object(members) => map_holds(conjunction, members, known),
-        Item::Null | Item::Bool(_) | Item::Text(_) => true,
+        Item::Null | Item::Bool(_) => true,
     }
 }
 
@@ -257,6 +276,7 @@ fn object_holds(
     requires inside { AreBelowInside (place_count known.now) conjunction.now }
     requires ascends { AscendsInside (item_view value.now) }
     requires children { InsideBelow (value_count known.now) (item_view value.now) }
+    requires length { TellsOf known.now (item_view value.now) }
     ensures { result ≡ (asks_any conjunction.now (node_at (values flat.now) known.now.item) (item_view value.now)
         && (asks_here (verdict_here known.now) conjunction.now
         && asks_kind (verdict_inside known.now) conjunction.now (item_view value.now))) }
@@ -272,6 +292,7 @@ pub(crate) fn holds(rule: &Rule<'_>, value: &Item<'_>, flat: &Flat<'_>, known: &
     requires parts { PartsBelow (rule_count known.now) (place_count known.now) (asked_of rule.now) }
     requires ascends { AscendsInside (item_view value.now) }
     requires children { InsideBelow (value_count known.now) (item_view value.now) }
+    requires length { TellsOf known.now (item_view value.now) }
     ensures { result ≡ step rule.now (verdict_here known.now) (verdict_inside known.now)
         (node_at (values flat.now) known.now.item) (item_view value.now) }
 {

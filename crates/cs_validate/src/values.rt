@@ -1,13 +1,12 @@
 // What keywords without schemas ask of a value.
-ghost use Rattle.std.specs.Prelude.{◌≡◌, ◌<◌, nat_le, length};
+ghost use Rattle.std.specs.Prelude.{◌≡◌, ◌<◌, length};
 ghost use Rattle.cs_flat.specs.Listed.{values as documents_in};
 ghost use Rattle.cs_flat.specs.Nodes.{node_at};
 ghost use Rattle.cs_flat.specs.View.{item_view};
 ghost use Rattle.cs_profile.specs.Validity as validity;
-ghost use Rattle.cs_profile.specs.Validity.{if_there};
 ghost use Rattle.cs_validate.specs.Steps.{kind_of};
 ghost use Rattle.cs_validate.specs.Asked as asked;
-ghost use Rattle.cs_validate.specs.Asked.{asks_type, asks_const, asks_enum, asks_any, asks_integer, if_count};
+ghost use Rattle.cs_validate.specs.Asked.{asks_type, asks_const, asks_enum, asks_any, asks_integer};
 
 use crate::rules::Conjunction;
 use cs_document::Doc;
@@ -95,9 +94,21 @@ pub(crate) fn integer_holds(keywords: &Keywords, n: i64) -> bool
     is_not_above(keywords, n) && is_not_below(keywords, n)
 }
 
-/// Whether a list isn't shorter than `minItems`, if it is there (Validation, section 6.4.5).
-pub fn length_holds(least: Option<i64>, length: usize) -> bool
-    ensures { result ≡ if_there (if_count (λ l. nat_le l length)) least }
+/// Whether a length isn't above a limit, if that is there: `maxLength`, `maxItems` or `maxProperties` (Validation, sections
+/// 6.3.1, 6.4.1 and 6.5.1).
+pub fn is_at_most_long(most: Option<i64>, length: usize) -> bool
+    ensures { result ≡ asked.is_at_most_long most length }
+{
+    match most {
+        Some(most) => most < 0 || length <= most as usize,
+        None => true,
+    }
+}
+
+/// Whether a length isn't below a limit, if that is there: `minLength`, `minItems` or `minProperties` (Validation, sections
+/// 6.3.2, 6.4.2 and 6.5.2).
+pub fn is_at_least_long(least: Option<i64>, length: usize) -> bool
+    ensures { result ≡ asked.is_at_least_long least length }
 {
     match least {
         Some(least) => least < 0 || least as usize <= length,

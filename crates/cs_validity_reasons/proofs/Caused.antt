@@ -8,7 +8,7 @@ use Rattle.std.proofs.lemmas.Option.{none-some}
 use Rattle.cs_document.specs.Document.{Document, Entry, under}
 use Rattle.cs_document.specs.Opened.{Opened, a_list, an_object}
 use Rattle.cs_document.specs.Inside.{map_entry, map_opened}
-use Rattle.cs_profile.specs.Constraint.{Assertion, nothing, valid_by, has_kind, equals, is_among, at_least, at_most, above, below, has_keys, at_keys, at_other_keys, in_front, behind, at_least_long, valid_by_all, valid_by_any, not_valid_by, Constraint, always, never, conjunction}
+use Rattle.cs_profile.specs.Constraint.{Assertion, nothing, valid_by, has_kind, equals, is_among, at_least, at_most, above, below, has_keys, at_keys, at_other_keys, in_front, behind, at_least_long, at_most_long, valid_by_all, valid_by_any, not_valid_by, Constraint, always, never, conjunction}
 use Rattle.cs_profile.specs.Validity.{holds}
 use Rattle.cs_profile.specs.declared.keyword.Keyword.{Keyword}
 use Rattle.cs_profile.specs.declared.keyword.Keyword.TheVariants as keyword
@@ -156,7 +156,8 @@ module _ {A B S T : Type 0} (f : A → B) (g : S → T) (here : T → Bool) (ins
   denied_back x (at_most z) (of_keyword {w = w} e h) = word_back x (at_most z) w e h
   denied_back x (above z) (of_keyword {w = w} e h) = word_back x (above z) w e h
   denied_back x (below z) (of_keyword {w = w} e h) = word_back x (below z) w e h
-  denied_back x (at_least_long n) (of_keyword {w = w} e h) = word_back x (at_least_long n) w e h
+  denied_back x (at_most_long k n) (of_keyword {w = w} e h) = word_back x (at_most_long k n) w e h
+  denied_back x (at_least_long k n) (of_keyword {w = w} e h) = word_back x (at_least_long k n) w e h
   denied_back x (not_valid_by s) (of_keyword {w = w} e h) = word_back x (not_valid_by s) w e h
   denied_back x (has_keys ks) (of_keyword {w = w} e h) = word_back x (has_keys ks) w e h
   denied_back x (has_keys ks) (of_missing {k = k} {ms = ms} o m e) = missing_back x ks k ms o m e

@@ -5,9 +5,9 @@ use Rattle.std.specs.List.{list_all, list_any}
 use Rattle.std.specs.Str.{bytes_eq}
 use Rattle.cs_document.specs.Document.{Document, Entry, under}
 use Rattle.cs_document.specs.Opened.{Opened, a_list, an_object, opened}
-use Rattle.cs_profile.specs.Constraint.{Assertion, nothing, valid_by, has_kind, equals, is_among, at_least, at_most, above, below, has_keys, at_keys, at_other_keys, in_front, behind, at_least_long, valid_by_all, valid_by_any, not_valid_by, Constraint, always, never, conjunction, constraint_of}
+use Rattle.cs_profile.specs.Constraint.{Assertion, nothing, valid_by, has_kind, equals, is_among, at_least, at_most, above, below, has_keys, at_keys, at_other_keys, in_front, behind, at_least_long, at_most_long, valid_by_all, valid_by_any, not_valid_by, Constraint, always, never, conjunction, constraint_of}
 use Rattle.cs_profile.specs.Validity.{if_there, front_holds, holds, is_satisfied, IsValidity}
-use Rattle.cs_validity_reasons.specs.Causes.{Cause, reference, part, alternative, property, additional, prefix, items, never_valid, no_alternative, missing, by_keyword, IsDenied, of_keyword, of_reference, of_undefined, of_part, of_alternative, of_none, of_missing, of_property, of_additional, of_prefix, of_items, IsCause, of_never, of_claim}
+use Rattle.cs_validity_reasons.specs.Causes.{Cause, reference, part, alternative, property, additional, prefix, items, never_valid, no_alternative, missing, by_keyword, most_keyword, least_keyword, IsDenied, of_keyword, of_reference, of_undefined, of_part, of_alternative, of_none, of_missing, of_property, of_additional, of_prefix, of_items, IsCause, of_never, of_claim}
 use Rattle.cs_profile.specs.declared.keyword.Keyword.TheVariants as keyword
 use Rattle.cs_validity_reasons.specs.Why.{IsWhyNot}
 use Rattle.cs_validity_reasons.proofs.Contained.{at_place}
@@ -72,7 +72,8 @@ module _ {A S : Type 0} (here : S → Bool) (inside : A → S → Bool) (d : Doc
   denial (at_most z) x e = (by_keyword keyword.Maximum, of_keyword refl e)
   denial (above z) x e = (by_keyword keyword.ExclusiveMinimum, of_keyword refl e)
   denial (below z) x e = (by_keyword keyword.ExclusiveMaximum, of_keyword refl e)
-  denial (at_least_long n) x e = (by_keyword keyword.MinItems, of_keyword refl e)
+  denial (at_most_long k n) x e = (by_keyword (most_keyword k), of_keyword refl e)
+  denial (at_least_long k n) x e = (by_keyword (least_keyword k), of_keyword refl e)
   denial (not_valid_by s) x e = (by_keyword keyword.Not, of_keyword refl e)
   denial (has_keys ks) (an_object ms) e =
       let r = failing (λ k. is_some (under k ms)) ks e in (missing r.1, of_missing refl (at_place ks r.1 r.0 r.2) (none_there (under r.1 ms) r.3))

@@ -15,6 +15,7 @@ use Rattle.cs_reasons.specs.declared.telling.Telling.{Telling}
 use Rattle.cs_rules.specs.Answers.{answer}
 use Rattle.cs_table.specs.Judged.{AllVerdicts, IsJudged}
 use Rattle.cs_profile.specs.Profile.{walk_fault}
+use Rattle.cs_profile.specs.declared.keyword.Vocabulary.TheVariants as vocabulary
 use Rattle.cs_profile.specs.Validity.{IsValidity}
 use Rattle.cs_validity_reasons.specs.Led.{PlacedCause, leads_to, is_alternative}
 use Rattle.cs_validity_reasons.specs.PlacedCauses.{IsPlacedCause}
@@ -67,7 +68,7 @@ table_over f ys xs rules' rules inner' inner a b d h =
 -- ---- the root's refusal of the document
 
 module _ (R : Document) (xs : List (Opened ℕ)) (root : ℕ) (rules : List Coded) (inner : List ℕ) (rooted : IsRooted R rules inner root) (are : AreItems (values xs) xs) (many : length xs ≡ length (nodes (document_in xs)))
-    (listed : IsListed (document_in xs) xs) (shaped : walk_fault R ≡ None) (f : AllVerdicts) (only : IsTableOf xs rules inner f) (last : ℕ) (within : last < length xs) (is_last : node_at (values xs) last ≡ document_in xs) (denied : f last root ≡ false)
+    (listed : IsListed (document_in xs) xs) (shaped : walk_fault vocabulary.Wide R ≡ None) (f : AllVerdicts) (only : IsTableOf xs rules inner f) (last : ℕ) (within : last < length xs) (is_last : node_at (values xs) last ≡ document_in xs) (denied : f last root ≡ false)
     (telling : Telling) (rs : Reasons PlacedCause) (ss : Reasons ValidCause) (same : AreRenamed (IsNamed xs rules inner) rs ss) (V : Document → Document → Bool) (h : IsValidity R V) where
   abbrev is_cause : ℕ → ℕ → PlacedCause → Type 0
   is_cause = IsPlacedCause f xs rules inner

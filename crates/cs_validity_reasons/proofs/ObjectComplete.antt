@@ -8,22 +8,23 @@ use Rattle.std.specs.declared.alloc.Global.{Global}
 use Rattle.std.proofs.lemmas.List.Elements.{Contains-append_left, Contains-append_right}
 use Rattle.std.proofs.lemmas.Option.{same_Some}
 use Rattle.cs_document.specs.Document.{Document, Entry, under, document_eq}
-use Rattle.cs_document.specs.Opened.{Opened, an_integer, a_list, an_object}
+use Rattle.cs_document.specs.Opened.{Opened, an_integer, a_text, a_list, an_object}
+use Rattle.cs_document.specs.Sizes.{Counted, Characters, Elements, Keys, text_length, size_of}
 use Rattle.cs_document.specs.Inside.{map_entry}
 use Rattle.cs_document.specs.View.{doc_view}
 use Rattle.cs_flat.specs.Listed.{values}
 use Rattle.cs_flat.specs.Nodes.{node_at}
 use Rattle.cs_table.specs.Judged.{AllVerdicts}
-use Rattle.cs_profile.specs.Constraint.{Assertion, nothing, valid_by, has_kind, equals, is_among, at_least, at_most, above, below, has_keys, at_keys, at_other_keys, in_front, behind, at_least_long, valid_by_all, valid_by_any, not_valid_by}
+use Rattle.cs_profile.specs.Constraint.{Assertion, nothing, valid_by, has_kind, equals, is_among, at_least, at_most, above, below, has_keys, at_keys, at_other_keys, in_front, behind, at_least_long, at_most_long, valid_by_all, valid_by_any, not_valid_by}
 use Rattle.cs_profile.specs.Keywords.{all_keywords}
 use Rattle.cs_profile.specs.Numbered.{names_in}
-use Rattle.cs_profile.specs.Validity.{is_of_kind, if_number, if_array, if_there, holds}
+use Rattle.cs_profile.specs.Validity.{is_of_kind, if_number, if_there, holds}
 use Rattle.cs_profile.specs.declared.keyword.Keyword.{Keyword as Word}
 use Rattle.cs_profile.specs.declared.keyword.Keyword.TheVariants as keyword
-use Rattle.cs_validate.specs.Asked.{asks_type, asks_const, asks_enum, if_count, places_named}
-use Rattle.cs_validity_reasons.specs.CauseLists.{unless, all_unless, each_from, any_told, upper_told, lower_told, integer_told, reference_told, part_told, alternative_told, alternatives_told, negation_told, here_told, missing_told, front_told, rest_told, value_told, named_told, other_told, fronts_told, rests_told, list_told, all_named_told, others_told, map_told, kind_told, object_told}
+use Rattle.cs_validate.specs.Asked.{asks_type, asks_const, asks_enum, if_count, is_at_most_long, is_at_least_long, places_named}
+use Rattle.cs_validity_reasons.specs.CauseLists.{unless, all_unless, each_from, any_told, upper_told, lower_told, integer_told, length_told, reference_told, part_told, alternative_told, alternatives_told, negation_told, here_told, missing_told, front_told, rest_told, value_told, named_told, other_told, fronts_told, rests_told, list_told, all_named_told, others_told, map_told, kind_told, object_told}
 use Rattle.cs_validity_reasons.specs.Causes as cause
-use Rattle.cs_validity_reasons.specs.Causes.{keyword_of, IsDenied, of_keyword, of_reference, of_undefined, of_part, of_alternative, of_none, of_missing, of_property, of_additional, of_prefix, of_items, IsCause, of_claim}
+use Rattle.cs_validity_reasons.specs.Causes.{most_keyword, least_keyword, keyword_of, IsDenied, of_keyword, of_reference, of_undefined, of_part, of_alternative, of_none, of_missing, of_property, of_additional, of_prefix, of_items, IsCause, of_claim}
 use Rattle.cs_validate.specs.Numbering.{map_assertion}
 use Rattle.cs_validity_reasons.specs.NumberedCauses.{NumberedCause}
 use Rattle.cs_validity_reasons.specs.PlacedCauses.{members_in, required_in, named_in, IsKeyed, StaysAt, IsPlacedCause}
@@ -82,9 +83,9 @@ number_there : (q : ℤ → Bool) (x : Opened ℕ) → if_number q x ≡ false �
 number_there q (an_integer z) e = (z, refl, e)
 number_there q _ e = cc
 
-array_there : (q : List ℕ → Bool) (x : Opened ℕ) → if_array q x ≡ false → (ys : List ℕ) × (x ≡ a_list ys) × (q ys ≡ false)
-array_there q (a_list ys) e = (ys, refl, e)
-array_there q _ e = cc
+length_there : (q : ℕ → Bool) (o : Option ℕ) → if_there q o ≡ false → (n : ℕ) × (o ≡ Some n) × (q n ≡ false)
+length_there q (Some n) e = (n, refl, e)
+length_there q None e = cc
 
 -- ---- the cause without texts, by the one that it names
 
@@ -304,25 +305,63 @@ module _ (f : AllVerdicts) (inner : List ℕ) (i : ℕ) (d : Document) (c : Conj
       (λ l e. number_told (above l) keyword.ExclusiveMinimum (λ z. int_lt l z) refl (λ h. h)
       (λ z h. in_lower z (Keyword keyword.ExclusiveMinimum) (Contains-append_right (least z) (more z) (Keyword keyword.ExclusiveMinimum) (told_there (λ m. int_lt m z) c.keywords.now.above l (Keyword keyword.ExclusiveMinimum) e h))))
 
-  -- ---- of a list
+  -- ---- of a length
 
-  abbrev by_length : List ℕ → List PlacedCause
-  by_length ys = unless (if_there (if_count (λ l. nat_le l (length ys))) c.keywords.now.min_items) (Keyword keyword.MinItems)
+  abbrev most_of : Counted → Option ℤ
+  most_of Characters = c.keywords.now.max_length
+  most_of Elements = c.keywords.now.max_items
+  most_of Keys = c.keywords.now.max_properties
+
+  abbrev least_of : Counted → Option ℤ
+  least_of Characters = c.keywords.now.min_length
+  least_of Elements = c.keywords.now.min_items
+  least_of Keys = c.keywords.now.min_properties
+
+  abbrev too_long : Counted → ℕ → List PlacedCause
+  too_long k n = unless (is_at_most_long (most_of k) n) (Keyword (most_keyword k))
+
+  abbrev too_short : Counted → ℕ → List PlacedCause
+  too_short k n = unless (is_at_least_long (least_of k) n) (Keyword (least_keyword k))
+
+  abbrev by_length : Counted → ℕ → List PlacedCause
+  by_length k n = length_told (most_of k, most_keyword k) (least_of k, least_keyword k) n
+
+  in_length : (k : Counted) (y : Opened ℕ) (n : ℕ) (p : PlacedCause) → size_of k y ≡ Some n → Contains (by_length k n) p → Contains (kind_told f inner c y) p
+  in_length Characters (a_text s) n p e h = subst (λ m. Contains (by_length Characters m) p) (sym (same_Some (text_length s) n e)) h
+  in_length Elements (a_list ys) n p e h =
+      Contains-append_left (by_length Elements (length ys)) (fronts_told f inner c ys ++ rests_told f inner c ys) p
+      (subst (λ m. Contains (by_length Elements m) p) (sym (same_Some (length ys) n e)) h)
+  in_length Keys (an_object ms) n p e h =
+      Contains-append_left (by_length Keys (length ms)) (each_from (missing_told ms) 0 c.required ++ (all_named_told f inner c ms ++ others_told f inner c ms)) p
+      (subst (λ m. Contains (by_length Keys m) p) (sym (same_Some (length ms) n e)) h)
+  in_length _ _ n p e h = cc
+
+  one_most : (k : Counted) (z : ℤ) → most_of k ≡ Some z → AreAll of_kind (of_count (at_most_long k) z)
+  one_most k (pos l) e =
+      word_told of_kind (at_most_long k l) (most_keyword k) refl
+      (λ h. let n = length_there (λ j. nat_le j l) (size_of k x) h in
+      in_length k x n.0 (Keyword (most_keyword k)) n.1
+      (Contains-append_left (too_long k n.0) (too_short k n.0) (Keyword (most_keyword k)) (told_there (if_count (λ m. nat_le n.0 m)) (most_of k) (pos l) (Keyword (most_keyword k)) e n.2)))
+  one_most k (negsuc l) e = λ n p h s. absurd (never_denied (f i) f d x h)
+
+  one_least : (k : Counted) (z : ℤ) → least_of k ≡ Some z → AreAll of_kind (of_count (at_least_long k) z)
+  one_least k (pos l) e =
+      word_told of_kind (at_least_long k l) (least_keyword k) refl
+      (λ h. let n = length_there (λ j. nat_le l j) (size_of k x) h in
+      in_length k x n.0 (Keyword (least_keyword k)) n.1
+      (Contains-append_right (too_long k n.0) (too_short k n.0) (Keyword (least_keyword k)) (told_there (if_count (λ m. nat_le m n.0)) (least_of k) (pos l) (Keyword (least_keyword k)) e n.2)))
+  one_least k (negsuc l) e = λ n p h s. absurd (never_denied (f i) f d x h)
+
+  most_told : (k : Counted) → AreAllIf of_kind (option_map (of_count (at_most_long k)) (most_of k))
+  most_told k = if_claimed of_kind (of_count (at_most_long k)) (most_of k) (one_most k)
+
+  least_told : (k : Counted) → AreAllIf of_kind (option_map (of_count (at_least_long k)) (least_of k))
+  least_told k = if_claimed of_kind (of_count (at_least_long k)) (least_of k) (one_least k)
+
+  -- ---- of a list
 
   in_list : (ys : List ℕ) (p : PlacedCause) → x ≡ a_list ys → Contains (list_told f inner c ys) p → Contains of_kind p
   in_list ys p e h = subst (λ y. Contains (kind_told f inner c y) p) (sym e) h
-
-  one_count : (z : ℤ) → c.keywords.now.min_items ≡ Some z → AreAll of_kind (of_count at_least_long z)
-  one_count (pos l) e =
-      word_told of_kind (at_least_long l) keyword.MinItems refl
-      (λ h. let y = array_there (λ ys. nat_le l (length ys)) x h in
-      in_list y.0 (Keyword keyword.MinItems) y.1
-      (Contains-append_left (by_length y.0) (fronts_told f inner c y.0 ++ rests_told f inner c y.0) (Keyword keyword.MinItems)
-      (told_there (if_count (λ m. nat_le m (length y.0))) c.keywords.now.min_items (pos l) (Keyword keyword.MinItems) e y.2)))
-  one_count (negsuc l) e = λ n p h k. absurd (never_denied (f i) f d x h)
-
-  count_told : AreAllIf of_kind (claim_of c keyword.MinItems)
-  count_told = if_claimed of_kind (of_count at_least_long) c.keywords.now.min_items one_count
 
   abbrev front_rules : List ℕ
   front_rules = map (slice_index inner) (places_from (prefix_place c) c.keywords.now.prefix.items)
@@ -331,7 +370,7 @@ module _ (f : AllVerdicts) (inner : List ℕ) (i : ℕ) (d : Document) (c : Conj
   one_front p (of_keyword e h) k = cc
   one_front p (of_prefix {k = j} {s = q} {y = y} {ys = ys} o e l h) k =
       in_list ys p o
-      (Contains-append_right (by_length ys) (fronts_told f inner c ys ++ rests_told f inner c ys) p
+      (Contains-append_right (by_length Elements (length ys)) (fronts_told f inner c ys ++ rests_told f inner c ys) p
       (Contains-append_left (fronts_told f inner c ys) (rests_told f inner c ys) p
       (subst (Contains (fronts_told f inner c ys)) (sym k)
       (told_at (front_told f) j (zip front_rules ys) (q, y) (Prefix j y q) (zipped front_rules ys j q y e l) (told_unless (f y q) (Prefix j y q) h)))))
@@ -360,7 +399,7 @@ module _ (f : AllVerdicts) (inner : List ℕ) (i : ℕ) (d : Document) (c : Conj
       if_claimed of_kind (λ s. behind taken (items_place c)) c.keywords.now.rest
       (λ s e n p h k. let z = one_rest p h k in
       in_list z.0 p z.1
-      (Contains-append_right (by_length z.0) (fronts_told f inner c z.0 ++ rests_told f inner c z.0) p
+      (Contains-append_right (by_length Elements (length z.0)) (fronts_told f inner c z.0 ++ rests_told f inner c z.0) p
       (Contains-append_right (fronts_told f inner c z.0) (rests_told f inner c z.0) p
       (told_each (λ t. each_from (rest_told f rest_rule) taken (drop taken z.0)) c.keywords.now.rest s p e z.2))))
 
@@ -372,10 +411,16 @@ module _ (f : AllVerdicts) (inner : List ℕ) (i : ℕ) (d : Document) (c : Conj
   abbrev all_missing : List (Entry ℕ) → List PlacedCause
   all_missing ms = each_from (missing_told ms) 0 c.required
 
+  abbrev of_keys : List (Entry ℕ) → List PlacedCause
+  of_keys ms = all_missing ms ++ (all_named_told f inner c ms ++ others_told f inner c ms)
+
+  in_keys : (ms : List (Entry ℕ)) (p : PlacedCause) → x ≡ an_object ms → Contains (of_keys ms) p → Contains of_kind p
+  in_keys ms p e h = in_map ms p e (Contains-append_right (by_length Keys (length ms)) (of_keys ms) p h)
+
   one_missing : {n : NumberedCause} (p : PlacedCause) → Denies (has_keys c.required) n → IsOf p n → Contains of_kind p
   one_missing p (of_keyword e h) k = cc
   one_missing p (of_missing {k = key} {ms = ms} o m e) k =
-      in_map ms p o
+      in_keys ms p o
       (Contains-append_left (all_missing ms) (all_named_told f inner c ms ++ others_told f inner c ms) p
       (subst (Contains (all_missing ms)) (sym k.2)
       (told_at (missing_told ms) k.0 c.required key (Missing k.0) k.1 (told_unless (is_some (under key ms)) (Missing k.0) (ap (λ r. is_some r) e)))))
@@ -387,7 +432,7 @@ module _ (f : AllVerdicts) (inner : List ℕ) (i : ℕ) (d : Document) (c : Conj
   one_property p (of_keyword e h) k = cc
   one_property p (of_property {k = key} {s = q} {y = y} {ms = ms} o m e h) k =
       let told : Contains (value_told f k.0 q (under key ms)) (Property k.0 y q) = subst (λ r. Contains (value_told f k.0 q r) (Property k.0 y q)) (sym e) (told_unless (f y q) (Property k.0 y q) h) in
-      in_map ms p o
+      in_keys ms p o
       (Contains-append_right (all_missing ms) (all_named_told f inner c ms ++ others_told f inner c ms) p
       (Contains-append_left (all_named_told f inner c ms) (others_told f inner c ms) p
       (subst (Contains (all_named_told f inner c ms)) (sym k.2) (told_at (named_told f ms) k.0 named_here (key, q) (Property k.0 y q) k.1 told))))
@@ -415,7 +460,7 @@ module _ (f : AllVerdicts) (inner : List ℕ) (i : ℕ) (d : Document) (c : Conj
   any_other =
       if_claimed of_kind (λ s. at_other_keys declared_names c.first) c.keywords.now.additional
       (λ s e n p h k. let z = one_other p h k in
-      in_map z.0 p z.1
+      in_keys z.0 p z.1
       (Contains-append_right (all_missing z.0) (all_named_told f inner c z.0 ++ others_told f inner c z.0) p
       (Contains-append_right (all_named_told f inner c z.0) (others_told f inner c z.0) p
       (told_each (λ t. each_from (other_told f declared_names other_rule) 0 z.0) c.keywords.now.additional s p e z.2))))
@@ -456,7 +501,12 @@ module _ (f : AllVerdicts) (inner : List ℕ) (i : ℕ) (d : Document) (c : Conj
   all_claimed keyword.ExclusiveMaximum = among of_kind (claim_of c keyword.ExclusiveMaximum) in_kind below_told
   all_claimed keyword.Minimum = among of_kind (claim_of c keyword.Minimum) in_kind minimum_told
   all_claimed keyword.ExclusiveMinimum = among of_kind (claim_of c keyword.ExclusiveMinimum) in_kind above_told
-  all_claimed keyword.MinItems = among of_kind (claim_of c keyword.MinItems) in_kind count_told
+  all_claimed keyword.MaxLength = among of_kind (claim_of c keyword.MaxLength) in_kind (most_told Characters)
+  all_claimed keyword.MinLength = among of_kind (claim_of c keyword.MinLength) in_kind (least_told Characters)
+  all_claimed keyword.MaxItems = among of_kind (claim_of c keyword.MaxItems) in_kind (most_told Elements)
+  all_claimed keyword.MinItems = among of_kind (claim_of c keyword.MinItems) in_kind (least_told Elements)
+  all_claimed keyword.MaxProperties = among of_kind (claim_of c keyword.MaxProperties) in_kind (most_told Keys)
+  all_claimed keyword.MinProperties = among of_kind (claim_of c keyword.MinProperties) in_kind (least_told Keys)
   all_claimed keyword.PrefixItems = among of_kind (claim_of c keyword.PrefixItems) in_kind any_front
   all_claimed keyword.Items = among of_kind (claim_of c keyword.Items) in_kind any_rest
   all_claimed keyword.Required = among of_kind (claim_of c keyword.Required) in_kind any_missing

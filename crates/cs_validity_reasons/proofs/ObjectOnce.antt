@@ -1,16 +1,16 @@
 -- What is told of an object's rule is told once: the pieces of the list are by different tags, which rise along it.
 use Rattle.std.proofs.Common.{◌≡◌, ℕ, zero, suc, ◌≤◌, ◌<◌, Bool, true, false, List, [], ◌∷◌, ◌++◌, Option, None, Some, refl, subst, arith}
-use Rattle.std.specs.Prelude.{ℤ, String, slice_get, is_some}
+use Rattle.std.specs.Prelude.{ℤ, String, slice_get, is_some, length}
 use Rattle.std.specs.Option.{option_map_or}
 use Rattle.std.specs.List.{list_any}
 use Rattle.std.specs.declared.alloc.Global.{Global}
 use Rattle.std.proofs.lemmas.Option.{same_Some}
 use Rattle.cs_document.specs.Document.{Document, Entry, under}
-use Rattle.cs_document.specs.Opened.{Opened, an_integer, a_list, an_object}
+use Rattle.cs_document.specs.Opened.{Opened, an_integer, a_text, a_list, an_object}
 use Rattle.cs_table.specs.Judged.{AllVerdicts}
 use Rattle.cs_profile.specs.declared.keyword.Keyword.TheVariants as keyword
 use Rattle.cs_profile.specs.declared.schema.Keywords.{Keywords}
-use Rattle.cs_validity_reasons.specs.CauseLists.{unless, all_unless, each_from, any_told, upper_told, lower_told, integer_told, reference_told, part_told, alternative_told, negation_told, here_told, missing_told, front_told, rest_told, value_told, named_told, other_told, fronts_told, rests_told, list_told, all_named_told, others_told, map_told, kind_told, object_told}
+use Rattle.cs_validity_reasons.specs.CauseLists.{unless, all_unless, each_from, any_told, upper_told, lower_told, integer_told, length_told, text_told, reference_told, part_told, alternative_told, negation_told, here_told, missing_told, front_told, rest_told, value_told, named_told, other_told, fronts_told, rests_told, list_told, all_named_told, others_told, map_told, kind_told, object_told}
 use Rattle.cs_validate.specs.declared.rules.Conjunction.{Conjunction}
 use Rattle.cs_validity_reasons.specs.Led.{PlacedCause}
 use Rattle.cs_validity_reasons.specs.declared.cause.KeyedCause.TheVariants.{Reference, Part, Alternative, Property, Additional, Prefix, Items, Missing, Keyword}
@@ -30,13 +30,18 @@ tag (Keyword keyword.Maximum) = 8
 tag (Keyword keyword.ExclusiveMaximum) = 9
 tag (Keyword keyword.Minimum) = 10
 tag (Keyword keyword.ExclusiveMinimum) = 11
-tag (Keyword keyword.MinItems) = 12
-tag (Prefix k item q) = 13
-tag (Items k item q) = 14
-tag (Missing k) = 15
-tag (Property k item q) = 16
-tag (Additional k item q) = 17
-tag _ = 18
+tag (Keyword keyword.MaxLength) = 12
+tag (Keyword keyword.MinLength) = 13
+tag (Keyword keyword.MaxItems) = 14
+tag (Keyword keyword.MinItems) = 15
+tag (Prefix k item q) = 16
+tag (Items k item q) = 17
+tag (Keyword keyword.MaxProperties) = 18
+tag (Keyword keyword.MinProperties) = 19
+tag (Missing k) = 20
+tag (Property k item q) = 21
+tag (Additional k item q) = 22
+tag _ = 23
 
 abbrev place : PlacedCause → ℕ
 place (Part item q k) = k
@@ -163,47 +168,58 @@ module _ (f : AllVerdicts) (i : ℕ) where
       (tagged_both 5 6 8 _ _ (omega arith) (omega arith) (parts_tagged c.all_of.items)
       (tagged_both 6 7 8 _ _ (omega arith) (omega arith) (all_tagged (list_any (f i) c.any_of.items) c.any_of.items) (negation_tagged c.negated)))
 
+text_tagged : (k : Keywords) (s : List ℕ) → AreTagged 12 14 (text_told k s)
+text_tagged k s = tagged_both 12 13 14 _ _ (omega arith) (omega arith) (tagged_unless _ (Keyword keyword.MaxLength)) (tagged_unless _ (Keyword keyword.MinLength))
+
 module _ (f : AllVerdicts) where
-  front_at : (k : ℕ) (p : ℕ × ℕ) → AreAt 13 k (front_told f k p)
+  front_at : (k : ℕ) (p : ℕ × ℕ) → AreAt 16 k (front_told f k p)
   front_at k (q, y) = at_unless (f y q) (Prefix k y q)
 
-  value_at : (k q : ℕ) (o : Option ℕ) → AreAt 16 k (value_told f k q o)
-  value_at k q None = at_none 16 k
+  value_at : (k q : ℕ) (o : Option ℕ) → AreAt 21 k (value_told f k q o)
+  value_at k q None = at_none 21 k
   value_at k q (Some y) = at_unless (f y q) (Property k y q)
 
 module _ (f : AllVerdicts) (inner : List ℕ) (c : Conjunction) where
-  fronts_tagged : (ys : List ℕ) → AreTagged 13 14 (fronts_told f inner c ys)
-  fronts_tagged ys = tagged_each (front_told f) 13 (front_at f) 0 _
+  fronts_tagged : (ys : List ℕ) → AreTagged 16 17 (fronts_told f inner c ys)
+  fronts_tagged ys = tagged_each (front_told f) 16 (front_at f) 0 _
 
-  rests_tagged : (ys : List ℕ) → AreTagged 14 15 (rests_told f inner c ys)
-  rests_tagged ys = tagged_or 14 15 _ (λ s. tagged_each (rest_told f _) 14 (λ k y. at_unless _ (Items k y _)) _ _) c.keywords.now.rest
+  rests_tagged : (ys : List ℕ) → AreTagged 17 18 (rests_told f inner c ys)
+  rests_tagged ys = tagged_or 17 18 _ (λ s. tagged_each (rest_told f _) 17 (λ k y. at_unless _ (Items k y _)) _ _) c.keywords.now.rest
 
-  list_tagged : (ys : List ℕ) → AreTagged 12 15 (list_told f inner c ys)
+  size_tagged : (ys : List ℕ) → AreTagged 14 16 (length_told (c.keywords.now.max_items, keyword.MaxItems) (c.keywords.now.min_items, keyword.MinItems) (length ys))
+  size_tagged ys = tagged_both 14 15 16 _ _ (omega arith) (omega arith) (tagged_unless _ (Keyword keyword.MaxItems)) (tagged_unless _ (Keyword keyword.MinItems))
+
+  list_tagged : (ys : List ℕ) → AreTagged 14 18 (list_told f inner c ys)
   list_tagged ys =
-      tagged_both 12 13 15 _ _ (omega arith) (omega arith) (tagged_unless _ (Keyword keyword.MinItems))
-      (tagged_both 13 14 15 _ _ (omega arith) (omega arith) (fronts_tagged ys) (rests_tagged ys))
+      tagged_both 14 16 18 _ _ (omega arith) (omega arith) (size_tagged ys)
+      (tagged_both 16 17 18 _ _ (omega arith) (omega arith) (fronts_tagged ys) (rests_tagged ys))
 
-  missing_tagged : (ms : List (Entry ℕ)) → AreTagged 15 16 (each_from (missing_told ms) 0 c.required)
-  missing_tagged ms = tagged_each (missing_told ms) 15 (λ k n. at_unless (is_some (under n ms)) (Missing k)) 0 c.required
+  missing_tagged : (ms : List (Entry ℕ)) → AreTagged 20 21 (each_from (missing_told ms) 0 c.required)
+  missing_tagged ms = tagged_each (missing_told ms) 20 (λ k n. at_unless (is_some (under n ms)) (Missing k)) 0 c.required
 
-  all_named_tagged : (ms : List (Entry ℕ)) → AreTagged 16 17 (all_named_told f inner c ms)
-  all_named_tagged ms = tagged_each (named_told f ms) 16 (λ k e. value_at f k e.1 (under e.0 ms)) 0 _
+  all_named_tagged : (ms : List (Entry ℕ)) → AreTagged 21 22 (all_named_told f inner c ms)
+  all_named_tagged ms = tagged_each (named_told f ms) 21 (λ k e. value_at f k e.1 (under e.0 ms)) 0 _
 
-  others_tagged : (ms : List (Entry ℕ)) → AreTagged 17 18 (others_told f inner c ms)
-  others_tagged ms = tagged_or 17 18 _ (λ s. tagged_each (other_told f _ _) 17 (λ k m. at_unless _ (Additional k m.1 _)) 0 ms) c.keywords.now.additional
+  others_tagged : (ms : List (Entry ℕ)) → AreTagged 22 23 (others_told f inner c ms)
+  others_tagged ms = tagged_or 22 23 _ (λ s. tagged_each (other_told f _ _) 22 (λ k m. at_unless _ (Additional k m.1 _)) 0 ms) c.keywords.now.additional
 
-  map_tagged : (ms : List (Entry ℕ)) → AreTagged 15 18 (map_told f inner c ms)
+  count_tagged : (ms : List (Entry ℕ)) → AreTagged 18 20 (length_told (c.keywords.now.max_properties, keyword.MaxProperties) (c.keywords.now.min_properties, keyword.MinProperties) (length ms))
+  count_tagged ms = tagged_both 18 19 20 _ _ (omega arith) (omega arith) (tagged_unless _ (Keyword keyword.MaxProperties)) (tagged_unless _ (Keyword keyword.MinProperties))
+
+  map_tagged : (ms : List (Entry ℕ)) → AreTagged 18 23 (map_told f inner c ms)
   map_tagged ms =
-      tagged_both 15 16 18 _ _ (omega arith) (omega arith) (missing_tagged ms)
-      (tagged_both 16 17 18 _ _ (omega arith) (omega arith) (all_named_tagged ms) (others_tagged ms))
+      tagged_both 18 20 23 _ _ (omega arith) (omega arith) (count_tagged ms)
+      (tagged_both 20 21 23 _ _ (omega arith) (omega arith) (missing_tagged ms)
+      (tagged_both 21 22 23 _ _ (omega arith) (omega arith) (all_named_tagged ms) (others_tagged ms)))
 
-  kind_tagged : (x : Opened ℕ) → AreTagged 8 18 (kind_told f inner c x)
-  kind_tagged (an_integer n) = tagged_wider 8 12 8 18 (integer_told c.keywords.now n) (omega arith) (omega arith) (integer_tagged c.keywords.now n)
-  kind_tagged (a_list ys) = tagged_wider 12 15 8 18 (list_told f inner c ys) (omega arith) (omega arith) (list_tagged ys)
-  kind_tagged (an_object ms) = tagged_wider 15 18 8 18 (map_told f inner c ms) (omega arith) (omega arith) (map_tagged ms)
-  kind_tagged _ = tagged_none 8 18
+  kind_tagged : (x : Opened ℕ) → AreTagged 8 23 (kind_told f inner c x)
+  kind_tagged (an_integer n) = tagged_wider 8 12 8 23 (integer_told c.keywords.now n) (omega arith) (omega arith) (integer_tagged c.keywords.now n)
+  kind_tagged (a_text s) = tagged_wider 12 14 8 23 (text_told c.keywords.now s) (omega arith) (omega arith) (text_tagged c.keywords.now s)
+  kind_tagged (a_list ys) = tagged_wider 14 18 8 23 (list_told f inner c ys) (omega arith) (omega arith) (list_tagged ys)
+  kind_tagged (an_object ms) = tagged_wider 18 23 8 23 (map_told f inner c ms) (omega arith) (omega arith) (map_tagged ms)
+  kind_tagged _ = tagged_none 8 23
 
 pub object_once : (f : AllVerdicts) (inner : List ℕ) (i : ℕ) (d : Document) (x : Opened ℕ) (c : Conjunction) → AreOnce (object_told f inner i d x c)
 object_once f inner i d x c =
-    (tagged_both 0 3 18 _ _ (omega arith) (omega arith) (any_tagged c d x)
-    (tagged_both 3 8 18 (here_told f i c) (kind_told f inner c x) (omega arith) (omega arith) (here_tagged f i c) (kind_tagged f inner c x))).once
+    (tagged_both 0 3 23 _ _ (omega arith) (omega arith) (any_tagged c d x)
+    (tagged_both 3 8 23 (here_told f i c) (kind_told f inner c x) (omega arith) (omega arith) (here_tagged f i c) (kind_tagged f inner c x))).once

@@ -1,12 +1,13 @@
 -- Of a pair that an object refuses something is told.
 use Rattle.std.proofs.Common.{◌≡◌, ℕ, suc, ◌<◌, ℤ, Bool, true, false, not, ◌&&◌, List, [], ◌∷◌, ◌++◌, Option, Some, None, length, drop, map, zip, slice_index, refl, sym, ◌∙◌, arith}
-use Rattle.std.specs.Prelude.{slice_get, is_some, nat_le, int_le, int_lt, String}
+use Rattle.std.specs.Prelude.{slice_get, is_some, int_le, int_lt, String}
 use Rattle.std.specs.Option.{option_map_or}
 use Rattle.std.specs.List.{list_all, list_any}
 use Rattle.std.specs.declared.alloc.Global.{Global}
 use Rattle.cs_document.specs.Document.{Document, Entry, under}
 use Rattle.cs_document.specs.Inside.{map_entry}
-use Rattle.cs_document.specs.Opened.{Opened, an_integer, a_list, an_object}
+use Rattle.cs_document.specs.Opened.{Opened, an_integer, a_text, a_list, an_object}
+use Rattle.cs_document.specs.Sizes.{text_length}
 use Rattle.cs_flat.specs.Listed.{values}
 use Rattle.cs_flat.specs.Nodes.{node_at}
 use Rattle.cs_rules.specs.Answers.{answer}
@@ -14,11 +15,12 @@ use Rattle.cs_rules.proofs.Judged.{answer_is}
 use Rattle.cs_table.specs.Judged.{AllVerdicts}
 use Rattle.cs_profile.specs.Numbered.{names_in}
 use Rattle.cs_profile.specs.Validity.{if_there}
+use Rattle.cs_profile.specs.declared.keyword.Keyword.{Keyword as Word}
 use Rattle.cs_profile.specs.declared.keyword.Keyword.TheVariants as keyword
 use Rattle.cs_profile.specs.declared.schema.Keywords.{Keywords}
 use Rattle.cs_validate.proofs.Asked.{claims_hold}
-use Rattle.cs_validate.specs.Asked.{asks_type, asks_const, asks_enum, asks_any, is_not_above, is_not_below, asks_integer, asks_reference, asks_alternative, asks_here, if_count, places_named, asks_front, asks_at, asks_named, asks_other, asks_others, asks_list, asks_map, asks_kind}
-use Rattle.cs_validity_reasons.specs.CauseLists.{unless, all_unless, each_from, any_told, upper_told, lower_told, integer_told, reference_told, part_told, alternative_told, alternatives_told, negation_told, here_told, missing_told, front_told, rest_told, value_told, named_told, other_told, fronts_told, rests_told, list_told, all_named_told, others_told, map_told, kind_told, object_told}
+use Rattle.cs_validate.specs.Asked.{asks_type, asks_const, asks_enum, asks_any, is_not_above, is_not_below, asks_integer, is_at_most_long, is_at_least_long, asks_text, asks_reference, asks_alternative, asks_here, places_named, asks_front, asks_at, asks_named, asks_other, asks_others, asks_list, asks_map, asks_kind}
+use Rattle.cs_validity_reasons.specs.CauseLists.{unless, all_unless, each_from, any_told, upper_told, lower_told, integer_told, length_told, text_told, reference_told, part_told, alternative_told, alternatives_told, negation_told, here_told, missing_told, front_told, rest_told, value_told, named_told, other_told, fronts_told, rests_told, list_told, all_named_told, others_told, map_told, kind_told, object_told}
 use Rattle.cs_validate.specs.Steps.{step, places_from, items_place, prefix_place, properties_place}
 use Rattle.cs_validate.specs.declared.rules.Rule.{Rule as Coded}
 use Rattle.cs_validate.specs.declared.rules.Rule.TheVariants as rule
@@ -70,7 +72,7 @@ module _ {X : Type 0} (g : ℕ → X → List PlacedCause) (p : X → Bool) (one
   tells_if None k xs = tells_none
   tells_if (Some y) k xs = tells_each k xs
 
--- ---- by the keywords of any value, and of integers
+-- ---- by the keywords of any value, of integers, and of lengths
 
 tells_any : (c : Conjunction) (d : Document) (x : Opened ℕ) → Tells (any_told c d x) (asks_any c d x)
 tells_any c d x =
@@ -82,6 +84,12 @@ tells_integer k n =
     tells_both (upper_told k n) (lower_told k n) (is_not_above k n) (is_not_below k n)
     (tells_swapped _ _ (if_there (λ l. int_le n l) k.maximum) (if_there (λ l. int_lt n l) k.below) (tells_unless _ (Keyword keyword.Maximum)) (tells_unless _ (Keyword keyword.ExclusiveMaximum)))
     (tells_swapped _ _ (if_there (λ l. int_le l n) k.minimum) (if_there (λ l. int_lt l n) k.above) (tells_unless _ (Keyword keyword.Minimum)) (tells_unless _ (Keyword keyword.ExclusiveMinimum)))
+
+tells_length : (most least : Option ℤ × Word) (n : ℕ) → Tells (length_told most least n) (is_at_most_long most.0 n && is_at_least_long least.0 n)
+tells_length most least n = tells_both _ _ (is_at_most_long most.0 n) (is_at_least_long least.0 n) (tells_unless _ (Keyword most.1)) (tells_unless _ (Keyword least.1))
+
+tells_text : (k : Keywords) (s : List ℕ) → Tells (text_told k s) (asks_text k s)
+tells_text k s = tells_length (k.max_length, keyword.MaxLength) (k.min_length, keyword.MinLength) (text_length s)
 
 -- ---- by the schemas that are asked of the value itself
 
@@ -125,23 +133,29 @@ module _ (f : AllVerdicts) (inner : List ℕ) where
   module _ (c : Conjunction) where
     tells_list : (ys : List ℕ) → Tells (list_told f inner c ys) (asks_list within c ys)
     tells_list ys =
-        tells_three (unless (if_there (if_count (λ l. nat_le l (length ys))) c.keywords.now.min_items) (Keyword keyword.MinItems)) (fronts_told f inner c ys) (rests_told f inner c ys)
-        (if_there (if_count (λ l. nat_le l (length ys))) c.keywords.now.min_items) (asks_front within (places_from (prefix_place c) c.keywords.now.prefix.items) ys)
+        let most : Option ℤ × Word = (c.keywords.now.max_items, keyword.MaxItems) in
+        let least : Option ℤ × Word = (c.keywords.now.min_items, keyword.MinItems) in
+        tells_three (length_told most least (length ys)) (fronts_told f inner c ys) (rests_told f inner c ys) (is_at_most_long most.0 (length ys) && is_at_least_long least.0 (length ys))
+        (asks_front within (places_from (prefix_place c) c.keywords.now.prefix.items) ys)
         (if_there (λ s. list_all (λ y. within y (items_place c)) (drop (length c.keywords.now.prefix.items) ys)) c.keywords.now.rest)
-        (tells_unless _ _) (tells_fronts 0 (places_from (prefix_place c) c.keywords.now.prefix.items) ys)
+        (tells_length most least (length ys)) (tells_fronts 0 (places_from (prefix_place c) c.keywords.now.prefix.items) ys)
         (tells_if (rest_told f (slice_index inner (items_place c))) (λ y. within y (items_place c)) (λ k y. tells_unless _ _) c.keywords.now.rest (length c.keywords.now.prefix.items) (drop (length c.keywords.now.prefix.items) ys))
 
     tells_map : (ms : List (Entry ℕ)) → Tells (map_told f inner c ms) (asks_map within c ms)
     tells_map ms =
-        tells_three (each_from (missing_told ms) 0 c.required) (all_named_told f inner c ms) (others_told f inner c ms)
-        (list_all (λ k. is_some (under k ms)) c.required) (asks_named within ms (places_named (properties_place c) c.keywords.now.properties.entries))
+        let most : Option ℤ × Word = (c.keywords.now.max_properties, keyword.MaxProperties) in
+        let least : Option ℤ × Word = (c.keywords.now.min_properties, keyword.MinProperties) in
+        tells_four (length_told most least (length ms)) (each_from (missing_told ms) 0 c.required) (all_named_told f inner c ms) (others_told f inner c ms)
+        (is_at_most_long most.0 (length ms) && is_at_least_long least.0 (length ms)) (list_all (λ k. is_some (under k ms)) c.required)
+        (asks_named within ms (places_named (properties_place c) c.keywords.now.properties.entries))
         (if_there (λ s. asks_others within (names_in c.keywords.now.properties.entries) c.first ms) c.keywords.now.additional)
-        (tells_each (missing_told ms) (λ k. is_some (under k ms)) (λ k n. tells_unless _ _) 0 c.required)
+        (tells_length most least (length ms)) (tells_each (missing_told ms) (λ k. is_some (under k ms)) (λ k n. tells_unless _ _) 0 c.required)
         (tells_named ms 0 (places_named (properties_place c) c.keywords.now.properties.entries))
         (tells_if (other_told f (names_in c.keywords.now.properties.entries) (slice_index inner c.first)) (asks_other within (names_in c.keywords.now.properties.entries) c.first) (λ k m. tells_unless _ _) c.keywords.now.additional 0 ms)
 
     tells_kind : (x : Opened ℕ) → Tells (kind_told f inner c x) (asks_kind within c x)
     tells_kind (an_integer n) = tells_integer c.keywords.now n
+    tells_kind (a_text s) = tells_text c.keywords.now s
     tells_kind (a_list ys) = tells_list ys
     tells_kind (an_object ms) = tells_map ms
     tells_kind _ = tells_none

@@ -9,7 +9,8 @@ use Rattle.std.proofs.lemmas.List.Elements.{Contains-append_cases}
 use Rattle.std.proofs.lemmas.Option.{same_Some}
 use Rattle.cs_document.specs.Document.{Document, Entry, under, document_eq}
 use Rattle.cs_document.specs.Inside.{map_entry}
-use Rattle.cs_document.specs.Opened.{Opened, a_list, an_integer, an_object}
+use Rattle.cs_document.specs.Opened.{Opened, a_text, a_list, an_integer, an_object}
+use Rattle.cs_document.specs.Sizes.{Counted, Characters, Elements, Keys, text_length, size_of}
 use Rattle.cs_document.specs.View.{doc_view}
 use Rattle.cs_document.proofs.Each.{each_member}
 use Rattle.cs_flat.specs.Listed.{values}
@@ -17,16 +18,16 @@ use Rattle.cs_flat.specs.Nodes.{node_at}
 use Rattle.cs_table.specs.Judged.{AllVerdicts}
 use Rattle.cs_profile.specs.Keywords.{all_keywords}
 use Rattle.cs_profile.specs.Numbered.{numbered as numbers_from, names_in}
-use Rattle.cs_profile.specs.Constraint.{Assertion, valid_by, has_kind, equals, is_among, at_least, at_most, above, below, has_keys, at_keys, at_other_keys, in_front, behind, at_least_long, valid_by_all, valid_by_any, not_valid_by}
+use Rattle.cs_profile.specs.Constraint.{Assertion, valid_by, has_kind, equals, is_among, at_least, at_most, above, below, has_keys, at_keys, at_other_keys, in_front, behind, at_least_long, at_most_long, valid_by_all, valid_by_any, not_valid_by}
 use Rattle.cs_profile.specs.Validity.{is_of_kind, if_there, holds}
 use Rattle.cs_profile.specs.declared.keyword.Keyword.{Keyword as Word}
 use Rattle.cs_profile.specs.declared.keyword.Keyword.TheVariants as keyword
 use Rattle.cs_profile.specs.declared.schema.Schema.{Schema}
 use Rattle.cs_profile.proofs.Names.{every_keyword}
-use Rattle.cs_validate.specs.Asked.{if_count}
-use Rattle.cs_validity_reasons.specs.CauseLists.{unless, all_unless, each_from, any_told, upper_told, lower_told, integer_told, reference_told, part_told, alternative_told, alternatives_told, negation_told, here_told, missing_told, front_told, rest_told, value_told, named_told, other_told, fronts_told, list_told, all_named_told, map_told, kind_told, object_told}
+use Rattle.cs_validate.specs.Asked.{is_at_most_long, is_at_least_long}
+use Rattle.cs_validity_reasons.specs.CauseLists.{unless, all_unless, each_from, any_told, upper_told, lower_told, integer_told, length_told, text_told, reference_told, part_told, alternative_told, alternatives_told, negation_told, here_told, missing_told, front_told, rest_told, value_told, named_told, other_told, fronts_told, list_told, all_named_told, map_told, kind_told, object_told}
 use Rattle.cs_validity_reasons.specs.Causes as cause
-use Rattle.cs_validity_reasons.specs.Causes.{keyword_of, IsDenied, of_keyword, of_reference, of_undefined, of_part, of_alternative, of_missing, of_property, of_additional, of_prefix, of_items, of_claim}
+use Rattle.cs_validity_reasons.specs.Causes.{most_keyword, least_keyword, keyword_of, IsDenied, of_keyword, of_reference, of_undefined, of_part, of_alternative, of_missing, of_property, of_additional, of_prefix, of_items, of_claim}
 use Rattle.cs_validity_reasons.specs.NumberedCauses.{NumberedCause}
 use Rattle.cs_validate.specs.Numbering.{map_assertion}
 use Rattle.cs_validity_reasons.specs.PlacedCauses.{members_in, named_in, IsKeyed, StaysAt, IsPlacedCause}
@@ -200,16 +201,33 @@ module _ (f : AllVerdicts) (inner : List ℕ) (i : ℕ) (d : Document) (c : Conj
       (word_told (an_integer n) keyword.ExclusiveMinimum above (λ l. int_lt l n) c.keywords.now.above refl (λ l. refl) (λ l. refl) p) (Contains-append_cases _ _ p u))
       (Contains-append_cases _ _ p m)
 
+  -- ---- lengths
+
+  module _ (k : Counted) (x : Opened ℕ) (n : ℕ) (size : size_of k x ≡ Some n) where
+    most_sound : (o : Option ℤ) → claim_of c (most_keyword k) ≡ option_map (of_count (at_most_long k)) o → (p : PlacedCause) → Contains (unless (is_at_most_long o n) (Keyword (most_keyword k))) p → IsTold x p
+    most_sound None e p m = absurd (none_in p m)
+    most_sound (Some (pos l)) e p m =
+        let u = unless_in (nat_le n l) (Keyword (most_keyword k)) p m in
+        subst (IsTold x) u.1 (of_word x (most_keyword k) (at_most_long k l) e refl (ap (if_there (λ j. nat_le j l)) size ∙ u.0))
+    most_sound (Some (negsuc l)) e p m = absurd (none_in p m)
+
+    least_sound : (o : Option ℤ) → claim_of c (least_keyword k) ≡ option_map (of_count (at_least_long k)) o → (p : PlacedCause) → Contains (unless (is_at_least_long o n) (Keyword (least_keyword k))) p → IsTold x p
+    least_sound None e p m = absurd (none_in p m)
+    least_sound (Some (pos l)) e p m =
+        let u = unless_in (nat_le l n) (Keyword (least_keyword k)) p m in
+        subst (IsTold x) u.1 (of_word x (least_keyword k) (at_least_long k l) e refl (ap (if_there (λ j. nat_le l j)) size ∙ u.0))
+    least_sound (Some (negsuc l)) e p m = absurd (none_in p m)
+
+    length_sound : (most least : Option ℤ) → claim_of c (most_keyword k) ≡ option_map (of_count (at_most_long k)) most → claim_of c (least_keyword k) ≡ option_map (of_count (at_least_long k)) least
+        → (p : PlacedCause) → Contains (length_told (most, most_keyword k) (least, least_keyword k) n) p → IsTold x p
+    length_sound most least e g p m = ⊎_elim (most_sound most e p) (least_sound least g p) (Contains-append_cases _ _ p m)
+
+  text_sound : (s : List ℕ) (p : PlacedCause) → Contains (text_told c.keywords.now s) p → IsTold (a_text s) p
+  text_sound s p m = length_sound Characters (a_text s) (text_length s) refl c.keywords.now.max_length c.keywords.now.min_length refl refl p m
+
   -- ---- lists
 
   module _ (ys : List ℕ) where
-    length_sound : (o : Option ℤ) → claim_of c keyword.MinItems ≡ option_map (of_count at_least_long) o → (p : PlacedCause)
-        → Contains (unless (if_there (if_count (λ l. nat_le l (length ys))) o) (Keyword keyword.MinItems)) p → IsTold (a_list ys) p
-    length_sound None e p m = absurd (none_in p m)
-    length_sound (Some (pos n)) e p m =
-        let u = unless_in (nat_le n (length ys)) (Keyword keyword.MinItems) p m in subst (IsTold (a_list ys)) u.1 (of_word (a_list ys) keyword.MinItems (at_least_long n) e refl u.0)
-    length_sound (Some (negsuc n)) e p m = absurd (none_in p m)
-
     abbrev places : List ℕ
     places = places_from (prefix_place c) c.keywords.now.prefix.items
 
@@ -258,7 +276,8 @@ module _ (f : AllVerdicts) (inner : List ℕ) (i : ℕ) (d : Document) (c : Conj
 
     list_sound : (p : PlacedCause) → Contains (list_told f inner c ys) p → IsTold (a_list ys) p
     list_sound p m =
-        ⊎_elim (length_sound c.keywords.now.min_items refl p) (λ n. ⊎_elim (fronts_sound p) (rests_sound c.keywords.now.rest refl p) (Contains-append_cases _ _ p n)) (Contains-append_cases _ _ p m)
+        ⊎_elim (length_sound Elements (a_list ys) (length ys) refl c.keywords.now.max_items c.keywords.now.min_items refl refl p)
+        (λ n. ⊎_elim (fronts_sound p) (rests_sound c.keywords.now.rest refl p) (Contains-append_cases _ _ p n)) (Contains-append_cases _ _ p m)
 
   -- ---- maps
 
@@ -327,12 +346,15 @@ module _ (f : AllVerdicts) (inner : List ℕ) (i : ℕ) (d : Document) (c : Conj
 
     map_sound : (p : PlacedCause) → Contains (map_told f inner c ms) p → IsTold (an_object ms) p
     map_sound p m =
-        ⊎_elim (required_sound p) (λ n. ⊎_elim (named_sound p) (others_sound c.keywords.now.additional refl p) (Contains-append_cases _ _ p n)) (Contains-append_cases _ _ p m)
+        ⊎_elim (length_sound Keys (an_object ms) (length ms) refl c.keywords.now.max_properties c.keywords.now.min_properties refl refl p)
+        (λ n. ⊎_elim (required_sound p) (λ o. ⊎_elim (named_sound p) (others_sound c.keywords.now.additional refl p) (Contains-append_cases _ _ p o)) (Contains-append_cases _ _ p n))
+        (Contains-append_cases _ _ p m)
 
   -- ---- all of them
 
   kind_sound : (x : Opened ℕ) (p : PlacedCause) → Contains (kind_told f inner c x) p → IsTold x p
   kind_sound (an_integer n) p m = integer_sound n p m
+  kind_sound (a_text s) p m = text_sound s p m
   kind_sound (a_list ys) p m = list_sound ys p m
   kind_sound (an_object ms) p m = map_sound ms p m
   kind_sound _ p m = absurd (none_in p m)

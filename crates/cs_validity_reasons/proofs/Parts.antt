@@ -5,9 +5,10 @@ use Rattle.std.specs.List.{flat_map}
 use Rattle.cs_document.specs.Document.{Document, Entry}
 use Rattle.cs_document.specs.Inside.{map_entry}
 use Rattle.cs_document.specs.Opened.{Opened, an_object}
+use Rattle.cs_document.specs.Sizes.{Characters, Elements, Keys}
 use Rattle.cs_document.specs.View.{doc_view}
 use Rattle.cs_profile.specs.Keywords.{all_keywords}
-use Rattle.cs_profile.specs.Constraint.{Assertion, nothing, valid_by, has_kind, equals, is_among, at_least, at_most, above, below, has_keys, at_keys, at_other_keys, in_front, behind, at_least_long, valid_by_all, valid_by_any, not_valid_by, Constraint}
+use Rattle.cs_profile.specs.Constraint.{Assertion, nothing, valid_by, has_kind, equals, is_among, at_least, at_most, above, below, has_keys, at_keys, at_other_keys, in_front, behind, at_least_long, at_most_long, valid_by_all, valid_by_any, not_valid_by, Constraint}
 use Rattle.cs_profile.specs.Numbered.{numbered as numbers_from, names_in}
 use Rattle.cs_profile.specs.declared.keyword.Keyword.{Keyword}
 use Rattle.cs_profile.specs.declared.keyword.Keyword.TheVariants as keyword
@@ -52,9 +53,9 @@ nothing_in : {Y : Type 0} (xs ys : List Y) (y : Y) → xs ≡ [] → Contains xs
 nothing_in xs ys y e m = let k : Contains [] y = subst (λ zs. Contains zs y) e m in let l = k.1 in absurd (omega (arith, l))
 
 -- an integer below zero asks nothing
-count_none : {Y : Type 0} (parts : Assertion ℕ ℕ → List Y) → ((n : ℕ) → parts (at_least_long n) ≡ []) → parts nothing ≡ [] → (z : ℤ) → parts (of_count at_least_long z) ≡ []
-count_none parts h k (pos n) = h n
-count_none parts h k (negsuc n) = k
+count_none : {Y : Type 0} (parts : Assertion ℕ ℕ → List Y) (g : ℕ → Assertion ℕ ℕ) → ((n : ℕ) → parts (g n) ≡ []) → parts nothing ≡ [] → (z : ℤ) → parts (of_count g z) ≡ []
+count_none parts g h k (pos n) = h n
+count_none parts g h k (negsuc n) = k
 
 abbrev declared : Assertion ℕ ℕ → List (Entry ℕ)
 declared (at_keys ps) = ps
@@ -80,7 +81,12 @@ module _ (c : Conjunction) where
   only_declared keyword.ExclusiveMinimum y m = nothing_in _ _ y (none_if declared above (λ d. refl) c.keywords.now.above) m
   only_declared keyword.Items y m = nothing_in _ _ y (none_if declared (λ s. behind (length c.keywords.now.prefix.items) (items_place c)) (λ s. refl) c.keywords.now.rest) m
   only_declared keyword.Maximum y m = nothing_in _ _ y (none_if declared at_most (λ d. refl) c.keywords.now.maximum) m
-  only_declared keyword.MinItems y m = nothing_in _ _ y (none_if declared (of_count at_least_long) (count_none declared (λ n. refl) refl) c.keywords.now.min_items) m
+  only_declared keyword.MaxItems y m = nothing_in _ _ y (none_if declared (of_count (at_most_long Elements)) (count_none declared (at_most_long Elements) (λ n. refl) refl) c.keywords.now.max_items) m
+  only_declared keyword.MaxLength y m = nothing_in _ _ y (none_if declared (of_count (at_most_long Characters)) (count_none declared (at_most_long Characters) (λ n. refl) refl) c.keywords.now.max_length) m
+  only_declared keyword.MaxProperties y m = nothing_in _ _ y (none_if declared (of_count (at_most_long Keys)) (count_none declared (at_most_long Keys) (λ n. refl) refl) c.keywords.now.max_properties) m
+  only_declared keyword.MinItems y m = nothing_in _ _ y (none_if declared (of_count (at_least_long Elements)) (count_none declared (at_least_long Elements) (λ n. refl) refl) c.keywords.now.min_items) m
+  only_declared keyword.MinLength y m = nothing_in _ _ y (none_if declared (of_count (at_least_long Characters)) (count_none declared (at_least_long Characters) (λ n. refl) refl) c.keywords.now.min_length) m
+  only_declared keyword.MinProperties y m = nothing_in _ _ y (none_if declared (of_count (at_least_long Keys)) (count_none declared (at_least_long Keys) (λ n. refl) refl) c.keywords.now.min_properties) m
   only_declared keyword.Minimum y m = nothing_in _ _ y (none_if declared at_least (λ d. refl) c.keywords.now.minimum) m
   only_declared keyword.Not y m = nothing_in _ _ y (none_if declared not_valid_by (λ d. refl) c.negated) m
   only_declared keyword.PrefixItems y m = nothing_in _ _ y (none_unless declared in_front (λ zs. refl) (places_from (prefix_place c) c.keywords.now.prefix.items)) m
@@ -101,7 +107,12 @@ module _ (c : Conjunction) where
   only_required keyword.ExclusiveMinimum y m = nothing_in _ _ y (none_if required above (λ d. refl) c.keywords.now.above) m
   only_required keyword.Items y m = nothing_in _ _ y (none_if required (λ s. behind (length c.keywords.now.prefix.items) (items_place c)) (λ s. refl) c.keywords.now.rest) m
   only_required keyword.Maximum y m = nothing_in _ _ y (none_if required at_most (λ d. refl) c.keywords.now.maximum) m
-  only_required keyword.MinItems y m = nothing_in _ _ y (none_if required (of_count at_least_long) (count_none required (λ n. refl) refl) c.keywords.now.min_items) m
+  only_required keyword.MaxItems y m = nothing_in _ _ y (none_if required (of_count (at_most_long Elements)) (count_none required (at_most_long Elements) (λ n. refl) refl) c.keywords.now.max_items) m
+  only_required keyword.MaxLength y m = nothing_in _ _ y (none_if required (of_count (at_most_long Characters)) (count_none required (at_most_long Characters) (λ n. refl) refl) c.keywords.now.max_length) m
+  only_required keyword.MaxProperties y m = nothing_in _ _ y (none_if required (of_count (at_most_long Keys)) (count_none required (at_most_long Keys) (λ n. refl) refl) c.keywords.now.max_properties) m
+  only_required keyword.MinItems y m = nothing_in _ _ y (none_if required (of_count (at_least_long Elements)) (count_none required (at_least_long Elements) (λ n. refl) refl) c.keywords.now.min_items) m
+  only_required keyword.MinLength y m = nothing_in _ _ y (none_if required (of_count (at_least_long Characters)) (count_none required (at_least_long Characters) (λ n. refl) refl) c.keywords.now.min_length) m
+  only_required keyword.MinProperties y m = nothing_in _ _ y (none_if required (of_count (at_least_long Keys)) (count_none required (at_least_long Keys) (λ n. refl) refl) c.keywords.now.min_properties) m
   only_required keyword.Minimum y m = nothing_in _ _ y (none_if required at_least (λ d. refl) c.keywords.now.minimum) m
   only_required keyword.Not y m = nothing_in _ _ y (none_if required not_valid_by (λ d. refl) c.negated) m
   only_required keyword.PrefixItems y m = nothing_in _ _ y (none_unless required in_front (λ zs. refl) (places_from (prefix_place c) c.keywords.now.prefix.items)) m

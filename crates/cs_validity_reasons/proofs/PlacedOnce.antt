@@ -15,6 +15,7 @@ use Rattle.cs_flat.specs.Listed.{document_in, IsListed}
 use Rattle.cs_table.specs.Judged.{AllVerdicts}
 use Rattle.cs_profile.specs.Numbered.{numbered as numbers_from, names_in}
 use Rattle.cs_profile.specs.Profile.{walk_fault}
+use Rattle.cs_profile.specs.declared.keyword.Vocabulary.TheVariants as vocabulary
 use Rattle.cs_profile.specs.declared.schema.Schema.{Schema}
 use Rattle.cs_validate.specs.Asked.{places_named}
 use Rattle.cs_validity_reasons.specs.Causes as cause
@@ -116,7 +117,7 @@ module _ (i : ℕ) (ms : List (Entry ℕ)) (ks : List (List ℕ)) (ps : List (En
 
 -- ---- causes of a pair
 
-module _ (R : Document) (xs : List (Opened ℕ)) (root : ℕ) (rules : List Coded) (inner : List ℕ) (rooted : IsRooted R rules inner root) (shaped : walk_fault R ≡ None) (listed : IsListed (document_in xs) xs) where
+module _ (R : Document) (xs : List (Opened ℕ)) (root : ℕ) (rules : List Coded) (inner : List ℕ) (rooted : IsRooted R rules inner root) (shaped : walk_fault vocabulary.Wide R ≡ None) (listed : IsListed (document_in xs) xs) where
   members_apart : (j : ℕ) (x : Opened ℕ) → slice_get xs j ≡ Some x → ValuesApart (members_in x)
   members_apart j (an_object ms) e p q k l y a b = same_place (document_in xs) xs listed j ms e y p q k l a b
   members_apart j _ e p q k l y a b = cc

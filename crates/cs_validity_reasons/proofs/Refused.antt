@@ -7,7 +7,7 @@ use Rattle.std.specs.Str.{bytes_eq}
 use Rattle.std.proofs.lemmas.Option.{none-some, same_Some}
 use Rattle.cs_document.specs.Document.{Document, Entry, under}
 use Rattle.cs_document.specs.Opened.{Opened, opened}
-use Rattle.cs_profile.specs.Constraint.{Assertion, has_kind, equals, is_among, at_least, at_most, above, below, at_least_long, not_valid_by, Constraint, constraint_of}
+use Rattle.cs_profile.specs.Constraint.{Assertion, has_kind, equals, is_among, at_least, at_most, above, below, at_least_long, at_most_long, not_valid_by, Constraint, constraint_of}
 use Rattle.cs_profile.specs.Validity.{if_there, if_object, if_array, front_holds, holds, is_satisfied, IsValidity}
 use Rattle.cs_profile.specs.declared.keyword.Keyword.{Keyword}
 use Rattle.cs_profile.specs.declared.keyword.Keyword.TheVariants as keyword
@@ -89,7 +89,8 @@ module _ {A S : Type 0} (here : S → Bool) (inside : A → S → Bool) (d : Doc
   word_same (at_most l) w e n h = h
   word_same (above l) w e n h = h
   word_same (below l) w e n h = h
-  word_same (at_least_long l) w e n h = h
+  word_same (at_most_long k l) w e n h = h
+  word_same (at_least_long k l) w e n h = h
   word_same (not_valid_by s) w e n h = absurd (n (sym (same_Some keyword.Not w e)))
   word_same _ w e n h = absurd (none-some w e)
 

@@ -10,18 +10,20 @@ use Rattle.std.proofs.lemmas.List.Sorted.{Contains-permutation, IsPermutation-sy
 use Rattle.std.proofs.lemmas.Option.{same_Some}
 use Rattle.std.proofs.lemmas.Slice.Eq.{bytes_eq-Decides}
 use Rattle.cs_document.specs.Document.{Document, null, boolean, integer, text, list, object, Documents, no_documents, document, Members, no_members, member, Entry, elements, entries, under}
+use Rattle.cs_document.specs.Sizes.{Characters, Elements, Keys}
 use Rattle.cs_document.proofs.Each.{each_append}
 use Rattle.cs_profile.specs.Keywords.{Kind, kinds, keywords, all_keywords, entries_of}
-use Rattle.cs_profile.specs.Constraint.{Assertion, nothing, valid_by, has_kind, is_among, at_least, at_most, above, below, has_keys, at_keys, in_front, at_least_long, valid_by_all, valid_by_any, by_text, by_integer, by_count, by_list, by_object, texts_in, named, assertion, assertion_at, conjunction, constraint_of}
+use Rattle.cs_profile.specs.Constraint.{Assertion, nothing, valid_by, has_kind, is_among, at_least, at_most, above, below, has_keys, at_keys, in_front, at_least_long, at_most_long, valid_by_all, valid_by_any, by_text, by_integer, by_count, by_list, by_object, texts_in, named, assertion, assertion_at, conjunction, constraint_of}
 use Rattle.cs_profile.specs.Places.{at_key, at_index}
-use Rattle.cs_profile.specs.Profile.{first, fault_of, form_fault, shape_fault, keyword_at, visits, member_visits, list_visits, element_visits, map_visits, named_visits, within, walk_fault}
-use Rattle.cs_profile.specs.Shapes.{form_at, form_in, has_form, are_distinct_texts}
+use Rattle.cs_profile.specs.Profile.{Visit, Fault, first, fault_of, form_fault, shape_fault, keyword_at, visits, member_visits, list_visits, element_visits, map_visits, named_visits, within, walk_fault}
+use Rattle.cs_profile.specs.Shapes.{form_at, taken_in, taken_at, has_form, are_distinct_texts}
 use Rattle.cs_profile.specs.Values.{keyword_visits, value_visits}
 use Rattle.cs_profile.specs.declared.keyword.Form.{Form}
 use Rattle.cs_profile.specs.declared.keyword.Form.TheVariants as form
 use Rattle.cs_profile.specs.declared.keyword.Keyword.{Keyword}
 use Rattle.cs_profile.specs.declared.keyword.Keyword.TheVariants as keyword
-use Rattle.cs_profile.proofs.Faultless.{Faultless, parted, or_else_none}
+use Rattle.cs_profile.specs.declared.keyword.Vocabulary.TheVariants as vocabulary
+use Rattle.cs_profile.proofs.Faultless.{parted, or_else_none}
 use Rattle.cs_validate.specs.Numbering.{map_assertion, asserted, said, schema_at}
 use Rattle.cs_validate.specs.Rooted.{IsRooted}
 use Rattle.cs_validate.specs.Rules.{AreRules, rules_of, in_value, subschemas, member_schemas, list_schemas, element_schemas, map_schemas, named_schemas}
@@ -91,16 +93,23 @@ shaped_if : (place k : List ℕ) (b : Bool) → shape_fault place k b ≡ None �
 shaped_if place k true h = refl
 shaped_if place k false h = cc
 
-shaped_at : (root : Bool) (place k : List ℕ) (v : Document) → fault_of (keyword_at root place k v) ≡ None → HasShape (k, v)
+-- the walk meets no fault, where all keywords are taken
+abbrev fault_at : Visit → Option Fault
+fault_at = fault_of vocabulary.Wide
+
+abbrev Faultless : List Visit → Type 0
+Faultless vs = first fault_at vs ≡ None
+
+shaped_at : (root : Bool) (place k : List ℕ) (v : Document) → fault_at (keyword_at root place k v) ≡ None → HasShape (k, v)
 shaped_at root place k v h e =
-    let is : form_at root k ≡ Some form.Texts = ap (option_and_then (form_in root)) e in
+    let is : taken_at vocabulary.Wide root k ≡ Some form.Texts = ap (option_and_then (taken_in vocabulary.Wide root)) e in
     shaped_if place k (has_form form.Texts v) (subst (λ f. form_fault place k v f ≡ None) is h)
 
 members_shaped : (root : Bool) (place : List ℕ) (ms : Members) → Faultless (member_visits root place ms) → Each HasShape (entries ms)
 members_shaped root place no_members h = tt
 members_shaped root place (member k v ms) h =
-    let parts = parted fault_of (keyword_visits root place k v) (member_visits root place ms) h in
-    let here = or_else_none (fault_of (keyword_at root place k v)) (first fault_of (within (form_at root k) (value_visits (at_key place k) v))) parts.0 in
+    let parts = parted fault_at (keyword_visits root place k v) (member_visits root place ms) h in
+    let here = or_else_none (fault_at (keyword_at root place k v)) (first fault_at (within (form_at root k) (value_visits (at_key place k) v))) parts.0 in
     (shaped_at root place k v here.0, members_shaped root place ms parts.1)
 
 value_shaped : (o : Option Form) (place : List ℕ) (v : Document)
@@ -124,8 +133,8 @@ mutual
   shaped_in_members : (root : Bool) (place : List ℕ) (ms : Members) → Faultless (member_visits root place ms) → Each IsShaped (member_schemas root ms)
   shaped_in_members root place no_members h = tt
   shaped_in_members root place (member k v ms) h =
-      let parts = parted fault_of (keyword_visits root place k v) (member_visits root place ms) h in
-      let here = or_else_none (fault_of (keyword_at root place k v)) (first fault_of (within (form_at root k) (value_visits (at_key place k) v))) parts.0 in
+      let parts = parted fault_at (keyword_visits root place k v) (member_visits root place ms) h in
+      let here = or_else_none (fault_at (keyword_at root place k v)) (first fault_at (within (form_at root k) (value_visits (at_key place k) v))) parts.0 in
       each_append IsShaped (in_value (form_at root k) (record { none = []; itself = subschemas false v; elements = list_schemas v; members = map_schemas v })) (member_schemas root ms)
       (value_shaped (form_at root k) (at_key place k) v (all_shaped false (at_key place k) v) (shaped_in_list (at_key place k) v) (shaped_in_map (at_key place k) v) here.1) (shaped_in_members root place ms parts.1)
 
@@ -140,7 +149,7 @@ mutual
   shaped_elements : (place : List ℕ) (i : ℕ) (ds : Documents) → Faultless (element_visits place i ds) → Each IsShaped (element_schemas ds)
   shaped_elements place i no_documents h = tt
   shaped_elements place i (document d ds) h =
-      let parts = parted fault_of (visits false (at_index place i) d) (element_visits place (suc i) ds) h in
+      let parts = parted fault_at (visits false (at_index place i) d) (element_visits place (suc i) ds) h in
       each_append IsShaped (subschemas false d) (element_schemas ds) (all_shaped false (at_index place i) d parts.0) (shaped_elements place (suc i) ds parts.1)
 
   shaped_in_map : (place : List ℕ) (d : Document) → Faultless (map_visits place d) → Each IsShaped (map_schemas d)
@@ -154,7 +163,7 @@ mutual
   shaped_named : (place : List ℕ) (ms : Members) → Faultless (named_visits place ms) → Each IsShaped (named_schemas ms)
   shaped_named place no_members h = tt
   shaped_named place (member k v ms) h =
-      let parts = parted fault_of (visits false (at_key place k) v) (named_visits place ms) h in
+      let parts = parted fault_at (visits false (at_key place k) v) (named_visits place ms) h in
       each_append IsShaped (subschemas false v) (named_schemas ms) (all_shaped false (at_key place k) v parts.0) (shaped_named place ms parts.1)
 
 module _ {X : Type 0} (P : X → Type 0) where
@@ -169,7 +178,7 @@ module _ {X : Type 0} (P : X → Type 0) where
   got_or (y ∷ xs) d p h zero = h y (at_place (y ∷ xs) y 0 refl)
   got_or (y ∷ xs) d p h (suc k) = got_or xs d p (λ x c. let q = place_of xs x c in h x (at_place (y ∷ xs) x (suc q.0) q.1)) k
 
-rule_shaped : (R : Document) (all : List Document) → AreRules R all → walk_fault R ≡ None → (r : ℕ) → IsShaped (schema_at all r)
+rule_shaped : (R : Document) (all : List Document) → AreRules R all → walk_fault vocabulary.Wide R ≡ None → (r : ℕ) → IsShaped (schema_at all r)
 rule_shaped R all are h r =
     got_or IsShaped all (boolean false) tt
     (λ s c. let p = place_of (rules_of R) s (Contains-permutation all (rules_of R) s (IsPermutation-sym (rules_of R) all are) c) in each_got IsShaped (rules_of R) (all_shaped true [] R h) p.0 s p.1) r
@@ -224,7 +233,12 @@ module _ (R : Document) (beside : List (Entry Document)) where
   apart_at keyword.ExclusiveMaximum v h = apart_by_integer below (λ z. none_apart) v
   apart_at keyword.Properties v h = apart_by_object at_keys (λ ms. none_apart) v
   apart_at keyword.PrefixItems v h = apart_by_list in_front (λ ds. none_apart) v
-  apart_at keyword.MinItems v h = apart_by_count at_least_long (λ n. none_apart) v
+  apart_at keyword.MaxItems v h = apart_by_count (at_most_long Elements) (λ n. none_apart) v
+  apart_at keyword.MaxLength v h = apart_by_count (at_most_long Characters) (λ n. none_apart) v
+  apart_at keyword.MaxProperties v h = apart_by_count (at_most_long Keys) (λ n. none_apart) v
+  apart_at keyword.MinItems v h = apart_by_count (at_least_long Elements) (λ n. none_apart) v
+  apart_at keyword.MinLength v h = apart_by_count (at_least_long Characters) (λ n. none_apart) v
+  apart_at keyword.MinProperties v h = apart_by_count (at_least_long Keys) (λ n. none_apart) v
   apart_at keyword.AllOf v h = apart_by_list valid_by_all (λ ds. none_apart) v
   apart_at keyword.AnyOf v h = apart_by_list valid_by_any (λ ds. none_apart) v
   apart_at _ v h = none_apart
@@ -254,12 +268,12 @@ claimed_apart R _ h claims e ks c = cc
 
 -- ---- the rules
 
-module _ (R : Document) (rules : List Coded) (inner : List ℕ) (number : ℕ) (rooted : IsRooted R rules inner number) (shaped : walk_fault R ≡ None) where
+module _ (R : Document) (rules : List Coded) (inner : List ℕ) (number : ℕ) (rooted : IsRooted R rules inner number) (shaped : walk_fault vocabulary.Wide R ≡ None) where
   object_required : (r : ℕ) (c : Conjunction) → slice_get rules r ≡ Some (rule.Object c) → (ks : List (List ℕ)) → c.required ≡ ks → AreApart ks
   object_required r c e [] is = none_apart
   object_required r c e (k ∷ ks) is =
       let a : Assertion ℕ ℕ = has_keys (k ∷ ks) in
-      let told : Contains (claims_of c) (Some a) = subst (Contains (claims_of c)) (ap (unless_empty has_keys) is) (contains_map (claim_of c) all_keywords keyword.Required (at_place all_keywords keyword.Required 19 refl)) in
+      let told : Contains (claims_of c) (Some a) = subst (Contains (claims_of c)) (ap (unless_empty has_keys) is) (contains_map (claim_of c) all_keywords keyword.Required (at_place all_keywords keyword.Required 24 refl)) in
       let here : Contains (flat_map option_to_list (claims_of c)) a = in_each option_to_list a (claims_of c) (Some a) told (at_place (a ∷ []) a 0 refl) in
       let coded = contains_map (map_assertion (λ j. j) (slice_index inner)) (flat_map option_to_list (claims_of c)) a here in
       let S : ℕ → Document = schema_at rooted.all in

@@ -4,13 +4,14 @@ use Rattle.std.specs.Prelude.{slice_get}
 use Rattle.std.proofs.lemmas.Option.{none-some}
 use Rattle.cs_document.specs.Document.{Document, null, boolean, text, under}
 use Rattle.cs_document.specs.Opened.{Opened, a_null, a_list, an_object, opened}
+use Rattle.cs_document.specs.Sizes.{Characters, Elements, Keys}
 use Rattle.cs_document.proofs.SampleDocuments.{number, array, map_of}
 use Rattle.cs_rules.specs.Pointers.{key, place, At}
 use Rattle.cs_profile.specs.Keywords.{String, Integer}
-use Rattle.cs_profile.specs.Constraint.{Assertion, nothing, valid_by, has_kind, has_keys, at_keys, at_other_keys, in_front, behind, valid_by_all, valid_by_any, conjunction, constraint_of}
+use Rattle.cs_profile.specs.Constraint.{Assertion, nothing, valid_by, has_kind, has_keys, at_keys, at_other_keys, in_front, behind, at_least_long, at_most_long, valid_by_all, valid_by_any, conjunction, constraint_of}
 use Rattle.cs_profile.specs.Validity.{IsValidity}
 use Rattle.cs_profile.specs.declared.keyword.Keyword.TheVariants as keyword
-use Rattle.cs_validity_reasons.specs.Causes.{Cause, reference, part, alternative, property, additional, prefix, items, never_valid, no_alternative, missing, by_keyword, IsDenied, of_keyword, of_reference, of_part, of_alternative, of_missing, of_additional, of_items, IsCause, of_never, of_claim}
+use Rattle.cs_validity_reasons.specs.Causes.{Cause, reference, part, alternative, property, additional, prefix, items, never_valid, no_alternative, missing, by_keyword, keyword_of, IsDenied, of_keyword, of_reference, of_part, of_alternative, of_missing, of_additional, of_items, IsCause, of_never, of_claim}
 use Rattle.cs_validity_reasons.specs.declared.cause.KeyedCause.TheVariants as coded
 use Rattle.cs_validity_reasons.specs.WhyTold.{cause_of}
 use Rattle.cs_validity_reasons.specs.Why.{Way, way_of, led, map_cause, step_of, is_by_alternative, IsTold, none, by_reference, by_part, by_alternative, by_property, by_additional, by_prefix, by_items, steps_of, IsWhyNot, IsRefused, whole, next, IsWhy}
@@ -147,6 +148,28 @@ second_element V h =
 
 second_step : At (steps_of (by_items 1 ∷ [])) two_texts (text b)
 second_step = (text b, refl, refl)
+
+-- ---- limits of lengths
+
+-- the keyword of each, by what is counted
+abbrev limits : List (Assertion ℕ ℕ)
+limits = at_most_long Characters 1 ∷ at_most_long Elements 1 ∷ at_most_long Keys 1 ∷ at_least_long Characters 1 ∷ at_least_long Elements 1 ∷ at_least_long Keys 1 ∷ []
+
+keywords_of_limits : map keyword_of limits
+    ≡ Some keyword.MaxLength ∷ Some keyword.MaxItems ∷ Some keyword.MaxProperties ∷ Some keyword.MinLength ∷ Some keyword.MinItems ∷ Some keyword.MinProperties ∷ []
+keywords_of_limits = refl
+
+abbrev two_characters : Document
+two_characters = map_of ((codes "minLength", number 2) ∷ [])
+
+-- é, which has two bytes
+abbrev one_character : Document
+one_character = text (195 ∷ 169 ∷ [])
+
+short_text : (V : Document → Document → Bool) → IsValidity two_characters V → IsWhy two_characters V two_characters one_character [] two_characters one_character (by_keyword keyword.MinLength)
+short_text V h =
+    let why = claim two_characters V h two_characters one_character (by_keyword keyword.MinLength) (at_least_long Characters 2 ∷ []) 0 (at_least_long Characters 2) refl refl (of_keyword refl refl) in
+    record { refused = whole_by two_characters V h two_characters one_character (by_keyword keyword.MinLength) why; cause = why; leaf = refl }
 
 -- ---- each schema of `anyOf`, and a definition
 

@@ -1,19 +1,21 @@
 -- The causes of a refusal one after another, keyword by keyword, where f has the verdicts and `inner` the rules that are asked of
 -- values inside.
-use Rattle.std.specs.Prelude.{ℕ, suc, ℤ, Bool, true, false, not, ◌||◌, List, [], ◌∷◌, ◌++◌, Option, Some, None, map, zip, drop, length, String, slice_index, is_some, nat_le, int_le, int_lt}
+use Rattle.std.specs.Prelude.{ℕ, suc, ℤ, Bool, true, false, not, ◌||◌, List, [], ◌∷◌, ◌++◌, Option, Some, None, map, zip, drop, length, String, slice_index, is_some, int_le, int_lt}
 use Rattle.std.specs.Option.{option_map_or}
 use Rattle.std.specs.List.{list_any}
 use Rattle.std.specs.Str.{bytes_eq}
 use Rattle.std.specs.declared.alloc.Global.{Global}
 use Rattle.cs_document.specs.Document.{Document, Entry, under}
 use Rattle.cs_document.specs.Inside.{map_entry}
-use Rattle.cs_document.specs.Opened.{Opened, a_list, an_integer, an_object}
+use Rattle.cs_document.specs.Opened.{Opened, a_text, a_list, an_integer, an_object}
+use Rattle.cs_document.specs.Sizes.{text_length}
 use Rattle.cs_table.specs.Judged.{AllVerdicts}
 use Rattle.cs_profile.specs.Numbered.{names_in}
 use Rattle.cs_profile.specs.Validity.{if_there}
+use Rattle.cs_profile.specs.declared.keyword.Keyword.{Keyword as Word}
 use Rattle.cs_profile.specs.declared.keyword.Keyword.TheVariants as keyword
 use Rattle.cs_profile.specs.declared.schema.Keywords.{Keywords}
-use Rattle.cs_validate.specs.Asked.{asks_type, asks_const, asks_enum, if_count, places_named}
+use Rattle.cs_validate.specs.Asked.{asks_type, asks_const, asks_enum, is_at_most_long, is_at_least_long, places_named}
 use Rattle.cs_validate.specs.Steps.{places_from, items_place, prefix_place, properties_place}
 use Rattle.cs_validate.specs.declared.rules.Rule.{Rule as Coded}
 use Rattle.cs_validate.specs.declared.rules.Rule.TheVariants as rule
@@ -51,6 +53,14 @@ lower_told k n = unless (if_there (λ l. int_le l n) k.minimum) (Keyword keyword
 
 abbrev pub integer_told : Keywords → ℤ → List PlacedCause
 integer_told k n = upper_told k n ++ lower_told k n
+
+-- by the limits of a length, each with its keyword: how long something may be at most, and at least
+abbrev pub length_told : Option ℤ × Word → Option ℤ × Word → ℕ → List PlacedCause
+length_told most least n = unless (is_at_most_long most.0 n) (Keyword most.1) ++ unless (is_at_least_long least.0 n) (Keyword least.1)
+
+-- of a text
+abbrev pub text_told : Keywords → List ℕ → List PlacedCause
+text_told k s = length_told (k.max_length, keyword.MaxLength) (k.min_length, keyword.MinLength) (text_length s)
 
 module _ (f : AllVerdicts) (i : ℕ) where
   abbrev pub reference_told : Option (String Global) → Option ℕ → List PlacedCause
@@ -109,7 +119,7 @@ module _ (f : AllVerdicts) (inner : List ℕ) (c : Conjunction) where
   -- of a list
   abbrev pub list_told : List ℕ → List PlacedCause
   list_told ys =
-      unless (if_there (if_count (λ l. nat_le l (length ys))) c.keywords.now.min_items) (Keyword keyword.MinItems)
+      length_told (c.keywords.now.max_items, keyword.MaxItems) (c.keywords.now.min_items, keyword.MinItems) (length ys)
       ++ (fronts_told ys ++ rests_told ys)
 
   abbrev pub all_named_told : List (Entry ℕ) → List PlacedCause
@@ -120,10 +130,14 @@ module _ (f : AllVerdicts) (inner : List ℕ) (c : Conjunction) where
 
   -- of a map
   abbrev pub map_told : List (Entry ℕ) → List PlacedCause
-  map_told ms = each_from (missing_told ms) 0 c.required ++ (all_named_told ms ++ others_told ms)
+  map_told ms =
+      length_told (c.keywords.now.max_properties, keyword.MaxProperties) (c.keywords.now.min_properties, keyword.MinProperties) (length ms)
+      ++ (each_from (missing_told ms) 0 c.required
+      ++ (all_named_told ms ++ others_told ms))
 
   abbrev pub kind_told : Opened ℕ → List PlacedCause
   kind_told (an_integer n) = integer_told c.keywords.now n
+  kind_told (a_text s) = text_told c.keywords.now s
   kind_told (a_list ys) = list_told ys
   kind_told (an_object ms) = map_told ms
   kind_told _ = []

@@ -7,7 +7,8 @@ use Rattle.std.specs.List.{list_any}
 use Rattle.std.specs.Str.{bytes_eq}
 use Rattle.cs_document.specs.Document.{Document, Entry, under}
 use Rattle.cs_document.specs.Opened.{Opened, a_list, an_object}
-use Rattle.cs_profile.specs.Constraint.{Assertion, valid_by, has_kind, equals, is_among, at_least, at_most, above, below, has_keys, at_keys, at_other_keys, in_front, behind, at_least_long, valid_by_all, valid_by_any, not_valid_by, Constraint, never, conjunction}
+use Rattle.cs_document.specs.Sizes.{Counted, Characters, Elements, Keys}
+use Rattle.cs_profile.specs.Constraint.{Assertion, valid_by, has_kind, equals, is_among, at_least, at_most, above, below, has_keys, at_keys, at_other_keys, in_front, behind, at_least_long, at_most_long, valid_by_all, valid_by_any, not_valid_by, Constraint, never, conjunction}
 use Rattle.cs_profile.specs.Validity.{holds}
 use Rattle.cs_profile.specs.declared.keyword.Keyword.{Keyword}
 use Rattle.cs_profile.specs.declared.keyword.Keyword.TheVariants as keyword
@@ -28,6 +29,18 @@ pub data Cause (A H I : Type 0) : Type 0 where
   -- a keyword that the value fails by itself
   by_keyword : Keyword → Cause A H I
 
+-- the keyword that says how long a document may be at most, and at least, by what is counted (Validation, sections 6.3.1, 6.3.2, 6.4.1,
+-- 6.4.2, 6.5.1 and 6.5.2)
+abbrev pub most_keyword : Counted → Keyword
+most_keyword Characters = keyword.MaxLength
+most_keyword Elements = keyword.MaxItems
+most_keyword Keys = keyword.MaxProperties
+
+abbrev pub least_keyword : Counted → Keyword
+least_keyword Characters = keyword.MinLength
+least_keyword Elements = keyword.MinItems
+least_keyword Keys = keyword.MinProperties
+
 -- the keyword of an assertion that looks at no part, or that a part doesn't hold
 abbrev pub keyword_of : {H I : Type 0} → Assertion H I → Option Keyword
 keyword_of (has_kind k) = Some keyword.Type
@@ -37,7 +50,8 @@ keyword_of (at_least z) = Some keyword.Minimum
 keyword_of (at_most z) = Some keyword.Maximum
 keyword_of (above z) = Some keyword.ExclusiveMinimum
 keyword_of (below z) = Some keyword.ExclusiveMaximum
-keyword_of (at_least_long n) = Some keyword.MinItems
+keyword_of (at_most_long c n) = Some (most_keyword c)
+keyword_of (at_least_long c n) = Some (least_keyword c)
 keyword_of (not_valid_by s) = Some keyword.Not
 keyword_of _ = None
 

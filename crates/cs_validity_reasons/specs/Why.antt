@@ -8,7 +8,6 @@ use Rattle.cs_document.specs.Opened.{opened}
 use Rattle.cs_rules.specs.Pointers.{Step, key, place, At}
 use Rattle.cs_profile.specs.Constraint.{constraint_of}
 use Rattle.cs_profile.specs.Validity.{is_satisfied, IsValidity}
-use Rattle.cs_profile.specs.declared.keyword.Keyword.{Keyword}
 use Rattle.cs_profile.specs.declared.keyword.Keyword.TheVariants as keyword
 use Rattle.cs_validity_reasons.specs.Causes.{Cause, reference, part, alternative, property, additional, prefix, items, never_valid, no_alternative, missing, by_keyword, IsCause}
 

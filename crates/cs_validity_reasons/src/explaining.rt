@@ -115,7 +115,8 @@ pub fn explain_validity<'b>(
     schema.whole_law(); // for the proof: no name is required twice
     let (book, root) = rules.book();
     let last = flat.len() - 1; // the document itself
-    refill(&book.over(flat), table)?;
+    let judge = book.over(flat)?;
+    refill(&judge, table)?;
     if table.get(last, root) {
         return Ok(Explanation::Valid);
     }
@@ -126,6 +127,7 @@ pub fn explain_validity<'b>(
         book,
         flat: &*flat, // lent for as long as the table
         table,
+        lengths: &judge.lengths,
     };
     let reasons = told(alloc, &graph, last, root, telling)?;
     let names = Named { book, flat };

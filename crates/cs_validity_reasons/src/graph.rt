@@ -2,6 +2,7 @@
 ghost use Rattle.std.specs.Prelude.{◌≡◌, length};
 ghost use Rattle.cs_flat.specs.Listed.{values};
 ghost use Rattle.cs_rules.specs.Answers.{answer};
+ghost use Rattle.cs_rules.specs.Lengths.{AreLengths};
 ghost use Rattle.cs_rules.specs.Props.{inside_prop};
 ghost use Rattle.cs_rules.specs.Steps.{AreLower};
 ghost use Rattle.cs_table.specs.Judged.{IsJudged, verdicts};
@@ -26,6 +27,9 @@ pub(crate) struct ValidGraph<'a, 'b> {
     pub(crate) book: &'a Rulebook<Rule<'b>>,
     pub(crate) flat: &'a Flat<'a>,
     pub(crate) table: &'a Verdicts,
+    /// How long the texts are, as far as that is known.
+    pub(crate) lengths: &'a [usize],
+    ghost counted: { AreLengths flat.now lengths.now },
     ghost lower: { AreLower flat.now } by { Prim.hlevel inside_prop },
     ghost items: { table.now.items ≡ length flat.now },
     ghost rules: { table.now.rules ≡ length book.now.numbering.rules.items },
@@ -72,6 +76,7 @@ impl Explains for ValidGraph<'_, '_> {
                     item,
                     children: &self.book.numbering.children,
                     done: self.table,
+                    lengths: self.lengths,
                 };
                 object_causes(conjunction, &value, self.flat, &known, found)
             }

@@ -12,11 +12,30 @@ use std::alloc::{AllocError, Global};
 /// How many alternatives are told.
 const MOST_WANTED: usize = 64;
 
+/// Whether keywords limit how long texts, lists or maps are. `minItems` by itself isn't told.
+fn has_length_limits(keywords: &Keywords) -> bool {
+    keywords.max_length.is_some()
+        || keywords.min_length.is_some()
+        || keywords.max_items.is_some()
+        || keywords.max_properties.is_some()
+        || keywords.min_properties.is_some()
+}
+
 fn has_limits(keywords: &Keywords) -> bool {
     keywords.minimum.is_some()
         || keywords.maximum.is_some()
         || keywords.above.is_some()
         || keywords.below.is_some()
+        || has_length_limits(keywords)
+}
+
+fn are_same_lengths(limits: &Keywords, others: &Keywords) -> bool {
+    limits.max_length == others.max_length
+        && limits.min_length == others.min_length
+        && limits.max_items == others.max_items
+        && limits.max_properties == others.max_properties
+        && limits.min_properties == others.min_properties
+        && (limits.min_items == others.min_items || !has_length_limits(limits))
 }
 
 fn are_same_limits(limits: &Keywords, others: &Keywords) -> bool {
@@ -24,6 +43,7 @@ fn are_same_limits(limits: &Keywords, others: &Keywords) -> bool {
         && limits.maximum == others.maximum
         && limits.above == others.above
         && limits.below == others.below
+        && are_same_lengths(limits, others)
 }
 
 fn is_same(want: &Want<'_>, other: &Want<'_>) -> bool {

@@ -4,7 +4,7 @@ ghost use Rattle.cs_reason_words.specs.Valid.{HasLines, Reports};
 ghost use Rattle.cs_validity_reasons.specs.WhyTold.{says_valid};
 
 use crate::basic::put_basic;
-use cs_document::Doc;
+use cs_document::{Doc, text_length};
 use cs_flat::{Flat, Item};
 use cs_place::{Named, Step};
 use cs_profile::{JsonKind, Keyword, Keywords, Schema};
@@ -28,6 +28,8 @@ pub(crate) struct Schemas<'t> {
     flat: &'t Flat<'t>,
     /// How many more declared keys are compared with keys that aren't allowed.
     comparisons: usize,
+    /// The text whose characters were counted last, by its number, and how many they are: reasons of one value come together.
+    counted: Option<(usize, usize)>,
 }
 
 /// Where a chain has led to.
@@ -77,13 +79,42 @@ pub(crate) fn put_keywords(path: &mut String, cause: &ValidCause<'_>) -> Written
 }
 
 impl<'t> Schemas<'t> {
-    /// That a value isn't what a keyword without parts asks, or is what `not` refuses.
-    fn unmet(&self, keyword: Keyword, item: usize, keywords: &Keywords) -> Made<Finding<'t>> {
-        let value = item_at(self.flat, item);
-        if let Keyword::MinItems = keyword {
-            let least = usize::try_from(keywords.min_items.unwrap_or(0)).unwrap_or(0);
-            return Finding::few(self.alloc, value, least);
+    /// How many characters a text has, by the number of the text.
+    fn characters(&mut self, item: usize, text: &str) -> usize {
+        if let Some((counted, length)) = self.counted
+            && counted == item
+        {
+            return length;
         }
+        let length = text_length(text);
+        self.counted = Some((item, length));
+        length
+    }
+
+    /// That a value is shorter than it has to be, or longer than it may be.
+    fn wrong_length(&mut self, item: usize, asked: Asked, limit: i64) -> Made<Finding<'t>> {
+        let (reason, asked) = asked;
+        let (whole, count, part) = match item_at(self.flat, item) {
+            Item::Text(text) => ("a text of ", self.characters(item, text), "character"),
+            Item::List(elements) => ("", elements.len(), "element"),
+            Item::Object(members) => ("a map of ", members.len(), "key"),
+            Item::Null | Item::Bool(_) | Item::Int(_) => ("", 0, "element"),
+        };
+        let ending = plural_ending(count == 1);
+        let text = format!(in self.alloc;
+            "found {whole}{count} {part}{ending}, want {asked} {limit}"
+        )?;
+        Ok(Finding::here(reason, text))
+    }
+
+    /// That a value isn't what a keyword without parts asks, or is what `not` refuses.
+    fn unmet(&mut self, keyword: Keyword, item: usize, keywords: &Keywords) -> Made<Finding<'t>> {
+        for (limiting, asked, _, limit) in lengths(keywords) {
+            if limiting.name() == keyword.name() {
+                return self.wrong_length(item, asked, limit.unwrap_or(0));
+            }
+        }
+        let value = item_at(self.flat, item);
         let mut text = String::new(self.alloc);
         if let Keyword::Not = keyword {
             put_negated(&mut text, keywords.negated.as_ref(), value)?;
@@ -286,7 +317,36 @@ fn limits(keywords: &Keywords) -> [(Keyword, &'static str, Option<i64>); 4] {
     ]
 }
 
-/// Puts all limits of a schema: those of integers, and of the elements of lists.
+/// What a limit of lengths asks, behind which kind of reason it is that a value isn't so, in a word.
+type Asked = (&'static str, &'static str);
+
+const LEAST: Asked = ("few", "at least");
+
+const MOST: Asked = ("many", "at most");
+
+/// The limits of lengths in a schema, each with its keyword, what it asks and what it counts.
+fn lengths(keywords: &Keywords) -> [(Keyword, Asked, &'static str, Option<i64>); 6] {
+    [
+        (Keyword::MinLength, LEAST, "character", keywords.min_length),
+        (Keyword::MaxLength, MOST, "character", keywords.max_length),
+        (Keyword::MinItems, LEAST, "element", keywords.min_items),
+        (Keyword::MaxItems, MOST, "element", keywords.max_items),
+        (
+            Keyword::MinProperties,
+            LEAST,
+            "key",
+            keywords.min_properties,
+        ),
+        (Keyword::MaxProperties, MOST, "key", keywords.max_properties),
+    ]
+}
+
+/// The ending of what is counted, which may be one.
+fn plural_ending(is_one: bool) -> &'static str {
+    if is_one { "" } else { "s" }
+}
+
+/// Puts all limits of a schema: those of integers, and those of how long texts, lists and maps are.
 fn put_limits(text: &mut String, keywords: &Keywords) -> Written {
     let mut between = "";
     for (_, mark, limit) in limits(keywords) {
@@ -295,8 +355,18 @@ fn put_limits(text: &mut String, keywords: &Keywords) -> Written {
             between = " & ";
         }
     }
-    if let Some(least) = keywords.min_items {
-        write!(text, "{between}at least {least} elements")?;
+    put_lengths(text, keywords, between)
+}
+
+/// Puts the limits of lengths in a schema, the first one behind this.
+fn put_lengths(text: &mut String, keywords: &Keywords, first: &str) -> Written {
+    let mut between = first;
+    for (_, (_, asked), part, limit) in lengths(keywords) {
+        if let Some(limit) = limit {
+            let ending = plural_ending(limit == 1);
+            write!(text, "{between}{asked} {limit} {part}{ending}")?;
+            between = " & ";
+        }
     }
     Ok(())
 }
@@ -336,6 +406,7 @@ pub fn report_validity<'t>(
                 rules,
                 flat,
                 comparisons: MOST_COMPARISONS,
+                counted: None,
             };
             let told = told_by(alloc, &mut words, telling, document, reasons)?;
             match form {

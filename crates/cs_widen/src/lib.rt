@@ -14,6 +14,6 @@ pub use laws::{
     embeddings_are_read_directly, literals_are_read_directly, plain_operands_are_read_directly,
     unions_are_read_directly, wide_law,
 };
-pub use schema::{schema_stands_for_in, validate_in};
+pub use schema::{schema_stands_for_in, validate_in, vocabulary_of};
 pub use source::{widen, widen_in};
 pub use standing::{stands_for, stands_for_in};

@@ -1,15 +1,27 @@
-// The schema that a schema's text stands for in a profile: in the wide one that without its defaults, which an export may have.
+// The keywords that are taken in a profile, and the schema that a schema's text stands for: in the wide one that without its defaults, which an
+// export may have.
 ghost use Rattle.std.specs.Prelude.{◌≡◌, ◌⊎◌, IfOk, IfErr, IsOkUnless};
 ghost use Rattle.cs_tool.specs.CallRefusals.{ValidateRefusal};
 ghost use Rattle.cs_tool.specs.Headline.{IsValidated};
 ghost use Rattle.cs_tool.specs.Ready.{IsReadyToValidate};
-ghost use Rattle.cs_widen.specs.Schemas.{bytes_of, SchemaStandsForIn, StandsWithoutDefaults, SchemaMeans, AlwaysMeans};
+ghost use Rattle.cs_widen.specs.Schemas.{bytes_of, vocabulary_of, SchemaStandsForIn, StandsWithoutDefaults, SchemaMeans, AlwaysMeans};
 
 use cs_describe::without_defaults;
 use cs_json::{DocFault, read_doc, write_doc};
+use cs_profile::Vocabulary;
 use cs_syntax::Profile;
-use cs_tool::{Fault, validate};
+use cs_tool::{Fault, validate_by};
 use std::alloc::Global;
+
+/// The keywords that schemas are read by in a profile.
+pub fn vocabulary_of(profile: Profile) -> Vocabulary
+    ensures { result ≡ vocabulary_of profile }
+{
+    match profile {
+        Profile::Default => Vocabulary::Default,
+        Profile::Wide => Vocabulary::Wide,
+    }
+}
 
 /// The text of the schema that a schema's text stands for in a profile: without the `default` of each schema in it (JSON Schema
 /// Validation 2020-12, section 9.2), which says nothing of validity. `None` where it stands for itself: in the default profile, and where
@@ -47,24 +59,25 @@ fn stands_for_bare(alloc: Global, schema: &[u8]) -> Result<Option<Vec<u8>>, Faul
     }
 }
 
-/// Whether the document is valid against the schema: what `validate` answers for the schema that is meant in a profile.
+/// Whether the document is valid against the schema: what `validate_by` answers by the keywords of the profile for the schema that is meant in it.
 ///
 /// # Errors
-/// Those of `validate`.
+/// Those of `validate_by`.
 pub fn validate_in(
     alloc: Global,
     profile: Profile,
     schema: &[u8],
     doc: &[u8],
 ) -> Result<bool, Fault>
-    ensures found { IfOk result (λ b. SchemaMeans profile schema.now (λ judged. IsValidated judged doc.now b)) }
+    ensures found { IfOk result (λ b. SchemaMeans profile schema.now (λ judged. IsValidated (vocabulary_of profile) judged doc.now b)) }
     ensures refused { IfErr result (λ e. (e ≡ Fault.OutOfMemory)
-        ⊎ SchemaMeans profile schema.now (λ judged. ValidateRefusal judged doc.now e)) }
-    ensures only { AlwaysMeans profile schema.now (λ judged. IsReadyToValidate judged doc.now)
+        ⊎ SchemaMeans profile schema.now (λ judged. ValidateRefusal (vocabulary_of profile) judged doc.now e)) }
+    ensures only { AlwaysMeans profile schema.now (λ judged. IsReadyToValidate (vocabulary_of profile) judged doc.now)
         → IsOkUnless result Fault.OutOfMemory }
 {
+    let vocabulary = vocabulary_of(profile);
     match schema_stands_for_in(alloc, profile, schema)? {
-        Some(meant) => validate(alloc, &meant, doc),
-        None => validate(alloc, schema, doc),
+        Some(meant) => validate_by(alloc, vocabulary, &meant, doc),
+        None => validate_by(alloc, vocabulary, schema, doc),
     }
 }

@@ -7,10 +7,10 @@ ghost use Rattle.cs_validate.specs.Asked.{AreBelow, AreBelowInside};
 ghost use Rattle.cs_validate.specs.Steps.{places_from};
 
 use crate::cause::PlacedCause;
-use crate::causes::values::tell_unless;
+use crate::causes::values::{length_causes, tell_unless};
 use cs_profile::{Keyword, Schema};
 use cs_rules::Known;
-use cs_validate::{Conjunction, behind, length_holds};
+use cs_validate::{Conjunction, behind};
 use std::alloc::AllocError;
 
 /// The causes by `prefixItems`: the elements that aren't valid by the schemas at their places, which are from one on (Core,
@@ -77,8 +77,9 @@ pub(crate) fn list_causes(
     let keywords = conjunction.keywords;
     let items = behind(conjunction.first, &keywords.additional);
     let prefix = behind(items, &keywords.rest);
-    let is_long = length_holds(keywords.min_items, children.len());
-    tell_unless(is_long, PlacedCause::Keyword(Keyword::MinItems), found)?;
+    let most = (keywords.max_items, Keyword::MaxItems);
+    let least = (keywords.min_items, Keyword::MinItems);
+    length_causes(most, least, children.len(), found)?;
     front_causes(&keywords.prefix, prefix, children, known, found)?;
     if keywords.rest.is_some() {
         rest_causes(keywords.prefix.len(), items, children, known, found)?;

@@ -10,9 +10,9 @@ ghost use Rattle.cs_rules.specs.Knowns.{value_count, place_count};
 ghost use Rattle.cs_validate.specs.Asked.{EntriesBelow, AreBelowInside, places_named};
 
 use crate::cause::PlacedCause;
-use crate::causes::values::tell_unless;
+use crate::causes::values::{length_causes, tell_unless};
 use cs_flat::next_under;
-use cs_profile::Schema;
+use cs_profile::{Keyword, Schema};
 use cs_rules::Known;
 use cs_validate::{Conjunction, behind, other_holds};
 use std::alloc::AllocError;
@@ -128,6 +128,9 @@ pub(crate) fn map_causes(
     let items = behind(conjunction.first, &keywords.additional);
     let prefix = behind(items, &keywords.rest);
     let first = prefix + keywords.prefix.len();
+    let most = (keywords.max_properties, Keyword::MaxProperties);
+    let least = (keywords.min_properties, Keyword::MinProperties);
+    length_causes(most, least, members.len(), found)?;
     missing_causes(&keywords.required, members, found)?;
     property_causes(&keywords.properties, first, members, known, found)?;
     if keywords.additional.is_some() {

@@ -4,12 +4,14 @@ ghost use Rattle.cs_flat.specs.Listed.{values};
 ghost use Rattle.cs_flat.specs.Nodes.{node_at};
 ghost use Rattle.cs_flat.specs.View.{item_view};
 ghost use Rattle.cs_profile.specs.Validity.{if_there};
-ghost use Rattle.cs_validity_reasons.specs.CauseLists.{unless, any_told, upper_told, lower_told, integer_told};
+ghost use Rattle.cs_rules.specs.Lengths.{TellsLength};
+ghost use Rattle.cs_validity_reasons.specs.CauseLists.{unless, any_told, upper_told, lower_told, integer_told, length_told, text_told};
 
 use crate::cause::PlacedCause;
 use cs_flat::{Flat, Item};
 use cs_profile::{Keyword, Keywords};
-use cs_validate::{Conjunction, has_kind, is_equal, is_listed};
+use cs_rules::Known;
+use cs_validate::{Conjunction, has_kind, is_at_least_long, is_at_most_long, is_equal, is_listed};
 use std::alloc::AllocError;
 
 /// Adds a cause, unless what it is about holds.
@@ -103,4 +105,41 @@ pub(crate) fn integer_causes(
 {
     upper_causes(keywords, n, found)?;
     lower_causes(keywords, n, found)
+}
+
+/// The causes by the limits of a length, each with its keyword: how long something may be at most, and at least (Validation,
+/// sections 6.3.1, 6.3.2, 6.4.1, 6.4.2, 6.5.1 and 6.5.2).
+pub(crate) fn length_causes(
+    most: (Option<i64>, Keyword),
+    least: (Option<i64>, Keyword),
+    length: usize,
+    found: &mut Vec<PlacedCause>,
+) -> Result<(), AllocError>
+    ensures { OnOk result (found.new.items
+        ≡ found.old.items ++ length_told most least length) }
+{
+    let is_short = is_at_most_long(most.0, length);
+    let is_long = is_at_least_long(least.0, length);
+    tell_unless(is_short, PlacedCause::Keyword(most.1), found)?;
+    tell_unless(is_long, PlacedCause::Keyword(least.1), found)
+}
+
+/// The causes by what keywords ask of a text (Validation, section 6.3). Its characters are counted only where one of them asks
+/// how many.
+pub(crate) fn text_causes(
+    keywords: &Keywords,
+    text: &str,
+    known: &Known<'_>,
+    found: &mut Vec<PlacedCause>,
+) -> Result<(), AllocError>
+    requires { TellsLength known.now.lengths.now known.now.item text.now }
+    ensures { OnOk result (found.new.items
+        ≡ found.old.items ++ text_told keywords.now text.now) }
+{
+    if keywords.max_length.is_none() && keywords.min_length.is_none() {
+        return Ok(());
+    }
+    let most = (keywords.max_length, Keyword::MaxLength);
+    let least = (keywords.min_length, Keyword::MinLength);
+    length_causes(most, least, known.text_length(text), found)
 }

@@ -10,7 +10,7 @@ pub loop-flaw-init : goal.loop-flaw-init
 loop-flaw-init c =
     let none = c.new-faults.ensures.items in
     record {
-      begins = subst (BeginsWithFaultOf (doc_view c.args.doc)) (sym none) tt;
+      begins = subst (BeginsWithFaultOf c.args.vocabulary (doc_view c.args.doc)) (sym none) tt;
       distinct = none_told _ none;
       few = few_none _ none;
       whole = λ _. refl;
@@ -29,10 +29,10 @@ loop-flaw-preserved c =
     let short : length before < 50 = c.is_last.ensures.few c.if-is_last.false in
     let few : length after ≤ 50 = grind (arith, common_steps) in
     record {
-      begins = begins_pushed (doc_view c.args.doc) (doc_view c.loop-flaw.doc) before after told known.begins known.whole
+      begins = begins_pushed c.args.vocabulary (doc_view c.args.doc) (doc_view c.loop-flaw.doc) before after told known.begins known.whole
           (record { flaw = flaw; is = c.from-fault.ensures; refused = c.in-Err.ensures.refused; other = other }) pushed;
       distinct = next_told before after told flaw known.distinct c.from-fault.ensures other (c.is_last.ensures.new c.if-is_last.false) pushed;
       few = few;
       whole = λ none. absurd (some_pushed before after told pushed none);
-      refused = λ schema. absurd (other (c.in-Err.ensures.only (subst IsSchema (sym (known.whole (known.refused schema))) schema)));
+      refused = λ schema. absurd (other (c.in-Err.ensures.only (subst (IsSchema c.args.vocabulary) (sym (known.whole (known.refused schema))) schema)));
     }

@@ -1,4 +1,4 @@
-use Rattle.std.proofs.Common.{◌≡◌, ℕ, List, Option, Some, IsSome, IfSome, is_some, [], map, length, string_bytes, unwrap_or, sym, ap, ap₂, ◌∙◌, subst, arith, below_more}
+use Rattle.std.proofs.Common.{◌≡◌, ℕ, List, Option, Some, IsSome, IfSome, is_some, [], map, string_bytes, unwrap_or, sym, ap, ap₂, ◌∙◌, subst, arith, below_more}
 use Rattle.cs_document.specs.Document.{entries, under, put}
 use Rattle.cs_document.specs.View.{members_of}
 use Rattle.cs_package.specs.Environment.{declared_names, bodies, bodies_at}

@@ -3,11 +3,13 @@ use Rattle.cs_package.specs.Environment.{Names}
 use Rattle.cs_guard.specs.Guarded.{IsGuarded}
 use Rattle.cs_guard.specs.Numbered.{name_of}
 use Rattle.cs_instance.proofs.Verdicts.{one_name}
+use Rattle.cs_profile.specs.Profile.{IsSchema}
 use Rattle.cs_profile.specs.SchemaDocument.{schema_view, document_of}
+use Rattle.cs_profile.specs.declared.keyword.Vocabulary.TheVariants as vocabularies
 use Rattle.cs_compile.specs.Translation.{IsTranslation}
 use Rattle.cs_profile.specs.Root.{reference_to}
 use Rattle.cs_compile.specs.Whole.{Compiles}
-use Rattle.cs_compile.proofs.Compiled.{whole, translates, compiles}
+use Rattle.cs_compile.proofs.Compiled.{in_profile, whole, translates, compiles}
 use Rattle.cs_compile.proofs.whole.compile.Goals as goal
 
 pub new-requires : goal.new-requires
@@ -42,3 +44,12 @@ returns-in-Ok-clause-translated c = λ n names.
     let made = translates E (name_of E i) (record { root = c.in_ok-root.root; definitions = c.in_ok-definitions.definitions.entries }) root c.in_ok-definitions.ensures.each c.in_ok-definitions.ensures.nothing_else (subst IsGuarded (sym kept) c.package-package.ensures.guarded) in
     let stands = subst (λ m. IsTranslation E m (document_of c.in-Ok.schema)) same (subst (λ v. IsTranslation E (name_of E i) (document_of v)) (sym c.in-Ok.ensures.found) made) in
     subst (λ F. IsTranslation F n (document_of c.in-Ok.schema)) kept stands
+
+pub returns-in-Ok-clause-profile : goal.returns-in-Ok-clause-profile
+returns-in-Ok-clause-profile c =
+    let E = c.package-package.result.now in
+    let i = c.in-Some.number in
+    let there = ap (λ (o : Option (List ℕ)). unwrap_or o []) c.bare_name.ensures.at in
+    let root : schema_view c.in_ok-root.root ≡ reference_to (name_of E i) = c.in_ok-root.ensures ∙ ap reference_to (sym there) in
+    let made = in_profile E (name_of E i) (record { root = c.in_ok-root.root; definitions = c.in_ok-definitions.definitions.entries }) root c.in_ok-definitions.ensures.each c.in_ok-definitions.ensures.nothing_else (subst IsGuarded (sym c.package-package.ensures.kept) c.package-package.ensures.guarded) in
+    subst (λ v. IsSchema vocabularies.Default (document_of v)) (sym c.in-Ok.ensures.found) made

@@ -18,12 +18,12 @@ returns-clause-found c =
     ∙ sym (ap (λ d. without_defaults (doc_view d)) c.in-Object.is ∙ ap without_defaults (view-Object c.in-Object.members))
 
 pub returns-clause-profile : goal.returns-clause-profile
-returns-clause-profile c is = subst IsSchema (sym (returns-clause-found c)) (still_bare (doc_view c.args.doc) is)
+returns-clause-profile c taken is = subst (IsSchema taken) (sym (returns-clause-found c)) (still_bare taken (doc_view c.args.doc) is)
 
 pub returns-clause-meaning : goal.returns-clause-meaning
-returns-clause-meaning c is =
+returns-clause-meaning c taken is =
     let found = returns-clause-found c in
-    let none = no_loop_full is_default defaults_are_notes (doc_view c.args.doc) (subst IsSchema found is).no_loop in
+    let none = no_loop_full is_default defaults_are_notes (doc_view c.args.doc) (subst (IsSchema taken) found is).no_loop in
     subst (SameValidity (doc_view c.args.doc)) (sym found) (keeps_meaning is_default defaults_are_notes (doc_view c.args.doc) none)
 
 pub returns-clause-nested : goal.returns-clause-nested

@@ -3,6 +3,7 @@ use Rattle.std.proofs.lemmas.Result.{IfOk-weaker}
 use Rattle.cs_document.specs.Document.{Document, depth}
 use Rattle.cs_document.specs.View.{doc_view}
 use Rattle.cs_profile.specs.Profile.{IsSchema}
+use Rattle.cs_profile.specs.declared.keyword.Vocabulary.{Vocabulary}
 use Rattle.cs_describe.specs.Described.{described_document, most_nested}
 use Rattle.cs_describe.specs.declared.note.Note.TheVariants as note
 use Rattle.cs_describe.specs.Meaning.{SameValidity, SameDefinitions}
@@ -32,22 +33,22 @@ pub returns-clause-profile : goal.returns-clause-profile
 returns-clause-profile c =
     let ns = c.args.notes.now.entries in
     let doc = doc_view c.args.doc in
-    IfOk-weaker c.described_by.result (λ d. doc_view d ≡ described_document note.Default ns doc) (λ d. IsSchema doc → IsSchema (without_defaults (doc_view d)))
-    (λ d is h. subst IsSchema (sym (ap without_defaults is ∙ document_same is_default note.Default refl ns doc)) (still_bare doc h)) c.described_by.ensures
+    IfOk-weaker c.described_by.result (λ d. doc_view d ≡ described_document note.Default ns doc) (λ d. (taken : Vocabulary) → IsSchema taken doc → IsSchema taken (without_defaults (doc_view d)))
+    (λ d is taken h. subst (IsSchema taken) (sym (ap without_defaults is ∙ document_same is_default note.Default refl ns doc)) (still_bare taken doc h)) c.described_by.ensures
 
 pub returns-clause-meaning : goal.returns-clause-meaning
 returns-clause-meaning c =
     let ns = c.args.notes.now.entries in
     let doc = doc_view c.args.doc in
-    IfOk-weaker c.described_by.result (λ d. doc_view d ≡ described_document note.Default ns doc) (λ d. IsSchema doc → SameValidity doc (doc_view d))
-    (λ d is h. same_validity is_note notes_are_notes doc (doc_view d) h.no_loop (ap plain is ∙ document_same is_note note.Default refl ns doc)) c.described_by.ensures
+    IfOk-weaker c.described_by.result (λ d. doc_view d ≡ described_document note.Default ns doc) (λ d. (taken : Vocabulary) → IsSchema taken doc → SameValidity doc (doc_view d))
+    (λ d is taken h. same_validity is_note notes_are_notes doc (doc_view d) h.no_loop (ap plain is ∙ document_same is_note note.Default refl ns doc)) c.described_by.ensures
 
 pub returns-clause-definitions : goal.returns-clause-definitions
 returns-clause-definitions c =
     let ns = c.args.notes.now.entries in
     let doc = doc_view c.args.doc in
-    IfOk-weaker c.described_by.result (λ d. doc_view d ≡ described_document note.Default ns doc) (λ d. IsSchema doc → SameDefinitions doc (doc_view d))
-    (λ d is h. same_definitions is_note notes_are_notes doc (doc_view d) h.no_loop (ap plain is ∙ document_same is_note note.Default refl ns doc)) c.described_by.ensures
+    IfOk-weaker c.described_by.result (λ d. doc_view d ≡ described_document note.Default ns doc) (λ d. (taken : Vocabulary) → IsSchema taken doc → SameDefinitions doc (doc_view d))
+    (λ d is taken h. same_definitions is_note notes_are_notes doc (doc_view d) h.no_loop (ap plain is ∙ document_same is_note note.Default refl ns doc)) c.described_by.ensures
 
 pub returns-clause-nested : goal.returns-clause-nested
 returns-clause-nested c =

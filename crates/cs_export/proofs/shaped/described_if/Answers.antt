@@ -5,13 +5,14 @@ use Rattle.cs_document.specs.View.{doc_view}
 use Rattle.cs_document.specs.declared.doc.Doc.{Doc}
 use Rattle.cs_profile.specs.Profile.{IsSchema}
 use Rattle.cs_profile.specs.Validity.{OneMeaning}
+use Rattle.cs_profile.specs.declared.keyword.Vocabulary.TheVariants as vocabularies
 use Rattle.cs_describe.specs.Plain.{without_defaults}
 use Rattle.cs_describe.proofs.StillBare.{still_bare}
 use Rattle.cs_export.specs.Shaped.{IsSameSchema}
 use Rattle.cs_export.proofs.shaped.described_if.Goals as goal
 
-bare_if : (t : Bool) (d : Document) → IsSchema d → IsSchema (if t then without_defaults d else d)
-bare_if true d is = still_bare d is
+bare_if : (t : Bool) (d : Document) → IsSchema vocabularies.Default d → IsSchema vocabularies.Default (if t then without_defaults d else d)
+bare_if true d is = still_bare vocabularies.Default d is
 bare_if false d is = is
 
 pub returns-in-None-clause-schema : goal.returns-in-None-clause-schema
@@ -20,5 +21,5 @@ returns-in-None-clause-schema c = λ is one. record { plain = refl; profile = ba
 pub returns-in-Some-clause-schema : goal.returns-in-Some-clause-schema
 returns-in-Some-clause-schema c =
     let doc = doc_view c.args.doc in
-    IfOk-weaker c.noted.result (λ (d : Doc). IsSchema doc → IsSameSchema c.args.has_defaults doc (doc_view d)) (λ (d : Doc). IsSchema doc → OneMeaning doc → IsSameSchema c.args.has_defaults doc (doc_view d))
+    IfOk-weaker c.noted.result (λ (d : Doc). IsSchema vocabularies.Default doc → IsSameSchema c.args.has_defaults doc (doc_view d)) (λ (d : Doc). IsSchema vocabularies.Default doc → OneMeaning doc → IsSameSchema c.args.has_defaults doc (doc_view d))
     (λ d h is one. h is) c.noted.ensures.schema

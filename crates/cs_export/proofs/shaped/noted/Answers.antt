@@ -1,6 +1,7 @@
 use Rattle.std.proofs.Common.{◌≡◌, true, false, sym, ◌∙◌, subst, if◌then◌else◌}
 use Rattle.cs_document.specs.View.{doc_view}
 use Rattle.cs_profile.specs.Profile.{IsSchema}
+use Rattle.cs_profile.specs.declared.keyword.Vocabulary.TheVariants as vocabularies
 use Rattle.cs_describe.specs.Plain.{is_note, plain, without_defaults}
 use Rattle.cs_describe.proofs.Leaving.{notes_are_notes}
 use Rattle.cs_describe.proofs.PlainLaw.{same_validity, same_definitions}
@@ -12,7 +13,7 @@ returns-in_ok-noted-clause-schema c = λ is.
     let second = c.in_ok-noted.ensures in
     let same : plain (doc_view c.in_ok-noted.noted) ≡ plain (doc_view c.args.doc) = second.same ∙ first.same in record {
       plain = same;
-      profile = subst (λ t. IsSchema (if t then without_defaults (doc_view c.in_ok-noted.noted) else doc_view c.in_ok-noted.noted)) (sym c.if-has_defaults.true) (second.profile (first.profile is));
+      profile = subst (λ t. IsSchema vocabularies.Default (if t then without_defaults (doc_view c.in_ok-noted.noted) else doc_view c.in_ok-noted.noted)) (sym c.if-has_defaults.true) (second.profile vocabularies.Default (first.profile vocabularies.Default is));
       validity = same_validity is_note notes_are_notes (doc_view c.args.doc) (doc_view c.in_ok-noted.noted) is.no_loop same;
       definitions = same_definitions is_note notes_are_notes (doc_view c.args.doc) (doc_view c.in_ok-noted.noted) is.no_loop same;
     }
@@ -21,7 +22,7 @@ pub returns-else-has_defaults-clause-schema : goal.returns-else-has_defaults-cla
 returns-else-has_defaults-clause-schema c = λ is.
     let first = c.in_ok-plainly.ensures in record {
       plain = first.same;
-      profile = subst (λ t. IsSchema (if t then without_defaults (doc_view c.in_ok-plainly.plainly) else doc_view c.in_ok-plainly.plainly)) (sym c.if-has_defaults.false) (first.profile is);
-      validity = first.meaning is;
-      definitions = first.definitions is;
+      profile = subst (λ t. IsSchema vocabularies.Default (if t then without_defaults (doc_view c.in_ok-plainly.plainly) else doc_view c.in_ok-plainly.plainly)) (sym c.if-has_defaults.false) (first.profile vocabularies.Default is);
+      validity = first.meaning vocabularies.Default is;
+      definitions = first.definitions vocabularies.Default is;
     }

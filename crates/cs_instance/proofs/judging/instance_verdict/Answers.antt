@@ -1,4 +1,4 @@
-use Rattle.std.proofs.Common.{◌≡◌, ℕ, List, Result, Ok, Err, IfErr, IsErrOf, refl}
+use Rattle.std.proofs.Common.{ℕ, List, Result, Ok, Err, IfErr, IsErrOf, refl}
 use Rattle.std.proofs.lemmas.Result.{IfOk-weaker}
 use Rattle.cs_document.specs.Document.{Document}
 use Rattle.cs_flat.specs.Listed.{document_in}

@@ -3,7 +3,7 @@ use Rattle.std.proofs.lemmas.Result.{on_ok_weaker}
 use Rattle.cs_package.specs.View.{expression_of}
 use Rattle.cs_instance.specs.Steps.{test_of}
 use Rattle.cs_instance.specs.Told.{IsTold}
-use Rattle.cs_instance.proofs.AlikeScalars.{nothing_compared, integer_compared, text_compared, range_compared, more_integers}
+use Rattle.cs_instance.proofs.AlikeScalars.{nothing_compared, integer_compared, text_compared, range_compared, more_integers, more_texts}
 use Rattle.cs_instance.proofs.marks.mark_test.Goals as goal
 
 pub returns-in-Nothing-clause-told : goal.returns-in-Nothing-clause-told
@@ -12,6 +12,9 @@ returns-in-Nothing-clause-told c = nothing_compared (expression_of [] c.args.sha
 pub returns-in-Text-clause-told : goal.returns-in-Text-clause-told
 returns-in-Text-clause-told c =
     on_ok_weaker c.text.result (text_compared (expression_of [] c.args.shape.now) c.in-Text.text.now c.args.marks.now c.text.new.self (c.in-Text.ensures [])) c.text.ensures
+
+pub returns-in-Text-clause-more : goal.returns-in-Text-clause-more
+returns-in-Text-clause-more c = on_ok_weaker c.text.result (more_texts _ c.args.marks.now c.text.new.self) c.text.ensures
 
 pub returns-in-Integer-clause-told : goal.returns-in-Integer-clause-told
 returns-in-Integer-clause-told c =

@@ -7,4 +7,4 @@ pub returns-in_err-read_schema_text-in-Schema-clause-refused : goal.returns-in_e
 returns-in_err-read_schema_text-in-Schema-clause-refused c = λ text.
     let read = c.in_err-read_schema_text-in-Schema in
     let p = err_from_is_err_and c.from_residual-in_err-read_schema_text-in-Schema.result c.from_residual-in_err-read_schema_text-in-Schema.ensures.1 in
-    rw (p.1, p.2, c.in-Schema.is) (subst (λ s. ValidateRefusal s text read.field-0.0) c.deref-in-Schema.ensures.value (read.ensures.refused text))
+    rw (p.1, p.2, c.in-Schema.is) (subst (λ s. ValidateRefusal c.in-Schema.vocabulary s text read.field-0.0) c.deref-in-Schema.ensures.value (read.ensures.refused text))

@@ -12,7 +12,7 @@ use Rattle.cs_question.specs.declared.nodes.Node.TheVariants as node
 use Rattle.cs_question.specs.declared.nodes.Nodes.{Nodes}
 use Rattle.cs_question.specs.Nodes.{nodes_on}
 use Rattle.cs_question.specs.Outlines.{agrees, node_verdict, may, IsToldBy}
-use Rattle.cs_question.proofs.Compared.{compares_integers, integers_alike, simple_marked}
+use Rattle.cs_question.proofs.Compared.{integers_alone, compares_integers, integers_alike, simple_marked}
 use Rattle.cs_question.proofs.scalars.mark.Goals as goal
 
 -- a range tells no integers apart where its limits don't
@@ -27,7 +27,7 @@ returns-in_ok-push-in-Integer-clause-told c = λ z w s.
     let r = c.in-Some-Simple in
     let back : to_z w64 (of_z w64 c.in-Integer.integer) ≡ c.in-Integer.integer = search rules in
     simple_marked c.args.nodes.now c.args.literal r.shape (r.ensures ∙ ap Some r.field-0-is) (an_integer z) (an_integer w)
-    (integer_compared (expression_of [] r.shape.now) c.in-Integer.integer (record { texts = []; integers = c.args.marks.now.items }) (record { texts = []; integers = c.push.new.self.items }) (c.in-Integer.ensures []) (rw back at c.in_ok-push-in-Integer.ensures.items, refl) (an_integer z) (an_integer w) s)
+    (integer_compared (expression_of [] r.shape.now) c.in-Integer.integer (integers_alone c.args.marks.now.items) (integers_alone c.push.new.self.items) (c.in-Integer.ensures []) (rw back at c.in_ok-push-in-Integer.ensures.items, refl, refl) (an_integer z) (an_integer w) s)
 
 pub returns-in-Range-clause-told : goal.returns-in-Range-clause-told
 returns-in-Range-clause-told c =

@@ -12,14 +12,14 @@ abbrev pub invariant-read_members-loop-key : goal.invariant-read_members-loop-ke
 invariant-read_members-loop-key l = record {
   done : List Entry;
   all : l.members.entries ≡ done ++ l.key-iterator;
-  seen : first fault_of (member_visits l.root [] (object_view l.members.entries)) ≡ first fault_of (member_visits l.root [] (object_view l.key-iterator));
+  seen : first (fault_of l.vocabulary) (member_visits l.root [] (object_view l.members.entries)) ≡ first (fault_of l.vocabulary) (member_visits l.root [] (object_view l.key-iterator));
   made : present (slots l.parts) ≡ trimmed_members l.root (object_view done);
   below : l.root ≡ false → l.parts.definitions.entries ≡ [];
 }
 
 abbrev pub invariant-read_list-loop-i : goal.invariant-read_list-loop-i
 invariant-read_list-loop-i l = record {
-  seen : first fault_of (element_visits [] 0 (list_view l.items.items)) ≡ first fault_of (element_visits [] l.i (list_view (drop l.i l.item-items)));
+  seen : first (fault_of l.vocabulary) (element_visits [] 0 (list_view l.items.items)) ≡ first (fault_of l.vocabulary) (element_visits [] l.i (list_view (drop l.i l.item-items)));
   made : documents_of (schemas_view l.schemas.items) ≡ trimmed_elements (list_view (take l.i l.item-items));
 }
 
@@ -28,6 +28,6 @@ invariant-read_map-loop-key l = record {
   done : List Entry;
   all : l.members.entries ≡ done ++ l.key-iterator;
   same : texts l.schemas.entries ≡ texts done;
-  seen : first fault_of (named_visits [] (object_view l.members.entries)) ≡ first fault_of (named_visits [] (object_view l.key-iterator));
+  seen : first (fault_of l.vocabulary) (named_visits [] (object_view l.members.entries)) ≡ first (fault_of l.vocabulary) (named_visits [] (object_view l.key-iterator));
   made : members_of (definitions_view l.schemas.entries) ≡ trimmed_named (object_view done);
 }

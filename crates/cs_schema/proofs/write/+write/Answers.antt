@@ -64,6 +64,21 @@ keyword_doc-returns-in-Items t c = written keyword.Items c.args.keyword c.in-Ite
 pub keyword_doc-returns-in-Maximum : goal.keyword_doc-returns-in-Maximum
 keyword_doc-returns-in-Maximum t c = written keyword.Maximum c.args.keyword c.in-Maximum.is c.args.keywords.now (Ok c.integer_doc-in-Maximum.result) c.integer_doc-in-Maximum.ensures
 
+pub keyword_doc-returns-in-MaxItems : goal.keyword_doc-returns-in-MaxItems
+keyword_doc-returns-in-MaxItems t c = written keyword.MaxItems c.args.keyword c.in-MaxItems.is c.args.keywords.now (Ok c.integer_doc-in-MaxItems.result) c.integer_doc-in-MaxItems.ensures
+
+pub keyword_doc-returns-in-MaxLength : goal.keyword_doc-returns-in-MaxLength
+keyword_doc-returns-in-MaxLength t c = written keyword.MaxLength c.args.keyword c.in-MaxLength.is c.args.keywords.now (Ok c.integer_doc-in-MaxLength.result) c.integer_doc-in-MaxLength.ensures
+
+pub keyword_doc-returns-in-MaxProperties : goal.keyword_doc-returns-in-MaxProperties
+keyword_doc-returns-in-MaxProperties t c = written keyword.MaxProperties c.args.keyword c.in-MaxProperties.is c.args.keywords.now (Ok c.integer_doc-in-MaxProperties.result) c.integer_doc-in-MaxProperties.ensures
+
+pub keyword_doc-returns-in-MinLength : goal.keyword_doc-returns-in-MinLength
+keyword_doc-returns-in-MinLength t c = written keyword.MinLength c.args.keyword c.in-MinLength.is c.args.keywords.now (Ok c.integer_doc-in-MinLength.result) c.integer_doc-in-MinLength.ensures
+
+pub keyword_doc-returns-in-MinProperties : goal.keyword_doc-returns-in-MinProperties
+keyword_doc-returns-in-MinProperties t c = written keyword.MinProperties c.args.keyword c.in-MinProperties.is c.args.keywords.now (Ok c.integer_doc-in-MinProperties.result) c.integer_doc-in-MinProperties.ensures
+
 pub keyword_doc-returns-in-MinItems : goal.keyword_doc-returns-in-MinItems
 keyword_doc-returns-in-MinItems t c = written keyword.MinItems c.args.keyword c.in-MinItems.is c.args.keywords.now (Ok c.integer_doc-in-MinItems.result) c.integer_doc-in-MinItems.ensures
 

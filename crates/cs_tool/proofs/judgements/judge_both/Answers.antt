@@ -3,6 +3,7 @@ use Rattle.std.proofs.lemmas.Result.{err_from_is_err_and}
 use Rattle.cs_json.specs.ReadAs.{read_as}
 use Rattle.cs_document.specs.Document.{Document}
 use Rattle.cs_package.specs.Environment.{Environment}
+use Rattle.cs_profile.specs.declared.keyword.Vocabulary.TheVariants as vocabularies
 use Rattle.cs_tool.specs.Headline.{IsExport, IsVerdict, IsValidated}
 use Rattle.cs_tool.specs.Agreement.{IsAgreement}
 use Rattle.cs_tool.specs.Ready.{IsReady, ExportHasManyPairs, SchemaHasManyPairs, IsReadyToAgree}
@@ -28,7 +29,7 @@ module _ (sources : List (List ℕ)) (root text : List ℕ) where
   only : IsReadyToAgree sources root text → (e : Fault) → Refuses text (ManyOfBoth sources root text) e → e ≡ OutOfMemory
   only ready = memory_alone text _ ready.vetted.input.document ready.vetted.input.read (few_of_agree sources root text ready)
 
-  by_export : {E : Environment} {n : List ℕ} {S : Document} (is : AreSidesOf sources root E n S) (i r : ℕ) → SchemaHasManyPairs is.schema_text text i r → ExportHasManyPairs sources root text i r
+  by_export : {E : Environment} {n : List ℕ} {S : Document} (is : AreSidesOf sources root E n S) (i r : ℕ) → SchemaHasManyPairs vocabularies.Default is.schema_text text i r → ExportHasManyPairs sources root text i r
   by_export is i r many = record { schema_text = is.schema_text; exported = is.exported; translated = is.translated; many = many }
 
 pub returns-in_err-doc : goal.returns-in_err-doc
@@ -68,10 +69,10 @@ returns-in_err-is_valid c =
     })
 
 -- both sides answer, and so the same
-agreement : (sources : List (List ℕ)) (root schema_text text : List ℕ) (a b : Bool) → IsExport sources root schema_text → IsTranslated sources root schema_text → IsVerdict sources root text a → IsValidated schema_text text b → IsAgreement sources root text a
+agreement : (sources : List (List ℕ)) (root schema_text text : List ℕ) (a b : Bool) → IsExport sources root schema_text → IsTranslated sources root schema_text → IsVerdict sources root text a → IsValidated vocabularies.Default schema_text text b → IsAgreement sources root text a
 agreement sources root schema_text text a b exported translated verdict validated =
     let same = vet-and-validate-agree sources root schema_text text a b exported verdict validated in
-    record { verdict = verdict; schema_text = schema_text; exported = exported; translated = translated; validated = subst (IsValidated schema_text text) (sym same) validated }
+    record { verdict = verdict; schema_text = schema_text; exported = exported; translated = translated; validated = subst (IsValidated vocabularies.Default schema_text text) (sym same) validated }
 
 pub returns-clause-found : goal.returns-clause-found
 returns-clause-found c = λ ss r is.

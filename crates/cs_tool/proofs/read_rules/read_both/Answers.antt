@@ -2,6 +2,7 @@ use Rattle.std.proofs.Common.{ℕ, List, Bor, map, refl, sym, subst}
 use Rattle.std.proofs.lemmas.Result.{err_from_is_err_and}
 use Rattle.cs_package.specs.Environment.{Environment, Names}
 use Rattle.cs_profile.specs.SchemaDocument.{document_of}
+use Rattle.cs_profile.specs.declared.keyword.Vocabulary.TheVariants as vocabularies
 use Rattle.cs_tool.specs.Accepted.{IsAccepted, DeclaresRoot}
 use Rattle.cs_tool.specs.Headline.{IsExport}
 use Rattle.cs_tool.specs.Ready.{IsReady}
@@ -16,8 +17,8 @@ now s = s.now
 declared : {sources : List (List ℕ)} {root : List ℕ} {E : Environment} → IsAccepted sources E → (r : IsReady sources root) → DeclaresRoot sources root E r.1
 declared {root = root} accepted r = record { accepted = accepted; named = subst (λ F. Names F root r.1) (one_environment r.2.accepted accepted) r.2.named }
 
--- the exported text is that of a schema
-is_schema_text : (sources : List (List ℕ)) (root schema_text : List ℕ) → IsExport sources root schema_text → IsSchemaText schema_text
+-- the exported text is that of a schema of the default profile
+is_schema_text : (sources : List (List ℕ)) (root schema_text : List ℕ) → IsExport sources root schema_text → IsSchemaText vocabularies.Default schema_text
 is_schema_text sources root schema_text exported = record { document = exported.schema; read = exported.read; profile = exported.profile }
 
 pub returns-in_err-guarded-clause-only : goal.returns-in_err-guarded-clause-only
@@ -42,7 +43,7 @@ pub returns-in_err-schema : goal.returns-in_err-schema
 returns-in_err-schema c =
     let sources = map now c.args.sources.now in
     let export = c.in_ok-exported.ensures.found sources c.in_ok-guarded.ensures.accepted in
-    let is = subst IsSchemaText (sym c.deref.ensures.value) (is_schema_text sources c.args.root.now _ export) in
+    let is = subst (IsSchemaText vocabularies.Default) (sym c.deref.ensures.value) (is_schema_text sources c.args.root.now _ export) in
     let p = err_from_is_err_and c.from_residual-in_err-schema.result c.from_residual-in_err-schema.ensures.1 in
     rw (p.1, p.2, c.in_err-schema.ensures.only is) (record { found = tt; refused = tt; only = λ ready. refl })
 
@@ -57,6 +58,6 @@ returns-clause-found c =
         schema_text = _;
         exported = exported;
         translated = c.in_ok-exported.ensures.translated sources accepted;
-        read = subst (λ s. IsSchemaOf s (document_of c.in_ok-schema.schema)) c.deref.ensures.value c.in_ok-schema.ensures.found;
+        read = subst (λ s. IsSchemaOf vocabularies.Default s (document_of c.in_ok-schema.schema)) c.deref.ensures.value c.in_ok-schema.ensures.found;
       },
     )

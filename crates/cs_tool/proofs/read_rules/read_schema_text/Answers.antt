@@ -11,7 +11,7 @@ returns-in_ok-read_schema-in-Ok-clause-found c =
 
 pub returns-in-Err-clause-refused : goal.returns-in-Err-clause-refused
 returns-in-Err-clause-refused c = λ d.
-    subst (ValidateRefusal c.args.text.now d) (sym c.of_schema_text.ensures) (unread_schema c.args.text.now d c.in-Err.fault c.in-Err.ensures.refused)
+    subst (ValidateRefusal c.args.vocabulary c.args.text.now d) (sym c.of_schema_text.ensures) (unread_schema c.args.vocabulary c.args.text.now d c.in-Err.fault c.in-Err.ensures.refused)
 
 pub returns-in-Err-clause-only : goal.returns-in-Err-clause-only
 returns-in-Err-clause-only c = λ is. c.of_schema_text.ensures ∙ schema_alone c.args.text.now is c.in-Err.fault c.in-Err.ensures.refused

@@ -1,5 +1,6 @@
 use Rattle.std.proofs.Common.{◌≡◌, ℕ, List, Bor, map, ap, subst, subst₂, ◌∙◌}
 use Rattle.std.proofs.lemmas.Result.{err_from_is_err_and}
+use Rattle.cs_profile.specs.declared.keyword.Vocabulary.TheVariants as vocabularies
 use Rattle.cs_tool.specs.CallRefusals.{ValidateRefusal}
 use Rattle.cs_tool.specs.Runs.{Call, vet, agree, sources_or, IsCallRefusal}
 use Rattle.cs_tool.specs.declared.fault.Fault.{Fault}
@@ -20,7 +21,7 @@ returns-in_err-truth-in-Vet-clause-refused c =
 pub returns-in_err-truth-in-Validate-clause-refused : goal.returns-in_err-truth-in-Validate-clause-refused
 returns-in_err-truth-in-Validate-clause-refused c =
     let p = err_from_is_err_and c.from_residual-in_err-truth-in-Validate.result c.from_residual-in_err-truth-in-Validate.ensures.1 in
-    rw (p.1, p.2, c.in-Validate.is) (subst₂ (λ s t. ValidateRefusal s t c.in_err-truth-in-Validate.field-0.0) c.deref-in-Validate.ensures.value c.doc_or_input.ensures c.in_err-truth-in-Validate.ensures.refused)
+    rw (p.1, p.2, c.in-Validate.is) (subst₂ (λ s t. ValidateRefusal vocabularies.Default s t c.in_err-truth-in-Validate.field-0.0) c.deref-in-Validate.ensures.value c.doc_or_input.ensures c.in_err-truth-in-Validate.ensures.refused)
 
 pub returns-in_err-truth-in-Agree-clause-refused : goal.returns-in_err-truth-in-Agree-clause-refused
 returns-in_err-truth-in-Agree-clause-refused c =

@@ -18,7 +18,7 @@ no_write_failed (inr h) = let is : WriteFailed ≡ UnknownRoot = h.0 in cc
 no_call_writes : (c : Call) → IsCallRefusal c WriteFailed → ⊥
 no_call_writes (export sources root) h = no_write_failed h
 no_call_writes (vet sources root doc) h = no_write_failed h
-no_call_writes (validate schema doc) h = h
+no_call_writes (validate taken schema doc) h = h
 no_call_writes (agree sources root doc) h = no_write_failed h
 
 no_line_writes : (request : Request) (remaining : Option (List ℕ)) → LineRefusal request remaining WriteFailed → ⊥

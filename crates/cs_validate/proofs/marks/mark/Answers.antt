@@ -6,7 +6,7 @@ use Rattle.cs_validate.proofs.Told.{keywords_told}
 use Rattle.cs_validate.proofs.marks.mark.Goals as goal
 
 pub returns-in-Truth-clause-more : goal.returns-in-Truth-clause-more
-returns-in-Truth-clause-more c = let m = c.args.marks.now in ([], [], sym (append-nil m.texts), sym (append-nil m.integers))
+returns-in-Truth-clause-more c = let m = c.args.marks.now in ([], [], [], sym (append-nil m.texts), sym (append-nil m.integers), sym (append-nil m.lengths))
 
 pub returns-in-Object-clause-told : goal.returns-in-Object-clause-told
 returns-in-Object-clause-told c =

@@ -19,4 +19,4 @@ pub returns : goal.returns
 returns c =
     let now = c.loop-value.marks in
     c.loop-value.invariant now
-    (subst (λ ys. AddsScalars (map doc_view ys) now now) (sym (drop_past c.args.values.now c.loop-value.value-index c.loop-value-test.false)) (sym (append-nil now.texts), sym (append-nil now.integers)))
+    (subst (λ ys. AddsScalars (map doc_view ys) now now) (sym (drop_past c.args.values.now c.loop-value.value-index c.loop-value-test.false)) (sym (append-nil now.texts), sym (append-nil now.integers), sym (append-nil now.lengths)))

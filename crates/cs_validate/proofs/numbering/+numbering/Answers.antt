@@ -1,13 +1,12 @@
-use Rattle.std.proofs.Common.{◌≡◌, ◌+◌, [], ◌∷◌, ◌++◌, map, option_map, string_bytes, take, take_all, refl, sym, ap, ◌∙◌, subst}
+use Rattle.std.proofs.Common.{◌≡◌, ◌+◌, [], ◌∷◌, ◌++◌, option_map, take, take_all, sym, ap, ◌∙◌, subst}
 use Rattle.std.specs.Prelude.{option_to_list, IfOk}
 use Rattle.std.proofs.lemmas.List.{map-append}
 use Rattle.cs_document.proofs.Maps.{take_at}
 use Rattle.cs_profile.specs.SchemaDocument.{schema_view, schemas_view}
 use Rattle.cs_profile.proofs.Views.{view-Always}
-use Rattle.cs_validate.specs.Placing.{State, Places, PlacesAll}
-use Rattle.cs_validate.specs.declared.rules.Conjunction.{Conjunction}
+use Rattle.cs_validate.specs.Placing.{Places, PlacesAll}
 use Rattle.cs_validate.proofs.Placed.{truth_placed}
-use Rattle.cs_validate.proofs.Joined.{places_one, places_then, object_placed}
+use Rattle.cs_validate.proofs.Joined.{places_one, places_then}
 use Rattle.cs_validate.proofs.numbering.+numbering.Goals as goal
 
 pub place-returns-in-Always : goal.place-returns-in-Always

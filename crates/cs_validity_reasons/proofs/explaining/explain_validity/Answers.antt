@@ -1,4 +1,4 @@
-use Rattle.std.proofs.Common.{◌≡◌, ◌<◌, ◌-◌, Bool, true, false, None, length, sym, ap, ap₂, ◌∙◌, subst, arith}
+use Rattle.std.proofs.Common.{◌≡◌, ◌<◌, ◌-◌, Bool, false, None, length, sym, ap, ap₂, ◌∙◌, subst, arith}
 use Rattle.std.proofs.lemmas.Option.{slice_get_within, get_or_from_slice_get}
 use Rattle.std.proofs.lemmas.Result.{err_from_is_err_and}
 use Rattle.cs_document.specs.Document.{Document, boolean}
@@ -6,6 +6,7 @@ use Rattle.cs_flat.specs.Items.{inside}
 use Rattle.cs_flat.specs.Listed.{values, document_in}
 use Rattle.cs_flat.specs.Nodes.{node_at}
 use Rattle.cs_profile.specs.Profile.{walk_fault}
+use Rattle.cs_profile.specs.declared.keyword.Vocabulary.TheVariants as vocabulary
 use Rattle.cs_profile.specs.Validity.{IsValidity}
 use Rattle.cs_rules.specs.declared.book.Numbering.{Numbering}
 use Rattle.cs_validity_reasons.specs.Required.{HasManyNames}
@@ -21,7 +22,7 @@ pub get-requires-clause-rule : goal.get-requires-clause-rule
 get-requires-clause-rule c =
     let s = c.book-root.result in
     let R = c.args.rules.now in
-    let judge = judge_over R c.args.flat.now _ s.1 _ _ _ _ c.over.ensures.flat (ap (λ (u : Numbering _ _). u.rules.items) c.over.ensures.book) (ap (λ (u : Numbering _ _). u.children.items) c.over.ensures.book) c.book-root.ensures in
+    let judge = judge_over R c.args.flat.now _ s.1 _ _ _ _ c.in_ok-judge.ensures.flat (ap (λ (u : Numbering _ _). u.rules.items) c.in_ok-judge.ensures.book) (ap (λ (u : Numbering _ _). u.children.items) c.in_ok-judge.ensures.book) c.book-root.ensures in
     let e = c.in_ok-refill.ensures in
     let t = is_table R c.args.flat.now s.1 _ _ _ judge c.len-last.ensures.items c.len-last.ensures.whole c.refill.new.done e.items e.rules e.count e.unique in
     let within = slice_get_within t.all s.1 R t.found in
@@ -32,7 +33,7 @@ returns-then-get-clause-answer c =
     let s = c.book-root.result in
     let R = c.args.rules.now in
     let xs = c.args.flat.now in
-    let judge = judge_over R xs _ s.1 _ _ _ _ c.over.ensures.flat (ap (λ (u : Numbering _ _). u.rules.items) c.over.ensures.book) (ap (λ (u : Numbering _ _). u.children.items) c.over.ensures.book) c.book-root.ensures in
+    let judge = judge_over R xs _ s.1 _ _ _ _ c.in_ok-judge.ensures.flat (ap (λ (u : Numbering _ _). u.rules.items) c.in_ok-judge.ensures.book) (ap (λ (u : Numbering _ _). u.children.items) c.in_ok-judge.ensures.book) c.book-root.ensures in
     let e = c.in_ok-refill.ensures in
     let t = is_table R xs s.1 _ _ _ judge c.len-last.ensures.items c.len-last.ensures.whole c.refill.new.done e.items e.rules e.count e.unique in
     let within = slice_get_within t.all s.1 R t.found in
@@ -49,7 +50,7 @@ pub returns-then-get-clause-within : goal.returns-then-get-clause-within
 returns-then-get-clause-within c =
     let s = c.book-root.result in
     let R = c.args.rules.now in
-    let judge = judge_over R c.args.flat.now _ s.1 _ _ _ _ c.over.ensures.flat (ap (λ (u : Numbering _ _). u.rules.items) c.over.ensures.book) (ap (λ (u : Numbering _ _). u.children.items) c.over.ensures.book) c.book-root.ensures in
+    let judge = judge_over R c.args.flat.now _ s.1 _ _ _ _ c.in_ok-judge.ensures.flat (ap (λ (u : Numbering _ _). u.rules.items) c.in_ok-judge.ensures.book) (ap (λ (u : Numbering _ _). u.children.items) c.in_ok-judge.ensures.book) c.book-root.ensures in
     few_pairs R c.args.flat.now s.1 _ _ _ judge c.len-last.ensures.items c.len-last.ensures.whole c.in_ok-refill.ensures.within
 
 pub returns-then-has_many_names-clause-answer : goal.returns-then-has_many_names-clause-answer
@@ -57,7 +58,7 @@ returns-then-has_many_names-clause-answer c =
     let s = c.book-root.result in
     let R = c.args.rules.now in
     let xs = c.args.flat.now in
-    let judge = judge_over R xs _ s.1 _ _ _ _ c.over.ensures.flat (ap (λ (u : Numbering _ _). u.rules.items) c.over.ensures.book) (ap (λ (u : Numbering _ _). u.children.items) c.over.ensures.book) c.book-root.ensures in
+    let judge = judge_over R xs _ s.1 _ _ _ _ c.in_ok-judge.ensures.flat (ap (λ (u : Numbering _ _). u.rules.items) c.in_ok-judge.ensures.book) (ap (λ (u : Numbering _ _). u.children.items) c.in_ok-judge.ensures.book) c.book-root.ensures in
     let e = c.in_ok-refill.ensures in
     let t = is_table R xs s.1 _ _ _ judge c.len-last.ensures.items c.len-last.ensures.whole c.refill.new.done e.items e.rules e.count e.unique in
     let within = slice_get_within t.all s.1 R t.found in
@@ -71,7 +72,7 @@ pub returns-then-has_many_names-clause-within : goal.returns-then-has_many_names
 returns-then-has_many_names-clause-within c =
     let s = c.book-root.result in
     let R = c.args.rules.now in
-    let judge = judge_over R c.args.flat.now _ s.1 _ _ _ _ c.over.ensures.flat (ap (λ (u : Numbering _ _). u.rules.items) c.over.ensures.book) (ap (λ (u : Numbering _ _). u.children.items) c.over.ensures.book) c.book-root.ensures in
+    let judge = judge_over R c.args.flat.now _ s.1 _ _ _ _ c.in_ok-judge.ensures.flat (ap (λ (u : Numbering _ _). u.rules.items) c.in_ok-judge.ensures.book) (ap (λ (u : Numbering _ _). u.children.items) c.in_ok-judge.ensures.book) c.book-root.ensures in
     few_pairs R c.args.flat.now s.1 _ _ _ judge c.len-last.ensures.items c.len-last.ensures.whole c.in_ok-refill.ensures.within
 
 pub returns-then-has_many_names-clause-why : goal.returns-then-has_many_names-clause-why
@@ -87,7 +88,7 @@ returns-clause-answer c =
     let s = c.book-root.result in
     let R = c.args.rules.now in
     let xs = c.args.flat.now in
-    let judge = judge_over R xs _ s.1 _ _ _ _ c.over.ensures.flat (ap (λ (u : Numbering _ _). u.rules.items) c.over.ensures.book) (ap (λ (u : Numbering _ _). u.children.items) c.over.ensures.book) c.book-root.ensures in
+    let judge = judge_over R xs _ s.1 _ _ _ _ c.in_ok-judge.ensures.flat (ap (λ (u : Numbering _ _). u.rules.items) c.in_ok-judge.ensures.book) (ap (λ (u : Numbering _ _). u.children.items) c.in_ok-judge.ensures.book) c.book-root.ensures in
     let e = c.in_ok-refill.ensures in
     let t = is_table R xs s.1 _ _ _ judge c.len-last.ensures.items c.len-last.ensures.whole c.refill.new.done e.items e.rules e.count e.unique in
     let within = slice_get_within t.all s.1 R t.found in
@@ -101,18 +102,18 @@ pub returns-clause-within : goal.returns-clause-within
 returns-clause-within c =
     let s = c.book-root.result in
     let R = c.args.rules.now in
-    let judge = judge_over R c.args.flat.now _ s.1 _ _ _ _ c.over.ensures.flat (ap (λ (u : Numbering _ _). u.rules.items) c.over.ensures.book) (ap (λ (u : Numbering _ _). u.children.items) c.over.ensures.book) c.book-root.ensures in
+    let judge = judge_over R c.args.flat.now _ s.1 _ _ _ _ c.in_ok-judge.ensures.flat (ap (λ (u : Numbering _ _). u.rules.items) c.in_ok-judge.ensures.book) (ap (λ (u : Numbering _ _). u.children.items) c.in_ok-judge.ensures.book) c.book-root.ensures in
     few_pairs R c.args.flat.now s.1 _ _ _ judge c.len-last.ensures.items c.len-last.ensures.whole c.in_ok-refill.ensures.within
 
 pub told-requires : goal.told-requires
 told-requires c =
     let s = c.book-root.result in
     let R = c.args.rules.now in
-    let judge = judge_over R c.args.flat.now _ s.1 _ _ _ _ c.over.ensures.flat (ap (λ (u : Numbering _ _). u.rules.items) c.over.ensures.book) (ap (λ (u : Numbering _ _). u.children.items) c.over.ensures.book) c.book-root.ensures in
+    let judge = judge_over R c.args.flat.now _ s.1 _ _ _ _ c.in_ok-judge.ensures.flat (ap (λ (u : Numbering _ _). u.rules.items) c.in_ok-judge.ensures.book) (ap (λ (u : Numbering _ _). u.children.items) c.in_ok-judge.ensures.book) c.book-root.ensures in
     let e = c.in_ok-refill.ensures in
     let t = is_table R c.args.flat.now s.1 _ _ _ judge c.len-last.ensures.items c.len-last.ensures.whole c.refill.new.done e.items e.rules e.count e.unique in
     let within = slice_get_within t.all s.1 R t.found in
-    let rules : c.refill.new.done.rules ≡ length s.0.now.numbering.rules.items = e.rules ∙ ap (λ (u : Numbering _ _). length u.rules.items) c.over.ensures.book in
+    let rules : c.refill.new.done.rules ≡ length s.0.now.numbering.rules.items = e.rules ∙ ap (λ (u : Numbering _ _). length u.rules.items) c.in_ok-judge.ensures.book in
     record {
       item = omega (arith, c.len-last.ensures.count, c.len-last.ensures.inside);
       rule = omega (arith, within, t.rule_count, rules);
@@ -126,7 +127,7 @@ returns-clause-why c =
     let xs = c.args.flat.now in
     let l = c.len-last.ensures in
     let f = verdicts c.refill.new.done in
-    let only = table_over f c.over.result.flat.now xs _ s.0.now.numbering.rules.items _ s.0.now.numbering.children.items c.over.ensures.flat (ap (λ (u : Numbering _ _). u.rules.items) c.over.ensures.book) (ap (λ (u : Numbering _ _). u.children.items) c.over.ensures.book) c.in_ok-refill.ensures.unique in
+    let only = table_over f c.in_ok-judge.judge.flat.now xs _ s.0.now.numbering.rules.items _ s.0.now.numbering.children.items c.in_ok-judge.ensures.flat (ap (λ (u : Numbering _ _). u.rules.items) c.in_ok-judge.ensures.book) (ap (λ (u : Numbering _ _). u.children.items) c.in_ok-judge.ensures.book) c.in_ok-refill.ensures.unique in
     let last = c.len-last.result - 1 in
     let is : last ≡ inside (document_in xs) = omega (arith, l.count, l.inside) in
     let below : last < length xs = omega (arith, l.count, l.inside) in
@@ -136,7 +137,7 @@ returns-clause-why c =
     let found = c.has_many_names.ensures.1 (subst (λ n. most_pairs < n) (sym pairs) h) in
     let none = c.if-has_many_names.false in
     cc in
-    let shaped = subst (λ D. walk_fault D ≡ None) c.schema-schema.ensures c.whole_law.ensures.whole.profile.shaped in
+    let shaped = subst (λ D. walk_fault vocabulary.Wide D ≡ None) c.schema-schema.ensures c.whole_law.ensures.whole.profile.shaped in
     let told : (V : Document → Document → Bool) → IsValidity R V → IsToldWhy R V xs c.args.telling c.in_ok-named.named = λ V h.
     explained R xs s.1 s.0.now.numbering.rules.items s.0.now.numbering.children.items c.book-root.ensures l.items l.whole l.listed shaped f only last below same (sym c.get.ensures ∙ c.if-get.false)
     c.args.telling c.in_ok-reasons.reasons c.in_ok-named.named c.in_ok-named.ensures V h c.in_ok-reasons.ensures in
@@ -146,7 +147,7 @@ pub returns-in_err-refill-clause-refused : goal.returns-in_err-refill-clause-ref
 returns-in_err-refill-clause-refused c =
     let s = c.book-root.result in
     let R = c.args.rules.now in
-    let judge = judge_over R c.args.flat.now _ s.1 _ _ _ _ c.over.ensures.flat (ap (λ (u : Numbering _ _). u.rules.items) c.over.ensures.book) (ap (λ (u : Numbering _ _). u.children.items) c.over.ensures.book) c.book-root.ensures in
+    let judge = judge_over R c.args.flat.now _ s.1 _ _ _ _ c.in_ok-judge.ensures.flat (ap (λ (u : Numbering _ _). u.rules.items) c.in_ok-judge.ensures.book) (ap (λ (u : Numbering _ _). u.children.items) c.in_ok-judge.ensures.book) c.book-root.ensures in
     let r = refused R c.args.flat.now s.1 _ _ _ judge c.len-last.ensures.items c.len-last.ensures.whole in
-    let p = err_from_is_err_and c.from_residual.result c.from_residual.ensures.1 in
+    let p = err_from_is_err_and c.from_residual-in_err-refill.result c.from_residual-in_err-refill.ensures.1 in
     rw (p.1, p.2) (r c.in_err-refill.field-0.0 c.in_err-refill.ensures.refused)

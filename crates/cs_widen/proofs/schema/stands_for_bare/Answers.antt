@@ -2,6 +2,7 @@ use Rattle.std.proofs.Common.{arith, sym, subst}
 use Rattle.cs_document.specs.View.{doc_view}
 use Rattle.cs_json.specs.Texts.{Reads}
 use Rattle.cs_profile.specs.Profile.{IsSchema}
+use Rattle.cs_profile.specs.declared.keyword.Vocabulary.TheVariants as vocabularies
 use Rattle.cs_describe.specs.Meaning.{SameValidity}
 use Rattle.cs_widen.proofs.schema.stands_for_bare.Goals as goal
 
@@ -11,6 +12,6 @@ returns-in_ok-text-in-Ok-clause-found c =
       document = doc_view c.in-Ok.doc;
       read = c.in-Ok.ensures.found;
       written = λ within. subst (Reads c.in_ok-text-in-Ok.text.items) found (c.in_ok-text-in-Ok.ensures.reads (let nested = c.in_ok-bare-in-Ok.ensures.nested in omega arith));
-      meaning = λ is. subst (SameValidity (doc_view c.in-Ok.doc)) found (c.in_ok-bare-in-Ok.ensures.meaning (subst IsSchema (sym found) is));
-      profile = λ is. subst IsSchema found (c.in_ok-bare-in-Ok.ensures.profile is);
+      meaning = λ is. subst (SameValidity (doc_view c.in-Ok.doc)) found (c.in_ok-bare-in-Ok.ensures.meaning vocabularies.Wide (subst (IsSchema vocabularies.Wide) (sym found) is));
+      profile = λ is. subst (IsSchema vocabularies.Wide) found (c.in_ok-bare-in-Ok.ensures.profile vocabularies.Wide is);
     }

@@ -10,6 +10,9 @@ use Rattle.cs_instance.proofs.Meaning as meaning
 use Rattle.cs_instance.proofs.Verdicts.{judge_over, is_table, few_pairs, many_where, last_verdict}
 use Rattle.cs_instance.proofs.numbered.RootRules.verdict.Goals as goal
 
+pub returns-in_err-judge-clause-one_meaning : goal.returns-in_err-judge-clause-one_meaning
+returns-in_err-judge-clause-one_meaning c = meaning.one_meaning c.args.self.now.0 (subst (λ q. IsGuarded q.0) c.self.view_is c.package-package.ensures.guarded)
+
 pub returns-in_err-refill-clause-one_meaning : goal.returns-in_err-refill-clause-one_meaning
 returns-in_err-refill-clause-one_meaning c = meaning.one_meaning c.args.self.now.0 (subst (λ q. IsGuarded q.0) c.self.view_is c.package-package.ensures.guarded)
 
@@ -22,9 +25,9 @@ returns-in_err-refill-clause-many c = λ items rules is.
     let s = c.self.inside in
     let d = c.args.flat.now in
     let rooted = subst (λ q. IsRooted q.0 q.1 s.book.numbering.rules.items s.book.numbering.children.items s.number) c.self.view_is c.self.invariant in
-    let m = c.over-judge.ensures.book in
-    let judge = judge_over p.0 p.1 d s.number _ _ rooted c.over-judge.result.flat.now _ _ c.over-judge.ensures.flat (ap (λ x. x.rules.items) m) (ap (λ x. x.children.items) m) in
-    let e = err_from_is_err_and c.from_residual.result c.from_residual.ensures.1 in
+    let m = c.in_ok-judge.ensures.book in
+    let judge = judge_over p.0 p.1 d s.number _ _ rooted c.in_ok-judge.judge.flat.now _ _ c.in_ok-judge.ensures.flat (ap (λ x. x.rules.items) m) (ap (λ x. x.children.items) m) in
+    let e = err_from_is_err_and c.from_residual-in_err-refill.result c.from_residual-in_err-refill.ensures.1 in
     let same = sym e.1 ∙ is in
     let from = e.2 in
     many_where p.0 p.1 d s.number _ _ _ judge c.len-last.ensures.items c.len-last.ensures.whole c.in_err-refill.field-0.0 c.in_err-refill.ensures.refused items rules cc
@@ -35,8 +38,8 @@ get-requires-clause-rule c =
     let s = c.self.inside in
     let d = c.args.flat.now in
     let rooted = subst (λ q. IsRooted q.0 q.1 s.book.numbering.rules.items s.book.numbering.children.items s.number) c.self.view_is c.self.invariant in
-    let m = c.over-judge.ensures.book in
-    let judge = judge_over p.0 p.1 d s.number _ _ rooted c.over-judge.result.flat.now _ _ c.over-judge.ensures.flat (ap (λ x. x.rules.items) m) (ap (λ x. x.children.items) m) in
+    let m = c.in_ok-judge.ensures.book in
+    let judge = judge_over p.0 p.1 d s.number _ _ rooted c.in_ok-judge.judge.flat.now _ _ c.in_ok-judge.ensures.flat (ap (λ x. x.rules.items) m) (ap (λ x. x.children.items) m) in
     let within = slice_get_within judge.all s.number (definition p.1) judge.found in
     omega (arith, within, judge.rule_count, c.in_ok-refill.ensures.rules)
 
@@ -46,8 +49,8 @@ returns-clause-answer c =
     let s = c.self.inside in
     let d = c.args.flat.now in
     let rooted = subst (λ q. IsRooted q.0 q.1 s.book.numbering.rules.items s.book.numbering.children.items s.number) c.self.view_is c.self.invariant in
-    let m = c.over-judge.ensures.book in
-    let judge = judge_over p.0 p.1 d s.number _ _ rooted c.over-judge.result.flat.now _ _ c.over-judge.ensures.flat (ap (λ x. x.rules.items) m) (ap (λ x. x.children.items) m) in
+    let m = c.in_ok-judge.ensures.book in
+    let judge = judge_over p.0 p.1 d s.number _ _ rooted c.in_ok-judge.judge.flat.now _ _ c.in_ok-judge.ensures.flat (ap (λ x. x.rules.items) m) (ap (λ x. x.children.items) m) in
     let t = c.in_ok-refill.ensures in
     let table = is_table p.0 p.1 d s.number _ _ _ judge c.len-last.ensures.items c.len-last.ensures.whole c.refill.new.done t.items t.rules t.count t.unique in
     let last : c.len-last.result - 1 ≡ inside (document_in d) = omega (arith, c.len-last.ensures.count, c.len-last.ensures.inside) in
@@ -59,6 +62,6 @@ returns-clause-within c =
     let s = c.self.inside in
     let d = c.args.flat.now in
     let rooted = subst (λ q. IsRooted q.0 q.1 s.book.numbering.rules.items s.book.numbering.children.items s.number) c.self.view_is c.self.invariant in
-    let m = c.over-judge.ensures.book in
-    let judge = judge_over p.0 p.1 d s.number _ _ rooted c.over-judge.result.flat.now _ _ c.over-judge.ensures.flat (ap (λ x. x.rules.items) m) (ap (λ x. x.children.items) m) in
+    let m = c.in_ok-judge.ensures.book in
+    let judge = judge_over p.0 p.1 d s.number _ _ rooted c.in_ok-judge.judge.flat.now _ _ c.in_ok-judge.ensures.flat (ap (λ x. x.rules.items) m) (ap (λ x. x.children.items) m) in
     few_pairs p.0 p.1 d s.number _ _ _ judge c.len-last.ensures.items c.len-last.ensures.whole c.in_ok-refill.ensures.within

@@ -31,11 +31,26 @@ returns-in-ExclusiveMinimum c = is_set keyword.ExclusiveMinimum c.args.keyword c
 pub returns-in-Items : goal.returns-in-Items
 returns-in-Items c = is_set keyword.Items c.args.keyword c.in-Items.is c.args.self _ c.args.value _ c.schema-in-Items.ensures refl
 
+pub returns-in-MaxItems : goal.returns-in-MaxItems
+returns-in-MaxItems c = is_set keyword.MaxItems c.args.keyword c.in-MaxItems.is c.args.self _ c.args.value _ c.integer-self-in-MaxItems.ensures.count refl
+
+pub returns-in-MaxLength : goal.returns-in-MaxLength
+returns-in-MaxLength c = is_set keyword.MaxLength c.args.keyword c.in-MaxLength.is c.args.self _ c.args.value _ c.integer-self-in-MaxLength.ensures.count refl
+
+pub returns-in-MaxProperties : goal.returns-in-MaxProperties
+returns-in-MaxProperties c = is_set keyword.MaxProperties c.args.keyword c.in-MaxProperties.is c.args.self _ c.args.value _ c.integer-self-in-MaxProperties.ensures.count refl
+
 pub returns-in-Maximum : goal.returns-in-Maximum
 returns-in-Maximum c = is_set keyword.Maximum c.args.keyword c.in-Maximum.is c.args.self _ c.args.value _ c.integer-self-in-Maximum.ensures.integer refl
 
 pub returns-in-MinItems : goal.returns-in-MinItems
 returns-in-MinItems c = is_set keyword.MinItems c.args.keyword c.in-MinItems.is c.args.self _ c.args.value _ c.integer-self-in-MinItems.ensures.count refl
+
+pub returns-in-MinLength : goal.returns-in-MinLength
+returns-in-MinLength c = is_set keyword.MinLength c.args.keyword c.in-MinLength.is c.args.self _ c.args.value _ c.integer-self-in-MinLength.ensures.count refl
+
+pub returns-in-MinProperties : goal.returns-in-MinProperties
+returns-in-MinProperties c = is_set keyword.MinProperties c.args.keyword c.in-MinProperties.is c.args.self _ c.args.value _ c.integer-self-in-MinProperties.ensures.count refl
 
 pub returns-in-Minimum : goal.returns-in-Minimum
 returns-in-Minimum c = is_set keyword.Minimum c.args.keyword c.in-Minimum.is c.args.self _ c.args.value _ c.integer-self-in-Minimum.ensures.integer refl

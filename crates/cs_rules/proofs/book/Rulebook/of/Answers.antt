@@ -1,4 +1,4 @@
-use Rattle.std.proofs.Common.{sym, subst}
+use Rattle.std.proofs.Common.{subst}
 use Rattle.cs_rules.specs.Rows.{AreRowsOf}
 use Rattle.cs_rules.specs.Sharing.{AreToldBy}
 use Rattle.cs_rules.proofs.Marked.{shuffled_tell, all_told_more}
@@ -11,5 +11,5 @@ invariant_of-result g c =
     let made = c.of-classes in
     record {
       told = ∣ subst (λ rules. AreRowsOf step rules c.in_ok-rows.rows) c.deref.ensures.value c.in_ok-rows.ensures ∣₁;
-      marked = ∣ all_told_more step c.args.numbering.rules.items marks made.result (shuffled_tell marks made.result made.ensures.texts made.ensures.integers) (subst (λ rules. AreToldBy step rules marks) c.deref-2.ensures.value c.in_ok-marks_of.ensures) ∣₁;
+      marked = ∣ all_told_more step c.args.numbering.rules.items marks made.result (shuffled_tell marks made.result made.ensures.texts made.ensures.integers made.ensures.lengths) (subst (λ rules. AreToldBy step rules marks) c.deref-2.ensures.value c.in_ok-marks_of.ensures) ∣₁;
     }

@@ -17,7 +17,7 @@ pub get-requires-clause-rule : goal.get-requires-clause-rule
 get-requires-clause-rule c =
     let s = c.self.inside in
     let R = document_of s.schema.now in
-    let judge = judge_over R c.args.flat.now _ s.root _ _ _ _ c.over.ensures.flat (ap (λ (u : Numbering _ _). u.rules.items) c.over.ensures.book) (ap (λ (u : Numbering _ _). u.children.items) c.over.ensures.book) c.self.invariant in
+    let judge = judge_over R c.args.flat.now _ s.root _ _ _ _ c.in_ok-judge.ensures.flat (ap (λ (u : Numbering _ _). u.rules.items) c.in_ok-judge.ensures.book) (ap (λ (u : Numbering _ _). u.children.items) c.in_ok-judge.ensures.book) c.self.invariant in
     let e = c.in_ok-refill.ensures in
     let t = is_table R c.args.flat.now s.root _ _ _ judge c.len-last.ensures.items c.len-last.ensures.whole c.refill.new.done e.items e.rules e.count e.unique in
     let within = slice_get_within t.all s.root R t.found in
@@ -28,7 +28,7 @@ returns-clause-answer c =
     let s = c.self.inside in
     let R = document_of s.schema.now in
     let xs = c.args.flat.now in
-    let judge = judge_over R xs _ s.root _ _ _ _ c.over.ensures.flat (ap (λ (u : Numbering _ _). u.rules.items) c.over.ensures.book) (ap (λ (u : Numbering _ _). u.children.items) c.over.ensures.book) c.self.invariant in
+    let judge = judge_over R xs _ s.root _ _ _ _ c.in_ok-judge.ensures.flat (ap (λ (u : Numbering _ _). u.rules.items) c.in_ok-judge.ensures.book) (ap (λ (u : Numbering _ _). u.children.items) c.in_ok-judge.ensures.book) c.self.invariant in
     let e = c.in_ok-refill.ensures in
     let t = is_table R xs s.root _ _ _ judge c.len-last.ensures.items c.len-last.ensures.whole c.refill.new.done e.items e.rules e.count e.unique in
     let within = slice_get_within t.all s.root R t.found in
@@ -43,7 +43,7 @@ pub returns-clause-within : goal.returns-clause-within
 returns-clause-within c =
     let s = c.self.inside in
     let R = document_of s.schema.now in
-    let judge = judge_over R c.args.flat.now _ s.root _ _ _ _ c.over.ensures.flat (ap (λ (u : Numbering _ _). u.rules.items) c.over.ensures.book) (ap (λ (u : Numbering _ _). u.children.items) c.over.ensures.book) c.self.invariant in
+    let judge = judge_over R c.args.flat.now _ s.root _ _ _ _ c.in_ok-judge.ensures.flat (ap (λ (u : Numbering _ _). u.rules.items) c.in_ok-judge.ensures.book) (ap (λ (u : Numbering _ _). u.children.items) c.in_ok-judge.ensures.book) c.self.invariant in
     subst (λ (D : Document). HasManyPairs D (document_in c.args.flat.now) → ⊥) c.self.view_is
     (few_pairs R c.args.flat.now s.root _ _ _ judge c.len-last.ensures.items c.len-last.ensures.whole c.in_ok-refill.ensures.within)
 
@@ -51,7 +51,7 @@ pub returns-in_err-refill-clause-refused : goal.returns-in_err-refill-clause-ref
 returns-in_err-refill-clause-refused c =
     let s = c.self.inside in
     let R = document_of s.schema.now in
-    let judge = judge_over R c.args.flat.now _ s.root _ _ _ _ c.over.ensures.flat (ap (λ (u : Numbering _ _). u.rules.items) c.over.ensures.book) (ap (λ (u : Numbering _ _). u.children.items) c.over.ensures.book) c.self.invariant in
+    let judge = judge_over R c.args.flat.now _ s.root _ _ _ _ c.in_ok-judge.ensures.flat (ap (λ (u : Numbering _ _). u.rules.items) c.in_ok-judge.ensures.book) (ap (λ (u : Numbering _ _). u.children.items) c.in_ok-judge.ensures.book) c.self.invariant in
     let r = refused R c.args.flat.now s.root _ _ _ judge c.len-last.ensures.items c.len-last.ensures.whole in
-    let p = err_from_is_err_and c.from_residual.result c.from_residual.ensures.1 in
+    let p = err_from_is_err_and c.from_residual-in_err-refill.result c.from_residual-in_err-refill.ensures.1 in
     rw (p.1, p.2) (subst (λ (D : Document). IsRefusal c.in_err-refill.field-0.0 D (document_in c.args.flat.now)) c.self.view_is (r c.in_err-refill.field-0.0 c.in_err-refill.ensures.refused))

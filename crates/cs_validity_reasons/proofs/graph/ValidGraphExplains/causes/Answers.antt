@@ -17,7 +17,7 @@ use Rattle.cs_validity_reasons.specs.PlacedCauses.{IsPlacedCause}
 use Rattle.cs_validate.specs.Props.{parts_prop, parts_weaker}
 use Rattle.cs_validate.specs.Steps.{asked_of}
 use Rattle.cs_validity_reasons.specs.declared.cause.KeyedCause.TheVariants.{Never}
-use Rattle.cs_validate.proofs.Asked.{below_here, below_inside}
+use Rattle.cs_validate.proofs.Asked.{tells_of, below_here, below_inside}
 use Rattle.cs_validity_reasons.proofs.ToldCauses.{told_causes}
 use Rattle.cs_validity_reasons.proofs.graph.ValidGraphExplains.causes.Goals as goal
 
@@ -55,6 +55,13 @@ object_causes-requires-clause-inside c =
     let k : length children ≤ m = omega (arith, ap length c.deref.ensures.value) in
     let parts = ∥∥₁_elim s.book.now.numbering.placed (parts_prop c.args.rule (length children) (asked_of rule)) (λ placed. placed.parts c.args.rule rule there) in
     below_inside n m c.in-Object.conjunction (subst (λ x. PartsBelow n m (asked_of x)) c.in-Object.is (parts_weaker c.args.rule (length children) n m l k (asked_of rule) parts))
+
+pub object_causes-requires-clause-length : goal.object_causes-requires-clause-length
+object_causes-requires-clause-length c =
+    let s = c.args.self.now in
+    let found = c.item-value.ensures.found in
+    let counted = s.counted in
+    search (tells_of, found, counted)
 
 pub object_causes-requires-clause-children : goal.object_causes-requires-clause-children
 object_causes-requires-clause-children c =

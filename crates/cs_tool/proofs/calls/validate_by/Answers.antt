@@ -1,7 +1,7 @@
 use Rattle.std.proofs.Common.{refl}
 use Rattle.std.proofs.lemmas.Result.{err_from_is_err_and}
 use Rattle.cs_tool.proofs.Numbered.{numbered_schema}
-use Rattle.cs_tool.proofs.calls.validate.Goals as goal
+use Rattle.cs_tool.proofs.calls.validate_by.Goals as goal
 
 pub returns-in_err-schema : goal.returns-in_err-schema
 returns-in_err-schema c =
@@ -20,7 +20,8 @@ returns-in_err-rules c =
 
 pub returns : goal.returns
 returns c =
+    let v = c.args.vocabulary in
     let s = c.args.schema.now in
     let is = numbered_schema c.in_ok-schema.ensures.found c.in_ok-rules.ensures.found in
     let judged = c.judge_schema.ensures in
-    record { found = judged.found s is; refused = judged.refused s is; only = judged.only s is }
+    record { found = judged.found v s is; refused = judged.refused v s is; only = judged.only v s is }
