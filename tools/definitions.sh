@@ -2,7 +2,7 @@
 # Says which names of the tables in docs/DEFINITIONS.md and docs/PROOF.md aren't where these say: for each row of a table whose last
 # column is `file`, each name in backticks in its first cell has to be defined in a file of its last cell. A file is named from
 # `crates` on, or from the folder of the crate that the heading names. Says too which other file of the crate's definitions or proofs
-# has the name. Status 1 where one is missing, or where README.md doesn't name the number of lines that tools/reached.sh counts.
+# has the name. Status 1 where one is missing, or where README.md doesn't name the numbers of lines that tools/reached.sh counts.
 #
 #     tools/definitions.sh [PAGE..]
 set -eu
@@ -11,6 +11,8 @@ export LC_ALL=C
 
 believed=$(tools/reached.sh | sed -nE '$s/^([0-9]+)([0-9]{3}) lines.*/\1,\2 lines/p')
 grep -qF "$believed" README.md || { echo "README.md doesn't name the $believed that tools/reached.sh counts"; exit 1; }
+default=$(tools/reached.sh --default | sed -nE '$s/^([0-9]+)([0-9]{3}) lines.*/\1,\2 are of the default profile/p')
+tr '\n' ' ' < README.md | grep -qF "$default" || { echo "README.md doesn't say that $default, as tools/reached.sh counts"; exit 1; }
 
 [ $# -gt 0 ] || set -- docs/DEFINITIONS.md docs/PROOF.md
 awk '

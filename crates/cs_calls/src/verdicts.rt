@@ -7,7 +7,7 @@ use cs_instance::{instance_judge, instance_table};
 use cs_json::{Doc, Flat, flatten, read_doc};
 use cs_schema::SchemaDoc;
 use cs_table::fill;
-use cs_tool::{Fault, Vocabulary, accepted_package, read_schema_text, validate_by};
+use cs_tool::{Fault, Profile, Vocabulary, accepted_package, read_schema_text, validate_by};
 use cs_validate::{is_valid, valid_judge, valid_table};
 use std::alloc::Global;
 
@@ -15,7 +15,7 @@ use std::alloc::Global;
 pub fn instance(alloc: Global, call: Call, cells: &str) -> Result<Vec<u8>, Fault> {
     let (source, rest) = cell(cells);
     let (root, text) = cell(rest);
-    let package = accepted_package(alloc, &[source.as_bytes()])?;
+    let package = accepted_package(alloc, Profile::Default, &[source.as_bytes()])?;
     let doc = read_doc(alloc, text.as_bytes())?;
     instance_of(alloc, call, &package, root, &doc)
 }

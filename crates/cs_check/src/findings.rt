@@ -1,6 +1,6 @@
 // What a check of sources or of a schema finds, in lines.
 ghost use Rattle.std.specs.Prelude.{◌≡◌, ◌↔◌, [], IfOk, None};
-ghost use Rattle.cs_check.specs.Told.{AreAccepted, AreWideAccepted};
+ghost use Rattle.cs_check.specs.Told.{AreAccepted};
 ghost use Rattle.cs_grammar.specs.declared.profile.Profile.TheVariants as profiles;
 ghost use Rattle.cs_profile.specs.declared.keyword.Vocabulary.TheVariants as vocabularies;
 ghost use Rattle.cs_tool.specs.CallRefusals.{IsSchemaText};
@@ -10,14 +10,14 @@ ghost use Rattle.cs_widen.specs.Schemas.{SchemaMeans};
 use crate::MOST_FAULTS;
 use crate::findings::Checked::{Faulty, Warned, Well};
 use crate::schema::check_schema;
-use crate::sources::{check, check_wide};
+use crate::sources::check;
 use crate::warnings::warning_lines;
 use cs_fault_words::{About, Profile, put_finding};
 use cs_place::Named;
 use cs_profile::Vocabulary;
 use cs_sources::sources_of;
 use cs_tool::{Fault, accepted_package};
-use cs_widen::{schema_stands_for_in, stands_for};
+use cs_widen::schema_stands_for_in;
 use std::alloc::Global;
 
 /// What came of a check.
@@ -41,55 +41,39 @@ pub struct Findings {
 /// What is found, unless memory runs out.
 type Found = Result<Findings, Fault>;
 
-/// What is found in the sources: a line for each fault, 50 at most; where there is none, one for each definition that is found to have
-/// no instance. `named` has the sources with their names, in their order.
+/// What is found in the sources in a profile: a line for each fault, 50 at most; where there is none, one for each definition that is found to
+/// have no instance. `named` has the sources with their names, in their order.
 ///
 /// That what is told is so is proved where it is found: by `check` and `warned`. The words and the places in lines are tested. Only memory can run out.
 pub fn source_findings<'a>(
     alloc: Global,
+    profile: Profile,
     sources: &[&[u8]],
     named: &'a [Named<'a>],
     root: Option<&'a str>,
 ) -> Result<Findings, Fault>
-    ensures accepted { IfOk result (λ f. ¬ (f.checked ≡ Checked.Faulty) → AreAccepted (bytes_in sources.now)) }
-    ensures refused { root.entry ≡ None → IfOk result (λ f. f.checked ≡ Checked.Faulty → ¬ (AreAccepted (bytes_in sources.now))) }
+    ensures accepted { IfOk result (λ f. ¬ (f.checked ≡ Checked.Faulty) → AreAccepted profile (bytes_in sources.now)) }
+    ensures refused { root.entry ≡ None → IfOk result (λ f. f.checked ≡ Checked.Faulty → ¬ (AreAccepted profile (bytes_in sources.now))) }
 {
     let about = About::of(named, root.unwrap_or(""));
-    let faults = check(alloc, sources)?;
-    if !faults.is_empty() {
-        return told(alloc, sources, &faults, about);
-    }
-    package_findings(alloc, sources, root, about)
-}
-
-/// What is found in the sources in the wide profile, as by [`source_findings`].
-///
-/// That what is told is so is proved where it is found: by `check_wide` and `warned`. The words and the places in lines are tested. Only memory can run out.
-pub fn wide_findings<'a>(
-    alloc: Global,
-    sources: &[&[u8]],
-    named: &'a [Named<'a>],
-    root: Option<&'a str>,
-) -> Result<Findings, Fault>
-    ensures { IfOk result (λ f. ¬ (f.checked ≡ Checked.Faulty) → AreWideAccepted (bytes_in sources.now)) }
-{
-    let profile = Profile::Wide;
-    let about = About::of(named, root.unwrap_or(""));
-    let faults = check_wide(alloc, sources)?;
+    let faults = check(alloc, profile, sources)?;
     if !faults.is_empty() {
         return told(alloc, sources, &faults, About { profile, ..about });
     }
-    match stands_for(alloc, sources)? {
-        Some(meant) => package_findings(alloc, &[meant.as_bytes()], root, about),
-        None => package_findings(alloc, sources, root, about),
-    }
+    package_findings(alloc, profile, sources, root, about)
 }
 
 /// What is found in the package of sources without faults: that it hasn't the root, or else its warnings.
-fn package_findings(alloc: Global, sources: &[&[u8]], root: Option<&str>, about: About<'_>) -> Found
+fn package_findings(
+    alloc: Global,
+    profile: Profile,
+    sources: &[&[u8]],
+    root: Option<&str>,
+    about: About<'_>,
+) -> Found
     ensures { root.entry ≡ None → IfOk result (λ f. ¬ (f.checked ≡ Checked.Faulty)) }
 {
-    let package = accepted_package(alloc, sources)?;
+    let package = accepted_package(alloc, profile, sources)?;
     if root.is_some_and(|name| package.package().find(name).is_none()) {
         return told(alloc, sources, &[Fault::UnknownRoot], about);
     }
@@ -141,7 +125,7 @@ fn told(alloc: Global, sources: &[&[u8]], faults: &[Fault], about: About<'_>) ->
     let may_join = about.profile == Profile::Default && faults.iter().any(must_open);
     let mut wide = Vec::new(alloc);
     if may_join {
-        wide = check_wide(alloc, sources)?;
+        wide = check(alloc, Profile::Wide, sources)?;
     }
     // One that is none of what is put together: not one of its names, and not that it is too large or too high.
     let is_apart = |fault: &Fault| match fault {

@@ -8,11 +8,9 @@ mod schema;
 mod sources;
 mod warnings;
 
-pub use findings::{
-    Checked, Findings, schema_findings, source_findings, wide_findings, wide_schema_findings,
-};
+pub use findings::{Checked, Findings, schema_findings, source_findings, wide_schema_findings};
 pub use schema::check_schema;
-pub use sources::{check, check_wide};
+pub use sources::check;
 pub use warnings::{Warning, warned};
 
 /// The most faults that are told.

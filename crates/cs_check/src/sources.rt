@@ -1,15 +1,14 @@
 // The faults of sources: the first one as they are, and then those that mending one after another meets, by reading the sources again.
 ghost use Rattle.std.specs.Prelude.{◌≡◌, ◌≤◌, ◌↔◌, [], length, IfOk, IsOkUnless};
 ghost use Rattle.cs_tool.specs.Given.{bytes_in};
-ghost use Rattle.cs_check.specs.Told.{AreAccepted, AreWideAccepted, BeginsWithFirst, BeginsWithWideFirst, BeginsWith};
+ghost use Rattle.cs_check.specs.Told.{AreAccepted, BeginsWithFirst, BeginsWith};
 
 use crate::MOST_FAULTS;
 use crate::mends::{Draft, cut_cycle, mend_at, mended};
 use cs_grammar::Sort;
 use cs_place::Named;
 use cs_sources::{Made, Near, Source};
-use cs_tool::{Fault, accepted_package, slices_of};
-use cs_widen::{Profile, stands_for, widen_in};
+use cs_tool::{Fault, Profile, accepted_package, slices_of};
 use std::alloc::{AllocError, Global};
 use std::collections::BTreeSet;
 use std::slice;
@@ -17,34 +16,21 @@ use std::slice;
 /// How often sources are read at most.
 const MOST_READS: usize = 2 * MOST_FAULTS;
 
-/// The faults of sources, 50 at most. The first one is what the sources fail first, and each further one is what they fail first once
-/// those before it are mended, by their offsets in the sources as they are; these are in the order of the sources and of their places.
+/// The faults of sources in a profile, 50 at most. The first one is what the sources fail first, and each further one is what they fail first
+/// once those before it are mended, by their offsets in the sources as they are; these are in the order of the sources and of their places.
 ///
 /// A mend takes a label, an operand or a declaration out, so what else is wrong in it is told once its author has mended it. Names are
 /// also told where a source was mended until it spells a file, but for those that stand in what was taken out; structs that have to be
 /// opened, and recursion, where all sources spell files as they are.
-pub fn check(alloc: Global, sources: &[&[u8]]) -> Result<Vec<Fault>, Fault>
-    ensures first { IfOk result (λ faults. BeginsWithFirst (bytes_in sources.now) faults.items) }
-    ensures none { IfOk result (λ faults. (faults.items ≡ []) ↔ AreAccepted (bytes_in sources.now)) }
+pub fn check(alloc: Global, profile: Profile, sources: &[&[u8]]) -> Result<Vec<Fault>, Fault>
+    ensures first { IfOk result (λ faults. BeginsWithFirst profile (bytes_in sources.now) faults.items) }
+    ensures none { IfOk result (λ faults. (faults.items ≡ []) ↔ AreAccepted profile (bytes_in sources.now)) }
     ensures most { IfOk result (λ faults. length faults.items ≤ 50) }
     ensures memory { IsOkUnless result Fault.OutOfMemory }
 {
-    match accepted_package(alloc, sources) {
+    match accepted_package(alloc, profile, sources) {
         Ok(_) => Ok(Vec::new(alloc)),
-        Err(first) => Ok(faults_from(alloc, Profile::Default, sources, first)?),
-    }
-}
-
-/// The faults of sources in the wide profile, as those of [`check`].
-pub fn check_wide(alloc: Global, sources: &[&[u8]]) -> Result<Vec<Fault>, Fault>
-    ensures first { IfOk result (λ faults. BeginsWithWideFirst (bytes_in sources.now) faults.items) }
-    ensures none { IfOk result (λ faults. faults.items ≡ [] → AreWideAccepted (bytes_in sources.now)) }
-    ensures most { IfOk result (λ faults. length faults.items ≤ 50) }
-    ensures memory { IsOkUnless result Fault.OutOfMemory }
-{
-    match stands_for(alloc, sources) {
-        Ok(_) => Ok(Vec::new(alloc)),
-        Err(first) => Ok(faults_from(alloc, Profile::Wide, sources, first)?),
+        Err(first) => Ok(faults_from(alloc, profile, sources, first)?),
     }
 }
 
@@ -162,7 +148,7 @@ impl<'f, 'a> Told<'f, 'a> {
             texts.push(draft.mended(self.alloc)?)?;
         }
         let sources = slices_of(self.alloc, &texts)?;
-        match widen_in(self.alloc, self.profile, &sources).err() {
+        match accepted_package(self.alloc, self.profile, &sources).err() {
             Some(Fault::OutOfMemory) => Err(AllocError),
             fault => Ok(fault),
         }

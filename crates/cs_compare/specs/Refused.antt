@@ -1,5 +1,6 @@
 -- When two editions aren't compared: the old one's refusals come first, and the question's last.
 use Rattle.std.specs.Prelude.{ℕ, List, Option, Some, None}
+use Rattle.cs_grammar.specs.declared.profile.Profile.{Profile}
 use Rattle.cs_question.specs.declared.fault.QuestionFault.{QuestionFault}
 use Rattle.cs_question.specs.declared.fault.QuestionFault.TheVariants as question
 use Rattle.cs_tool.specs.CallRefusals.{ExportRefusal}
@@ -20,7 +21,7 @@ OfQuestion OutOfMemory = Unit {0}
 OfQuestion TooManyCases = Unit {0}
 OfQuestion _ = ⊥
 
-abbrev pub IsRefusal : List (List ℕ) → List ℕ → List (List ℕ) → List ℕ → Option Side → Fault → Type 0
-IsRefusal old old_root new new_root (Some Old) f = ExportRefusal old old_root f
-IsRefusal old old_root new new_root (Some New) f = IsReady old old_root × ExportRefusal new new_root f
-IsRefusal old old_root new new_root None f = IsReady old old_root × IsReady new new_root × OfQuestion f
+abbrev pub IsRefusal : Profile → List (List ℕ) → List ℕ → List (List ℕ) → List ℕ → Option Side → Fault → Type 0
+IsRefusal p old old_root new new_root (Some Old) f = ExportRefusal p old old_root f
+IsRefusal p old old_root new new_root (Some New) f = IsReady p old old_root × ExportRefusal p new new_root f
+IsRefusal p old old_root new new_root None f = IsReady p old old_root × IsReady p new new_root × OfQuestion f

@@ -14,7 +14,7 @@ use cs_guard::Guarded;
 use cs_instance::one_meaning;
 use cs_json::shown_text;
 use cs_question::{Budget, separating};
-use cs_tool::{Fault, read_root};
+use cs_tool::{Fault, Profile, read_root};
 use std::alloc::Global;
 
 /// What a comparison answers.
@@ -26,25 +26,27 @@ pub enum Comparison {
     Breaking(Vec<u8>),
 }
 
-/// Whether each document of the old sources' root is one of the new sources' root, each a definition named with its `#`.
+/// Whether each document of the old sources' root is one of the new sources' root, each a definition named with its `#`. Both are read in the
+/// profile.
 ///
 /// # Errors
-/// First what `export` refuses of the old sources and root, then of the new ones; then `TooManyCases`, where the question met a
+/// First what `export_in` refuses of the old sources and root, then of the new ones; then `TooManyCases`, where the question met a
 /// limit.
 pub fn compare(
     alloc: Global,
+    profile: Profile,
     old: &[&[u8]],
     old_root: &str,
     new: &[&[u8]],
     new_root: &str,
 ) -> Result<Comparison, CompareRefusal>
-    ensures answered { IfOk result (IsComparison (bytes_in old.now) old_root.now (bytes_in new.now) new_root.now) }
-    ensures refused { IfErr result (λ r. IsRefusal (bytes_in old.now) old_root.now (bytes_in new.now) new_root.now r.side r.fault) }
-    ensures only { IsReady (bytes_in old.now) old_root.now → IsReady (bytes_in new.now) new_root.now
+    ensures answered { IfOk result (IsComparison profile (bytes_in old.now) old_root.now (bytes_in new.now) new_root.now) }
+    ensures refused { IfErr result (λ r. IsRefusal profile (bytes_in old.now) old_root.now (bytes_in new.now) new_root.now r.side r.fault) }
+    ensures only { IsReady profile (bytes_in old.now) old_root.now → IsReady profile (bytes_in new.now) new_root.now
         → IfErr result (λ r. (r.fault ≡ Fault.OutOfMemory) ⊎ (r.fault ≡ Fault.TooManyCases)) }
 {
-    let before = read_side(alloc, Side::Old, old, old_root)?;
-    let after = read_side(alloc, Side::New, new, new_root)?;
+    let before = read_side(alloc, profile, Side::Old, old, old_root)?;
+    let after = read_side(alloc, profile, Side::New, new, new_root)?;
     one_meaning(&before);
     one_meaning(&after);
     let mut budget = Budget::new();
@@ -77,18 +79,19 @@ fn breaking(alloc: Global, doc: &Doc) -> Result<Comparison, CompareRefusal>
     }
 }
 
-/// The package of a side, where it declares the root.
+/// The package of a side in the profile, where it declares the root.
 fn read_side(
     alloc: Global,
+    profile: Profile,
     side: Side,
     sources: &[&[u8]],
     root: &str,
 ) -> Result<Guarded, CompareRefusal>
-    ensures found { IfOk result (λ g. (n : List ℕ) × DeclaresRoot (bytes_in sources.now) root.now g n) }
-    ensures refused { IfErr result (λ r. (r.side ≡ Some side) × ExportRefusal (bytes_in sources.now) root.now r.fault) }
-    ensures only { IsReady (bytes_in sources.now) root.now → IfErr result (λ r. r.fault ≡ Fault.OutOfMemory) }
+    ensures found { IfOk result (λ g. (n : List ℕ) × DeclaresRoot profile (bytes_in sources.now) root.now g n) }
+    ensures refused { IfErr result (λ r. (r.side ≡ Some side) × ExportRefusal profile (bytes_in sources.now) root.now r.fault) }
+    ensures only { IsReady profile (bytes_in sources.now) root.now → IfErr result (λ r. r.fault ≡ Fault.OutOfMemory) }
 {
-    match read_root(alloc, sources, root) {
+    match read_root(alloc, profile, sources, root) {
         Ok(package) => Ok(package),
         Err(fault) => Err(CompareRefusal::of(side, fault)),
     }

@@ -4,6 +4,4 @@ pub mod Deep
 pub mod Back
 -- the definitions of a schema document, looked up in the map that it is
 pub mod Found
--- sources that stand for themselves in a profile, and refusals before a write
-pub mod Profiles
 mod Samples

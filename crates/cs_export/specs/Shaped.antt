@@ -2,6 +2,7 @@
 use Rattle.std.specs.Prelude.{◌≡◌, ℕ, suc, ◌+◌, ◌≤◌, List, Bool, false, IsSome, if◌then◌else◌}
 use Rattle.serde_json.specs.Read.{max_depth}
 use Rattle.cs_document.specs.Document.{Document, IsDocument, depth}
+use Rattle.cs_grammar.specs.declared.profile.Profile.{Profile}
 use Rattle.cs_json.specs.Texts.{Reads, text_of}
 use Rattle.cs_package.specs.Environment.{Environment, bodies}
 use Rattle.cs_instance.specs.Instance.{Rule, definition, IsInstance}
@@ -60,13 +61,13 @@ pub record IsShaped (layout : Layout) (schema : Document) (text : List ℕ) : Ty
   pub written : IsTextOf (asked_for layout document) text
   pub bare : IsBare layout → text ≡ text_of schema
 
--- the text is the schema of the root definition that the sources spell, which is that of the translation; it is read as a schema that
--- admits exactly the documents that the definition admits, or as the components of that schema; and where nothing is asked for, it is
+-- the text is the schema of the root definition that the sources declare in the profile, which is that of the translation; it is read as a schema
+-- that admits exactly the documents that the definition admits, or as the components of that schema; and where nothing is asked for, it is
 -- the text of the export itself
-pub record IsRootSchema (sources : List (List ℕ)) (root : List ℕ) (layout : Layout) (text : List ℕ) : Type 0 where
+pub record IsRootSchema (p : Profile) (sources : List (List ℕ)) (root : List ℕ) (layout : Layout) (text : List ℕ) : Type 0 where
   pub environment : Environment
   pub name : List ℕ
-  pub declares : DeclaresRoot sources root environment name
+  pub declares : DeclaresRoot p sources root environment name
   pub schema : SchemaValue
   pub compiled : Compiles environment name schema
   pub translated : IsTranslation environment name (document_of schema)
@@ -74,15 +75,15 @@ pub record IsRootSchema (sources : List (List ℕ)) (root : List ℕ) (layout : 
   pub one_validity : validity.OneMeaning (document_of schema)
   pub shaped : IsShaped layout (document_of schema) text
   pub read : Reads text (asked_for layout shaped.document)
-  pub bare : IsBare layout → IsExport sources root text
+  pub bare : IsBare layout → IsExport p sources root text
   pub admits : (V : Document → Document → Bool) (I : Rule → Document → Bool) → IsValidity shaped.document V → IsInstance environment I
       → (x : Document) → IsDocument x → V shaped.document x ≡ I (definition name) x
 
--- the text is the schemas of all definitions that the sources spell, and is read as these, or as their components; a reference to one of
+-- the text is the schemas of all definitions that the sources declare in the profile, and is read as these, or as their components; a reference to one of
 -- these schemas validates exactly the instances of its definition
-pub record ArePackageSchemas (sources : List (List ℕ)) (layout : Layout) (text : List ℕ) : Type 0 where
+pub record ArePackageSchemas (p : Profile) (sources : List (List ℕ)) (layout : Layout) (text : List ℕ) : Type 0 where
   pub environment : Environment
-  pub accepted : IsAccepted sources environment
+  pub accepted : IsAccepted p sources environment
   pub schema : SchemaValue
   pub compiled : CompilesAll environment schema
   pub one_instance : instance.OneMeaning environment

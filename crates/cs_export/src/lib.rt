@@ -8,7 +8,7 @@ mod layout;
 mod shaped;
 mod written;
 
-pub use cs_widen::Profile;
+pub use cs_tool::Profile;
 pub use exports::{export_all, export_all_in, export_root, export_root_in};
 pub use layout::Layout;
 pub use written::{write_all, write_all_in, write_root, write_root_in};

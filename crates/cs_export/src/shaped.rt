@@ -18,8 +18,7 @@ use cs_describe::{Notes, described, with_defaults};
 use cs_document::Doc;
 use cs_json::{write_doc, write_pretty};
 use cs_schema::{SchemaDoc, to_doc};
-use cs_tool::Fault;
-use cs_widen::Profile;
+use cs_tool::{Fault, Profile};
 use std::alloc::Global;
 use std::collections::BTreeMap;
 

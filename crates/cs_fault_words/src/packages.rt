@@ -89,10 +89,8 @@ impl<'a> Told<'a> {
             }
             put_grouped(text, nodes, &[" nodes of expressions, and 50,000 may be"])?;
         } else {
-            // No definitions are counted where the source that is meant is too large.
-            let said =
-                "what the sources stand for has more than 50,000 nodes of expressions, or 1,048,576 bytes";
-            text.push_str(said)?;
+            // No definitions are counted where what is meant has too many nodes.
+            text.push_str("what the sources stand for has more than 50,000 nodes of expressions")?;
         }
         text.push_str(": split the package by roots")
     }

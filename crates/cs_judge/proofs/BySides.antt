@@ -6,6 +6,7 @@ use Rattle.cs_document.specs.declared.fault.DocFault.{DocFault}
 use Rattle.cs_instance.specs.Refusal.{AreManyPairs as AreManyByRoot}
 use Rattle.cs_instance.specs.declared.fault.InstanceFault.{InstanceFault}
 use Rattle.cs_instance.specs.declared.fault.InstanceFault.TheVariants as instance
+use Rattle.cs_grammar.specs.declared.profile.Profile.{Profile}
 use Rattle.cs_json.specs.Refusal as unread
 use Rattle.cs_package.specs.Environment.{Environment}
 use Rattle.cs_profile.specs.declared.keyword.Vocabulary.{Vocabulary}
@@ -46,14 +47,14 @@ no_validity s d (table.TooManyPairs i k) h = (refl, h)
 -- ---- what refuses on a side refuses the text
 
 module _ (text : List ℕ) (many : ManyPairs) (d : Document) (read : IsReadAs text d) where
-  pub root_refuses : (sources : List (List ℕ)) (root : List ℕ) (r : Bor (Environment × List ℕ)) → DeclaresRoot sources root r.now.0 r.now.1
-      → ((i k : ℕ) → RootHasManyPairs sources root text i k → many i k false) → (e : Fault) → Refuses (Root r) d e → RefusesText text many e
-  root_refuses sources root r declares pairs OutOfMemory h = tt
-  root_refuses sources root r declares pairs (TooManyPairs i k b) h = subst (many i k) (sym h.0) (pairs i k (record {
+  pub root_refuses : (p : Profile) (sources : List (List ℕ)) (root : List ℕ) (r : Bor (Environment × List ℕ)) → DeclaresRoot p sources root r.now.0 r.now.1
+      → ((i k : ℕ) → RootHasManyPairs p sources root text i k → many i k false) → (e : Fault) → Refuses (Root r) d e → RefusesText text many e
+  root_refuses p sources root r declares pairs OutOfMemory h = tt
+  root_refuses p sources root r declares pairs (TooManyPairs i k b) h = subst (many i k) (sym h.0) (pairs i k (record {
     input = record { environment = r.now.0; name = r.now.1; declares = declares; document = d; read = read.0 };
     many = h.1;
   }))
-  root_refuses sources root r declares pairs _ h = absurd h
+  root_refuses p sources root r declares pairs _ h = absurd h
 
   pub schema_refuses : {taken : Vocabulary} (schema_text : List ℕ) (s : Bor Document) → IsSchemaOf taken schema_text s.now
       → ((i k : ℕ) → SchemaHasManyPairs taken schema_text text i k → many i k true) → (e : Fault) → Refuses (Schema s) d e → RefusesText text many e
@@ -63,28 +64,28 @@ module _ (text : List ℕ) (many : ManyPairs) (d : Document) (read : IsReadAs te
 
 -- ---- by a root
 
-module _ (sources : List (List ℕ)) (root text : List ℕ) where
-  vet_refused : IsReady sources root → (e : Fault) → RefusesText text (ManyOfRoot sources root text) e → VetRefusal sources root text e
+module _ (p : Profile) (sources : List (List ℕ)) (root text : List ℕ) where
+  vet_refused : IsReady p sources root → (e : Fault) → RefusesText text (ManyOfRoot p sources root text) e → VetRefusal p sources root text e
   vet_refused ready OutOfMemory h = tt
   vet_refused ready (NotJson o c) h = (ready, h)
   vet_refused ready (NotInteger o false) h = (ready, h)
   vet_refused ready (TooManyPairs i r false) h = h
   vet_refused ready _ h = absurd h
 
-  vet_alone : IsReadyToVet sources root text → (e : Fault) → RefusesText text (ManyOfRoot sources root text) e → e ≡ OutOfMemory
-  vet_alone ready = memory_alone text _ ready.input.document ready.input.read (few_of_vet sources root text ready)
+  vet_alone : IsReadyToVet p sources root text → (e : Fault) → RefusesText text (ManyOfRoot p sources root text) e → e ≡ OutOfMemory
+  vet_alone ready = memory_alone text _ ready.input.document ready.input.read (few_of_vet p sources root text ready)
 
-  not_vetted : (E : Environment) (n : List ℕ) → DeclaresRoot sources root E n → (e : Fault) → RefusesText text (ManyOfRoot sources root text) e → IsOf (vet sources root text) (Err e)
+  not_vetted : (E : Environment) (n : List ℕ) → DeclaresRoot p sources root E n → (e : Fault) → RefusesText text (ManyOfRoot p sources root text) e → IsOf (vet p sources root text) (Err e)
   not_vetted E n declares e h = record { found = tt; refused = vet_refused (_, _, declares) e h; only = λ ready. vet_alone ready e h }
 
-  pub vet_unread : (E : Environment) (n : List ℕ) → DeclaresRoot sources root E n → (e : DocFault) → unread.IsRefusal e text → IsOf (vet sources root text) (Err (of_document e))
-  vet_unread E n declares e h = not_vetted E n declares (of_document e) (by_text text (ManyOfRoot sources root text) e h)
+  pub vet_unread : (E : Environment) (n : List ℕ) → DeclaresRoot p sources root E n → (e : DocFault) → unread.IsRefusal e text → IsOf (vet p sources root text) (Err (of_document e))
+  vet_unread E n declares e h = not_vetted E n declares (of_document e) (by_text text (ManyOfRoot p sources root text) e h)
 
-  pub vetted : (r : Bor (Environment × List ℕ)) → DeclaresRoot sources root r.now.0 r.now.1 → (d : Document) → IsReadAs text d → (result : Result Bool Fault) → IsVerdict (Root r) d result (λ b. b) → IsOf (vet sources root text) result
+  pub vetted : (r : Bor (Environment × List ℕ)) → DeclaresRoot p sources root r.now.0 r.now.1 → (d : Document) → IsReadAs text d → (result : Result Bool Fault) → IsVerdict (Root r) d result (λ b. b) → IsOf (vet p sources root text) result
   vetted r declares d read (Ok b) v =
       let j = v.found in
-      record { found = (verdict sources root text _ _ d b declares read.0 read.1 j.one_meaning j.answer j.within, refl); refused = tt; only = λ ready. tt }
-  vetted r declares d read (Err e) v = not_vetted _ _ declares e (root_refuses text (ManyOfRoot sources root text) d read sources root r declares (λ i k many. many) e v.refused)
+      record { found = (verdict p sources root text _ _ d b declares read.0 read.1 j.one_meaning j.answer j.within, refl); refused = tt; only = λ ready. tt }
+  vetted r declares d read (Err e) v = not_vetted _ _ declares e (root_refuses text (ManyOfRoot p sources root text) d read p sources root r declares (λ i k many. many) e v.refused)
 
 -- ---- by a schema
 
@@ -113,8 +114,8 @@ module _ (v : Vocabulary) (s t : List ℕ) where
 
 -- ---- by both
 
-module _ (sources : List (List ℕ)) (root text : List ℕ) where
-  agree_refused : IsReady sources root → (e : Fault) → RefusesText text (ManyOfBoth sources root text) e → AgreeRefusal sources root text e
+module _ (p : Profile) (sources : List (List ℕ)) (root text : List ℕ) where
+  agree_refused : IsReady p sources root → (e : Fault) → RefusesText text (ManyOfBoth p sources root text) e → AgreeRefusal p sources root text e
   agree_refused ready OutOfMemory h = tt
   agree_refused ready (NotJson o c) h = (ready, h)
   agree_refused ready (NotInteger o false) h = (ready, h)
@@ -122,43 +123,43 @@ module _ (sources : List (List ℕ)) (root text : List ℕ) where
   agree_refused ready (TooManyPairs i r true) h = (ready, h)
   agree_refused ready _ h = absurd h
 
-  agree_alone : IsReadyToAgree sources root text → (e : Fault) → RefusesText text (ManyOfBoth sources root text) e → e ≡ OutOfMemory
-  agree_alone ready = memory_alone text _ ready.vetted.input.document ready.vetted.input.read (few_of_agree sources root text ready)
+  agree_alone : IsReadyToAgree p sources root text → (e : Fault) → RefusesText text (ManyOfBoth p sources root text) e → e ≡ OutOfMemory
+  agree_alone ready = memory_alone text _ ready.vetted.input.document ready.vetted.input.read (few_of_agree p sources root text ready)
 
-  by_export : {E : Environment} {n : List ℕ} {S : Document} (is : AreSidesOf sources root E n S) (i r : ℕ) → SchemaHasManyPairs vocabularies.Default is.schema_text text i r → ExportHasManyPairs sources root text i r
+  by_export : {E : Environment} {n : List ℕ} {S : Document} (is : AreSidesOf p sources root E n S) (i r : ℕ) → SchemaHasManyPairs vocabularies.Default is.schema_text text i r → ExportHasManyPairs p sources root text i r
   by_export is i r many = record { schema_text = is.schema_text; exported = is.exported; translated = is.translated; many = many }
 
-  not_agreed : (E : Environment) (n : List ℕ) → DeclaresRoot sources root E n → (e : Fault) → RefusesText text (ManyOfBoth sources root text) e → IsOf (agree sources root text) (Err e)
+  not_agreed : (E : Environment) (n : List ℕ) → DeclaresRoot p sources root E n → (e : Fault) → RefusesText text (ManyOfBoth p sources root text) e → IsOf (agree p sources root text) (Err e)
   not_agreed E n declares e h = record { found = tt; refused = agree_refused (_, _, declares) e h; only = λ ready. agree_alone ready e h }
 
-  pub agree_unread : (E : Environment) (n : List ℕ) → DeclaresRoot sources root E n → (e : DocFault) → unread.IsRefusal e text → IsOf (agree sources root text) (Err (of_document e))
-  agree_unread E n declares e h = not_agreed E n declares (of_document e) (by_text text (ManyOfBoth sources root text) e h)
+  pub agree_unread : (E : Environment) (n : List ℕ) → DeclaresRoot p sources root E n → (e : DocFault) → unread.IsRefusal e text → IsOf (agree p sources root text) (Err (of_document e))
+  agree_unread E n declares e h = not_agreed E n declares (of_document e) (by_text text (ManyOfBoth p sources root text) e h)
 
-  module _ (r : Bor (Environment × List ℕ)) (s : Bor Document) (is : AreSidesOf sources root r.now.0 r.now.1 s.now) (d : Document) (read : IsReadAs text d) where
-    pub refused_by_root : (form : Option Form) (old new : List ℕ) (e : Fault) → Refuses (Root r) d e → IsCallVerdict (agree sources root text) form old new (Err e)
-    refused_by_root form old new e h = record { of = not_agreed _ _ is.declares e (root_refuses text (ManyOfBoth sources root text) d read sources root r is.declares (λ i k many. many) e h); told = tt }
+  module _ (r : Bor (Environment × List ℕ)) (s : Bor Document) (is : AreSidesOf p sources root r.now.0 r.now.1 s.now) (d : Document) (read : IsReadAs text d) where
+    pub refused_by_root : (form : Option Form) (old new : List ℕ) (e : Fault) → Refuses (Root r) d e → IsCallVerdict (agree p sources root text) form old new (Err e)
+    refused_by_root form old new e h = record { of = not_agreed _ _ is.declares e (root_refuses text (ManyOfBoth p sources root text) d read p sources root r is.declares (λ i k many. many) e h); told = tt }
 
-    pub refused_by_schema : (form : Option Form) (old new : List ℕ) (e : Fault) → Refuses (Schema s) d e → IsCallVerdict (agree sources root text) form old new (Err e)
-    refused_by_schema form old new e h = record { of = not_agreed _ _ is.declares e (schema_refuses text (ManyOfBoth sources root text) d read is.schema_text s is.read (by_export is) e h); told = tt }
+    pub refused_by_schema : (form : Option Form) (old new : List ℕ) (e : Fault) → Refuses (Schema s) d e → IsCallVerdict (agree p sources root text) form old new (Err e)
+    refused_by_schema form old new e h = record { of = not_agreed _ _ is.declares e (schema_refuses text (ManyOfBoth p sources root text) d read is.schema_text s is.read (by_export is) e h); told = tt }
 
     -- both sides answer, and so the same
     pub same_truth : (a b : Bool) → Judges (Root r) d a → Judges (Schema s) d b → a ≡ b
     same_truth a b by_root by_schema =
-        let vetted = verdict sources root text _ _ d a is.declares read.0 read.1 by_root.one_meaning by_root.answer by_root.within in
+        let vetted = verdict p sources root text _ _ d a is.declares read.0 read.1 by_root.one_meaning by_root.answer by_root.within in
         let valid = validated is.schema_text text s.now d b is.read read.0 read.1 by_schema.one_meaning by_schema.within by_schema.answer in
-        vet-and-validate-agree sources root is.schema_text text a b is.exported vetted valid
+        vet-and-validate-agree p sources root is.schema_text text a b is.exported vetted valid
 
-    agreement : (a b : Bool) → Judges (Root r) d a → Judges (Schema s) d b → IsAgreement sources root text a
+    agreement : (a b : Bool) → Judges (Root r) d a → Judges (Schema s) d b → IsAgreement p sources root text a
     agreement a b by_root by_schema =
-        let vetted = verdict sources root text _ _ d a is.declares read.0 read.1 by_root.one_meaning by_root.answer by_root.within in
+        let vetted = verdict p sources root text _ _ d a is.declares read.0 read.1 by_root.one_meaning by_root.answer by_root.within in
         let valid = validated is.schema_text text s.now d b is.read read.0 read.1 by_schema.one_meaning by_schema.within by_schema.answer in
         let same = same_truth a b by_root by_schema in
         record { verdict = vetted; schema_text = is.schema_text; exported = is.exported; translated = is.translated; validated = subst (IsValidated vocabularies.Default is.schema_text text) (sym same) valid }
 
     -- and the report of one side tells it
     pub agreed : (form : Option Form) (old mid new : List ℕ) (a b truth : Bool) → Judges (Root r) d a → Judges (Schema s) d b
-        → ReportsAsked (root_form form) a old mid → ReportsAsked (schema_form form) b mid new → truth ≡ a → IsCallVerdict (agree sources root text) form old new (Ok truth)
+        → ReportsAsked (root_form form) a old mid → ReportsAsked (schema_form form) b mid new → truth ≡ a → IsCallVerdict (agree p sources root text) form old new (Ok truth)
     agreed form old mid new a b truth by_root by_schema from_root from_schema is_truth = record {
-      of = record { found = (subst (IsAgreement sources root text) (sym is_truth) (agreement a b by_root by_schema), refl); refused = tt; only = λ ready. tt };
+      of = record { found = (subst (IsAgreement p sources root text) (sym is_truth) (agreement a b by_root by_schema), refl); refused = tt; only = λ ready. tt };
       told = reports_same form _ _ _ _ (sym is_truth) (one_side form a b old mid new (same_truth a b by_root by_schema) from_root from_schema);
     }

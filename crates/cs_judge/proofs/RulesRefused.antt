@@ -16,6 +16,6 @@ not_of_rules Q (Err e) (inr is) = λ of. absurd (subst IsOfRules is of)
 
 -- memory may run out in every call
 pub memory_refuses : (rules : Rules) (text : List ℕ) → IsCallRefusal (call_on rules text) OutOfMemory
-memory_refuses (Root sources root) text = tt
+memory_refuses (Root p sources root) text = tt
 memory_refuses (Schema taken schema) text = tt
-memory_refuses (Both sources root) text = tt
+memory_refuses (Both p sources root) text = tt

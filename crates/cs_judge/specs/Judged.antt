@@ -10,15 +10,15 @@ use Rattle.cs_tool.specs.declared.fault.Fault.TheVariants.{OutOfMemory}
 
 -- the call that judges the text
 abbrev pub call_on : Rules → List ℕ → Call
-call_on (Root sources root) text = vet (map (λ s. s.items) sources.items) (string_bytes root) text
+call_on (Root p sources root) text = vet p (map (λ s. s.items) sources.items) (string_bytes root) text
 call_on (Schema taken schema) text = validate taken schema.items text
-call_on (Both sources root) text = agree (map (λ s. s.items) sources.items) (string_bytes root) text
+call_on (Both p sources root) text = agree p (map (λ s. s.items) sources.items) (string_bytes root) text
 
 -- the rules are read, unless memory runs out
 abbrev pub AreReadable : Rules → Type 0
-AreReadable (Root sources root) = IsReady (map (λ s. s.items) sources.items) (string_bytes root)
+AreReadable (Root p sources root) = IsReady p (map (λ s. s.items) sources.items) (string_bytes root)
 AreReadable (Schema taken schema) = IsSchemaText taken schema.items
-AreReadable (Both sources root) = IsReady (map (λ s. s.items) sources.items) (string_bytes root)
+AreReadable (Both p sources root) = IsReady p (map (λ s. s.items) sources.items) (string_bytes root)
 
 -- the result is that of the call
 pub record IsOf (call : Call) (result : Result Bool Fault) : Type 0 where

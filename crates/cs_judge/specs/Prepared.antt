@@ -11,13 +11,13 @@ use Rattle.cs_judge.specs.declared.verdict.NumberedRules.{NumberedRules}
 use Rattle.cs_judge.specs.declared.verdict.NumberedRules.TheVariants as numbered
 
 abbrev pub IsReadOf : Rules → ReadRules → Type 0
-IsReadOf (rules.Root sources root) (read.Root g r) = (r.now ≡ string_bytes root) × ((n : List ℕ) × DeclaresRoot (map (λ s. s.items) sources.items) (string_bytes root) g n)
+IsReadOf (rules.Root p sources root) (read.Root g r) = (r.now ≡ string_bytes root) × ((n : List ℕ) × DeclaresRoot p (map (λ s. s.items) sources.items) (string_bytes root) g n)
 IsReadOf (rules.Schema taken schema) (read.Schema s) = IsSchemaOf taken schema.items (document_of s)
-IsReadOf (rules.Both sources root) (read.Both g r s) = (r.now ≡ string_bytes root) × ((n : List ℕ) × AreSidesOf (map (λ s. s.items) sources.items) (string_bytes root) g n (document_of s))
+IsReadOf (rules.Both p sources root) (read.Both g r s) = (r.now ≡ string_bytes root) × ((n : List ℕ) × AreSidesOf p (map (λ s. s.items) sources.items) (string_bytes root) g n (document_of s))
 IsReadOf _ _ = ⊥
 
 abbrev pub AreNumbersOf : Rules → NumberedRules → Type 0
-AreNumbersOf (rules.Root sources root) (numbered.Root r) = DeclaresRoot (map (λ s. s.items) sources.items) (string_bytes root) r.0 r.1
+AreNumbersOf (rules.Root p sources root) (numbered.Root r) = DeclaresRoot p (map (λ s. s.items) sources.items) (string_bytes root) r.0 r.1
 AreNumbersOf (rules.Schema taken schema) (numbered.Schema s) = IsSchemaOf taken schema.items s
-AreNumbersOf (rules.Both sources root) (numbered.Both r s) = AreSidesOf (map (λ s. s.items) sources.items) (string_bytes root) r.0 r.1 s
+AreNumbersOf (rules.Both p sources root) (numbered.Both r s) = AreSidesOf p (map (λ s. s.items) sources.items) (string_bytes root) r.0 r.1 s
 AreNumbersOf _ _ = ⊥

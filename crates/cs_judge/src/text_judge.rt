@@ -108,15 +108,24 @@ pub fn prepare<'a>(alloc: Global, rules: &'a Rules) -> Result<Prepared<'a>, Faul
     ensures only { AreReadable rules.now → IsOkUnless result Fault.OutOfMemory }
 {
     let read = match rules {
-        Rules::Root { sources, root } => {
-            let guarded = read_root(alloc, &slices_of(alloc, sources)?, root)?;
+        Rules::Root {
+            profile,
+            sources,
+            root,
+        } => {
+            let guarded = read_root(alloc, *profile, &slices_of(alloc, sources)?, root)?;
             ReadRules::Root(guarded, root)
         }
         Rules::Schema { vocabulary, schema } => {
             ReadRules::Schema(read_schema_text(alloc, *vocabulary, schema)?)
         }
-        Rules::Both { sources, root } => {
-            let (guarded, schema) = read_both(alloc, &slices_of(alloc, sources)?, root)?;
+        Rules::Both {
+            profile,
+            sources,
+            root,
+        } => {
+            let sources = slices_of(alloc, sources)?;
+            let (guarded, schema) = read_both(alloc, *profile, &sources, root)?;
             ReadRules::Both(guarded, root, schema)
         }
     };

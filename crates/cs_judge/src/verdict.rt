@@ -1,6 +1,7 @@
 // The verdict on a document by numbered rules, with a report of the reasons that are asked for.
 ghost use Rattle.std.specs.Prelude.{◌≡◌, ℕ, List, OnOk, IfOk};
 ghost use Rattle.cs_flat.specs.Listed.{document_in};
+ghost use Rattle.cs_grammar.specs.declared.profile.Profile.{Profile};
 ghost use Rattle.cs_judge.specs.Explained.{asked_form, root_form, schema_form, ReportsAsked};
 ghost use Rattle.cs_judge.specs.Judged.{call_on};
 ghost use Rattle.cs_judge.specs.Prepared.{AreNumbersOf};
@@ -109,9 +110,10 @@ fn both_verdicts(
     table: &mut Verdicts,
     report: &mut Vec<u8>,
 ) -> Judged
-    ensures { (sources : List (List ℕ)) (root text : List ℕ) → AreSidesOf sources root root_side.now.0 root_side.now.1 schema_side.now
+    ensures { (profile : Profile) (sources : List (List ℕ)) (root text : List ℕ)
+        → AreSidesOf profile sources root root_side.now.0 root_side.now.1 schema_side.now
         → IsReadAs text (document_in case.entry.flat.now)
-        → IsCallVerdict (agree sources root text) (asked_form case.entry.why) report.old.items report.new.items result }
+        → IsCallVerdict (agree profile sources root text) (asked_form case.entry.why) report.old.items report.new.items result }
 {
     let (why, of_schema) = asked_of_sides(case.why);
     let is_instance = Side::Root(root_side).verdict(Case { why, ..case }, table, report)?;

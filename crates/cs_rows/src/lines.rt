@@ -2,7 +2,7 @@
 use crate::fakes::{Input, Output};
 use crate::tables::{Row, cell, check};
 use cs_judge::{LinesOutcome, Prepared, prepare, run_lines};
-use cs_tool::{Fault, Rules, Vocabulary};
+use cs_tool::{Fault, Profile, Rules, Vocabulary};
 use std::alloc::{AllocError, Global};
 use std::io::{ErrorKind, sink};
 use std::test::Fail;
@@ -40,11 +40,20 @@ fn rules_of(alloc: Global, call: &str, text: &str) -> Result<Rules, AllocError> 
             schema: text,
         });
     }
+    let profile = Profile::Default;
     let sources = vec![in alloc; text]?;
     let root = String::from_str(alloc, "#P")?;
     Ok(match call {
-        "vet" => Rules::Root { sources, root },
-        _ => Rules::Both { sources, root },
+        "vet" => Rules::Root {
+            profile,
+            sources,
+            root,
+        },
+        _ => Rules::Both {
+            profile,
+            sources,
+            root,
+        },
     })
 }
 

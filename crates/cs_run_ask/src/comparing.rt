@@ -21,9 +21,8 @@ type Compared<T> = Result<T, CompareRefusal>;
 /// An edition of a definition.
 #[derive(Clone, Copy)]
 struct Edition<'a> {
-    /// What is judged by: the sources, or what they stand for.
     rules: &'a Rules,
-    /// The sources as they were given, with their names.
+    /// The sources with their names.
     named: &'a [Named<'a>],
     root: &'a str,
 }
@@ -31,12 +30,6 @@ struct Edition<'a> {
 impl<'a> Edition<'a> {
     fn of(rules: &'a Rules, named: &'a [Named<'a>], root: &'a str) -> Edition<'a> {
         Edition { rules, named, root }
-    }
-
-    /// The same by other rules, where there are some.
-    fn by(self, meant: Option<&'a Rules>) -> Edition<'a> {
-        let rules = meant.unwrap_or(self.rules);
-        Edition { rules, ..self }
     }
 }
 
@@ -62,7 +55,12 @@ fn rules_of(call: Call<'_, '_>, side: Side) -> Compared<Rules> {
     let root = String::from_str(call.alloc(), root_of(call, side))?;
     let of_side = |fault| CompareRefusal::of(side, fault);
     let sources = read_sources(call.rt, call.paths(word_of(side))).map_err(of_side)?;
-    Ok(Rules::Root { sources, root })
+    let profile = call.profile();
+    Ok(Rules::Root {
+        profile,
+        sources,
+        root,
+    })
 }
 
 /// The word of a side, for its files and before what is told of it.
@@ -92,7 +90,7 @@ fn compare_rules(call: Call<'_, '_>, old: &Rules, new: &Rules) -> Status {
 
 /// The status of `compare` by the editions of both sides, whose refusals are told by them.
 fn compare_editions<'a>(call: Call<'_, '_>, before: Edition<'a>, after: Edition<'a>) -> Status {
-    let CompareRefusal { side, fault } = match write_meant(call, before, after) {
+    let CompareRefusal { side, fault } = match write_answers(call, before, after) {
         Ok(is_compatible) => return Ok(if is_compatible { 0 } else { BREAKING }),
         Err(refusal) => refusal,
     };
@@ -102,15 +100,6 @@ fn compare_editions<'a>(call: Call<'_, '_>, before: Edition<'a>, after: Edition<
         None => About::of(&[], ""),
     };
     tell_refusal(call, side.map(word_of), fault, about)
-}
-
-/// Writes the answers for what the editions stand for in the profile that the words ask for.
-fn write_meant(call: Call<'_, '_>, before: Edition<'_>, after: Edition<'_>) -> Compared<bool> {
-    let of_old = |fault| CompareRefusal::of(Side::Old, fault);
-    let of_new = |fault| CompareRefusal::of(Side::New, fault);
-    let old = call.meant_rules(before.rules).map_err(of_old)?;
-    let new = call.meant_rules(after.rules).map_err(of_new)?;
-    write_answers(call, before.by(old.as_ref()), after.by(new.as_ref()))
 }
 
 /// Writes whether old documents are new ones, and where both directions are asked for whether new documents are old ones.
@@ -127,10 +116,10 @@ fn write_answers(call: Call<'_, '_>, before: Edition<'_>, after: Edition<'_>) ->
 
 /// Whether each document of an edition is one of the other edition, and where it is asked for why one isn't.
 fn told_answer(call: Call<'_, '_>, from: Edition<'_>, to: Edition<'_>) -> Compared<Told> {
-    let alloc = call.alloc();
+    let (alloc, profile) = (call.alloc(), call.profile());
     let admitting = slices_of(alloc, sources_of(from.rules))?;
     let refusing = slices_of(alloc, sources_of(to.rules))?;
-    let comparison = compare_sources(alloc, &admitting, from.root, &refusing, to.root)?;
+    let comparison = compare_sources(alloc, profile, &admitting, from.root, &refusing, to.root)?;
     let reasons = match (&comparison, call.reasons()) {
         (Comparison::Breaking(shown), Some(asked)) => reasons_of(call, shown, to, asked.form)?,
         _ => Vec::new(alloc),

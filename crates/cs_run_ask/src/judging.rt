@@ -44,11 +44,20 @@ fn rules_of(call: Call<'_, '_>, command: &str) -> Result<Rules, Fault> {
         let vocabulary = vocabulary_of(call.profile());
         return Ok(Rules::Schema { vocabulary, schema });
     }
+    let profile = call.profile();
     let root = String::from_str(call.alloc(), call.word("root"))?;
     let sources = given_sources(call)?;
     Ok(match command {
-        "agree" => Rules::Both { sources, root },
-        _ => Rules::Root { sources, root },
+        "agree" => Rules::Both {
+            profile,
+            sources,
+            root,
+        },
+        _ => Rules::Root {
+            profile,
+            sources,
+            root,
+        },
     })
 }
 

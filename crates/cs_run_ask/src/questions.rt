@@ -1,18 +1,14 @@
 // The commands that judge no document and compare nothing. `check` and `explain` speak of sources and refusals alone.
-use cs_check::{
-    Checked, Findings, schema_findings, source_findings, wide_findings, wide_schema_findings,
-};
+use cs_check::{Checked, Findings, schema_findings, source_findings, wide_schema_findings};
 use cs_compare::write_lines;
 use cs_fault_words::{About, explained};
 use cs_listing::{put_listing, put_listing_json};
 use cs_place::Named;
 use cs_reason_words::Form;
-use cs_run_call::{
-    COMMAND_LINE, Call, Status, named_text, over_meant, over_sources, read_input, tell_refusal,
-};
+use cs_run_call::{COMMAND_LINE, Call, Status, named_text, over_sources, read_input, tell_refusal};
 use cs_samples::{QuestionFault, SampleTexts, Sampled, samples};
-use cs_tool::{Fault, accepted_package, read_root, write_text};
-use cs_widen::{Profile, widen, widen_in};
+use cs_tool::{Fault, Profile, accepted_package, read_root, write_text};
+use cs_widen::widen_in;
 use std::alloc::{AllocError, Global};
 use std::io::Write;
 
@@ -37,10 +33,7 @@ pub fn check(call: Call<'_, '_>) -> Status {
 /// The status after all that is found in the sources.
 fn check_sources(call: Call<'_, '_>, sources: &[&[u8]], named: &[Named<'_>]) -> Status {
     let root = call.words.get_str("root");
-    let findings = match call.profile() {
-        Profile::Default => source_findings(call.alloc(), sources, named, root)?,
-        Profile::Wide => wide_findings(call.alloc(), sources, named, root)?,
-    };
+    let findings = source_findings(call.alloc(), call.profile(), sources, named, root)?;
     write_findings(call, &findings, call.words.get_flag("strict"))
 }
 
@@ -75,15 +68,15 @@ pub fn explain(call: Call<'_, '_>) -> Status {
     call.print(text.as_bytes())
 }
 
-/// The status of `list`: a refusal is told as the words ask for it. Places are in the sources as they were read.
+/// The status of `list`: a refusal is told as the words ask for it.
 pub fn list(call: Call<'_, '_>) -> Status {
-    over_meant(call, |sources, named| write_listing(call, sources, named))
+    over_sources(call, |sources, named| write_listing(call, sources, named))
 }
 
 /// Writes the definitions of the package of these sources, in lines or as an object.
 fn write_listing(call: Call<'_, '_>, sources: &[&[u8]], named: &[Named<'_>]) -> Status {
     let alloc = call.alloc();
-    let package = accepted_package(alloc, sources)?;
+    let package = accepted_package(alloc, call.profile(), sources)?;
     let mut text = Vec::new(alloc);
     match call.told_form() {
         Some(Form::Object(_)) => put_listing_json(alloc, named, &package, &mut text)?,
@@ -95,24 +88,15 @@ fn write_listing(call: Call<'_, '_>, sources: &[&[u8]], named: &[Named<'_>]) -> 
 /// The status of `widen`: a refusal is told as the words ask for it.
 pub fn write_widened(call: Call<'_, '_>) -> Status {
     over_sources(call, |sources, _| {
-        let source = source_of(call.alloc(), call.profile(), sources)?;
+        let source = widen_in(call.alloc(), call.profile(), sources)?;
         call.print(source.as_bytes())
     })
-}
-
-/// The source that sources stand for in a profile. In the default one they are refused for their size as a package is, with how many
-/// definitions they have.
-fn source_of(alloc: Global, profile: Profile, sources: &[&[u8]]) -> Result<String, Fault> {
-    match widen_in(alloc, profile, sources) {
-        Err(Fault::TooLarge { .. }) if profile == Profile::Default => widen(alloc, sources),
-        answer => answer,
-    }
 }
 
 /// The status of `samples`: 0, or 1 where there is no document, and with `--strict` where something is left. A refusal is told where
 /// the words ask for it.
 pub fn write_samples(call: Call<'_, '_>) -> Status {
-    over_meant(call, |sources, _| write_found(call, sources))
+    over_sources(call, |sources, _| write_found(call, sources))
 }
 
 /// Writes the documents of the root of these sources, and says what is left. What can't be said changes no status.
@@ -137,7 +121,7 @@ fn found_in(call: Call<'_, '_>, sources: &[&[u8]], most: usize) -> Result<Sample
     } else {
         Sampled::Valid
     };
-    let package = read_root(call.alloc(), sources, root)?;
+    let package = read_root(call.alloc(), call.profile(), sources, root)?;
     samples(call.alloc(), &package, root, which, most).map_err(fault_of)
 }
 

@@ -9,13 +9,13 @@ use clap::ArgMatches;
 pub use command_line::{COMMAND_LINE, process_words, show};
 use cs_reason_words::{Form, Format};
 use cs_reasons::Telling;
-use cs_tool::{Fault, Rules, slices_of, write_text};
-use cs_widen::{Profile, schema_stands_for_in, stands_for_in};
+use cs_tool::{Fault, Profile, Rules, write_text};
+use cs_widen::schema_stands_for_in;
 pub use files::{
     STANDARD_INPUT, given_sources, named_sources, named_text, read_input, read_sources, sources_of,
 };
 use std::alloc::Global;
-pub use told::{about_unread, or_told, over_meant, over_sources, tell_refusal};
+pub use told::{about_unread, or_told, over_sources, tell_refusal};
 
 /// How many reasons are told at most where the words don't say.
 const MOST_REASONS: usize = 20;
@@ -86,29 +86,14 @@ impl<'m, 'w> Call<'m, 'w> {
         }
     }
 
-    /// The source that sources stand for in the profile that the words ask for; `None` where they stand for themselves.
-    pub fn meant_source(self, sources: &[&[u8]]) -> Result<Option<Vec<u8>>, Fault> {
-        Ok(stands_for_in(self.alloc(), self.profile(), sources)?.map(String::into_bytes))
-    }
-
-    /// The rules that the sources or the schema of rules stand for; `None` where they stand for themselves.
+    /// The rules with the schema that theirs stands for in the profile that the words ask for; `None` where they stand for themselves, as
+    /// those of sources do.
     pub fn meant_rules(self, rules: &Rules) -> Result<Option<Rules>, Fault> {
-        let alloc = self.alloc();
-        let (given, root) = match rules {
-            Rules::Schema { vocabulary, schema } => {
-                let vocabulary = *vocabulary;
-                let meant = schema_stands_for_in(alloc, self.profile(), schema)?;
-                return Ok(meant.map(|schema| Rules::Schema { vocabulary, schema }));
-            }
-            Rules::Root { sources, root } | Rules::Both { sources, root } => (sources, root),
-        };
-        let Some(meant) = self.meant_source(&slices_of(alloc, given)?)? else {
+        let Rules::Schema { vocabulary, schema } = rules else {
             return Ok(None);
         };
-        let (sources, root) = (vec![in alloc; meant]?, root.clone()?);
-        Ok(Some(match rules {
-            Rules::Both { .. } => Rules::Both { sources, root },
-            Rules::Root { .. } | Rules::Schema { .. } => Rules::Root { sources, root },
-        }))
+        let vocabulary = *vocabulary;
+        let meant = schema_stands_for_in(self.alloc(), self.profile(), schema)?;
+        Ok(meant.map(|schema| Rules::Schema { vocabulary, schema }))
     }
 }

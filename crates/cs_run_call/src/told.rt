@@ -4,8 +4,7 @@ use crate::{Call, Status};
 use cs_fault_words::{About, Profile, why_refused, write_refusal_json};
 use cs_place::Named;
 use cs_reason_words::Form;
-use cs_tool::{Fault, slices_of, write_fault, write_fault_json, write_text};
-use cs_widen::stands_for_in;
+use cs_tool::{Fault, accepted_package, slices_of, write_fault, write_fault_json, write_text};
 use std::alloc::{AllocError, Global};
 use std::io::Write;
 
@@ -25,20 +24,6 @@ pub fn over_sources<A: FnOnce(&[&[u8]], &[Named<'_>]) -> Status>(
     let texts = slices_of(call.alloc(), &sources)?;
     let about = About::of(&named, call.word("root"));
     or_told(call, about, answer(&texts, &named))
-}
-
-/// The same for what the sources stand for in the profile that the words ask for. Those that are named are as they were read.
-pub fn over_meant<A: FnOnce(&[&[u8]], &[Named<'_>]) -> Status>(
-    call: Call<'_, '_>,
-    answer: A,
-) -> Status
-    requires { A.IsAlwaysCallable answer }
-{
-    over_sources(call, |sources, named| match call.meant_source(sources) {
-        Ok(Some(meant)) => answer(&[&meant], named),
-        Ok(None) => answer(sources, named),
-        Err(fault) => Err(fault),
-    })
 }
 
 /// The status of an answer; a refusal is told where a form is asked for.
@@ -184,7 +169,7 @@ fn is_joined(alloc: Global, fault: &Fault, about: About<'_>) -> Result<bool, All
         texts.push(source.text)?;
     }
     let place = (*file, *offset);
-    match &stands_for_in(alloc, Profile::Wide, &texts) {
+    match &accepted_package(alloc, Profile::Wide, &texts) {
         Err(Fault::OutOfMemory) => Err(AllocError),
         Err(Fault::NotOpened { file, offset }) => Ok(place < (*file, *offset)),
         Ok(_) | Err(Fault::Cycle { .. } | Fault::ChainTooLong { .. }) => Ok(true),

@@ -5,6 +5,7 @@ use Rattle.std.specs.Str.{chars, is_utf8}
 use Rattle.std.proofs.lemmas.Str.{is_utf8-from_IsUtf8}
 use Rattle.cs_grammar.specs.declared.ast.FieldMark.TheVariants.{Every}
 use Rattle.cs_grammar.specs.declared.line.LineState.TheVariants.{Plain, WantsComma}
+use Rattle.cs_grammar.specs.declared.profile.Profile.TheVariants as profiles
 use Rattle.cs_grammar.specs.declared.token.Sort.TheVariants as kinds
 use Rattle.cs_grammar.specs.Cut.{Lexeme, lexeme, IsCut, blank, token, finish}
 use Rattle.cs_grammar.specs.Spells.{every_label}
@@ -24,8 +25,8 @@ use Rattle.cs_syntax.specs.FileReading.{definition_at, line_at, any_line_at, lin
 use Rattle.cs_syntax.proofs.EarlierNesting.{still_spelled}
 use Rattle.cs_syntax.proofs.EarlierSamples.{plain_source, plain_file, plain_was_spelled}
 use Rattle.cs_syntax.proofs.Soundness.{file_found}
-use Rattle.cs_tool.specs.Accepted.{AreTexts}
 use Rattle.cs_tool.specs.Earlier.{AreFilesEarlier, IsAcceptedEarlier}
+use Rattle.cs_tool.specs.Texts.{AreTexts}
 use Rattle.cs_tool.proofs.Declared.{one_files}
 
 -- ---- files: none, one for each source, one too few and one too many
@@ -130,5 +131,5 @@ every_key E h = by h.files h.spelled
 
     by : (fs : List FileTree) → ¬ AreFilesEarlier (every_source ∷ []) fs
     by [] s = s
-    by (f ∷ []) s = labelled (subst (AreFilesEarlier (every_source ∷ [])) (one_files (every_source ∷ []) (f ∷ []) (every_file ∷ []) (still_spelled every_source f s.0, tt) (every_spelled, tt)) s)
+    by (f ∷ []) s = labelled (subst (AreFilesEarlier (every_source ∷ [])) (one_files profiles.Default (every_source ∷ []) (f ∷ []) (every_file ∷ []) (still_spelled every_source f s.0, tt) (every_spelled, tt)) s)
     by (f ∷ g ∷ fs) s = s.1

@@ -1,6 +1,7 @@
 -- What the profile's first edition accepted is accepted, with the same environment and the same instances.
-use Rattle.std.proofs.Common.{◌≡◌, ℕ, Bool, List, [], ◌∷◌, sym, subst}
+use Rattle.std.proofs.Common.{◌≡◌, ℕ, Bool, List, [], ◌∷◌, refl, sym, subst}
 use Rattle.std.specs.List.{AllByRecursion}
+use Rattle.cs_grammar.specs.declared.profile.Profile.TheVariants as profiles
 use Rattle.cs_document.specs.Document.{Document}
 use Rattle.cs_grammar.specs.Labels.{IsLabelledFile}
 use Rattle.cs_grammar.specs.Tree.{FileTree}
@@ -15,8 +16,9 @@ use Rattle.cs_resolve.specs.Earlier.{no_refinements}
 use Rattle.cs_resolve.proofs.LabelledBodies.{environment_labelled}
 use Rattle.cs_resolve.proofs.OlderRule.{still_package}
 use Rattle.cs_syntax.proofs.EarlierNesting.{still_spelled}
-use Rattle.cs_tool.specs.Accepted.{AreFiles, IsAccepted}
+use Rattle.cs_tool.specs.Accepted.{IsAccepted}
 use Rattle.cs_tool.specs.Earlier.{AreFilesEarlier, IsAcceptedEarlier}
+use Rattle.cs_tool.specs.FilesIn.{AreFiles}
 
 still_files : (sources : List (List ℕ)) (fs : List FileTree) → AreFilesEarlier sources fs → AreFiles sources fs
 still_files [] [] h = tt
@@ -37,11 +39,13 @@ module _ (sources : List (List ℕ)) (E : Environment) (h : IsAcceptedEarlier so
   guarded : IsGuarded E
   guarded = mixedly-guarded E h.guarded
 
-  pub still_accepted : IsAccepted sources E
+  pub still_accepted : IsAccepted profiles.Default sources E
   still_accepted = record {
     texts = h.texts;
     files = h.files;
     spelled = still_files sources h.files h.spelled;
+    meant = h.files;
+    stand_for = refl;
     one_package = still_package h.files E h.one_package;
     guarded = guarded;
   }

@@ -1,5 +1,6 @@
 -- What refuses to judge a text, and the answers of the judges.
 use Rattle.std.proofs.Common.{◌≡◌, ℕ, ◌<◌, ◌*◌, Bool, true, false, List, Err, IsErrOf, Result, refl, sym, subst, subst₂, ◌∙◌}
+use Rattle.cs_grammar.specs.declared.profile.Profile.{Profile}
 use Rattle.cs_json.specs.Refusal as unread
 use Rattle.cs_json.specs.Texts.{Reads}
 use Rattle.cs_document.specs.Document.{Document, IsDocument}
@@ -45,9 +46,9 @@ Refuses text many (TooManyPairs items rules by_schema) = many items rules by_sch
 Refuses text many _ = ⊥
 
 -- by the root alone
-abbrev pub ManyOfRoot : List (List ℕ) → List ℕ → List ℕ → ManyPairs
-ManyOfRoot sources root text items rules false = RootHasManyPairs sources root text items rules
-ManyOfRoot sources root text items rules true = ⊥
+abbrev pub ManyOfRoot : Profile → List (List ℕ) → List ℕ → List ℕ → ManyPairs
+ManyOfRoot p sources root text items rules false = RootHasManyPairs p sources root text items rules
+ManyOfRoot p sources root text items rules true = ⊥
 
 -- by a schema alone
 abbrev pub ManyOfSchema : Vocabulary → List ℕ → List ℕ → ManyPairs
@@ -55,9 +56,9 @@ ManyOfSchema taken schema_text text items rules true = SchemaHasManyPairs taken 
 ManyOfSchema taken schema_text text items rules false = ⊥
 
 -- by the root, and by the exported schema
-abbrev pub ManyOfBoth : List (List ℕ) → List ℕ → List ℕ → ManyPairs
-ManyOfBoth sources root text items rules false = RootHasManyPairs sources root text items rules
-ManyOfBoth sources root text items rules true = ExportHasManyPairs sources root text items rules
+abbrev pub ManyOfBoth : Profile → List (List ℕ) → List ℕ → List ℕ → ManyPairs
+ManyOfBoth p sources root text items rules false = RootHasManyPairs p sources root text items rules
+ManyOfBoth p sources root text items rules true = ExportHasManyPairs p sources root text items rules
 
 -- nothing refuses a text that is read as a document and has few pairs
 pub memory_alone : (text : List ℕ) (many : ManyPairs) (d : Document) → Reads text d → ((i r : ℕ) (b : Bool) → ¬ (many i r b)) → (e : Fault) → Refuses text many e → e ≡ OutOfMemory
@@ -77,12 +78,12 @@ module _ (text : List ℕ) (many : ManyPairs) where
   by_text (doc.NotInteger o) h = h
 
   -- a root that is numbered isn't told as unknown
-  pub by_root : (sources : List (List ℕ)) (root : List ℕ) (E : Environment) (n : List ℕ) → DeclaresRoot sources root E n → (d : Document) → Reads text d
-      → ((i r : ℕ) → RootHasManyPairs sources root text i r → many i r false) → (e : InstanceFault) → (IsErrOf (unjudged e) instance.UnknownRoot → ⊥)
+  pub by_root : (p : Profile) (sources : List (List ℕ)) (root : List ℕ) (E : Environment) (n : List ℕ) → DeclaresRoot p sources root E n → (d : Document) → Reads text d
+      → ((i r : ℕ) → RootHasManyPairs p sources root text i r → many i r false) → (e : InstanceFault) → (IsErrOf (unjudged e) instance.UnknownRoot → ⊥)
       → ((i r : ℕ) → IsErrOf (unjudged e) (instance.TooManyPairs i r) → AreManyByRoot E n d i r) → Refuses text many (of_instance e)
-  by_root sources root E n declares d read pairs instance.OutOfMemory known pairs_of = tt
-  by_root sources root E n declares d read pairs instance.UnknownRoot known pairs_of = absurd (known refl)
-  by_root sources root E n declares d read pairs (instance.TooManyPairs i r) known pairs_of = pairs i r (record {
+  by_root p sources root E n declares d read pairs instance.OutOfMemory known pairs_of = tt
+  by_root p sources root E n declares d read pairs instance.UnknownRoot known pairs_of = absurd (known refl)
+  by_root p sources root E n declares d read pairs (instance.TooManyPairs i r) known pairs_of = pairs i r (record {
     input = record { environment = E; name = n; declares = declares; document = d; read = read };
     many = pairs_of i r refl;
   })
@@ -104,8 +105,8 @@ many_by_schema : (S d : Document) (i r : ℕ) → AreManyBySchema S d i r → Ha
 many_by_schema S d i r h = subst₂ (λ a b. most_pairs < a * b) h.items h.rules h.many
 
 -- what is ready has few pairs
-pub few_of_root : (sources : List (List ℕ)) (root text : List ℕ) → IsReadyToVet sources root text → (i r : ℕ) → ¬ (RootHasManyPairs sources root text i r)
-few_of_root sources root text ready i r many =
+pub few_of_root : (p : Profile) (sources : List (List ℕ)) (root text : List ℕ) → IsReadyToVet p sources root text → (i r : ℕ) → ¬ (RootHasManyPairs p sources root text i r)
+few_of_root p sources root text ready i r many =
     let x = many.input in
     let y = ready.input in
     let same_environment = one_environment x.declares.accepted y.declares.accepted in
@@ -123,23 +124,23 @@ few_of_schema schema_text text ready i r many =
     let same_document = one_document text x.document y.document x.read y.read in
     ready.within (subst₂ HasManyBySchema same_schema same_document (many_by_schema x.schema x.document i r many.many))
 
-pub few_of_vet : (sources : List (List ℕ)) (root text : List ℕ) → IsReadyToVet sources root text → (i r : ℕ) (b : Bool) → ¬ (ManyOfRoot sources root text i r b)
-few_of_vet sources root text ready i r false = few_of_root sources root text ready i r
-few_of_vet sources root text ready i r true = λ h. h
+pub few_of_vet : (p : Profile) (sources : List (List ℕ)) (root text : List ℕ) → IsReadyToVet p sources root text → (i r : ℕ) (b : Bool) → ¬ (ManyOfRoot p sources root text i r b)
+few_of_vet p sources root text ready i r false = few_of_root p sources root text ready i r
+few_of_vet p sources root text ready i r true = λ h. h
 
 pub few_of_validate : {taken : Vocabulary} (schema_text text : List ℕ) → IsReadyToValidate taken schema_text text → (i r : ℕ) (b : Bool) → ¬ (ManyOfSchema taken schema_text text i r b)
 few_of_validate schema_text text ready i r true = few_of_schema schema_text text ready i r
 few_of_validate schema_text text ready i r false = λ h. h
 
-pub few_of_agree : (sources : List (List ℕ)) (root text : List ℕ) → IsReadyToAgree sources root text → (i r : ℕ) (b : Bool) → ¬ (ManyOfBoth sources root text i r b)
-few_of_agree sources root text ready i r false = few_of_root sources root text ready.vetted i r
-few_of_agree sources root text ready i r true = ready.within i r
+pub few_of_agree : (p : Profile) (sources : List (List ℕ)) (root text : List ℕ) → IsReadyToAgree p sources root text → (i r : ℕ) (b : Bool) → ¬ (ManyOfBoth p sources root text i r b)
+few_of_agree p sources root text ready i r false = few_of_root p sources root text ready.vetted i r
+few_of_agree p sources root text ready i r true = ready.within i r
 
 -- ---- what is answered
 
-pub verdict : (sources : List (List ℕ)) (root text : List ℕ) (E : Environment) (n : List ℕ) (d : Document) (b : Bool) → DeclaresRoot sources root E n → Reads text d
-    → IsDocument d → OneInstance E → ((I : Rule → Document → Bool) → IsInstance E I → b ≡ I (definition n) d) → ¬ (HasManyByRoot E n d) → IsVerdict sources root text b
-verdict sources root text E n d b declares read proper one answer few = record {
+pub verdict : (p : Profile) (sources : List (List ℕ)) (root text : List ℕ) (E : Environment) (n : List ℕ) (d : Document) (b : Bool) → DeclaresRoot p sources root E n → Reads text d
+    → IsDocument d → OneInstance E → ((I : Rule → Document → Bool) → IsInstance E I → b ≡ I (definition n) d) → ¬ (HasManyByRoot E n d) → IsVerdict p sources root text b
+verdict p sources root text E n d b declares read proper one answer few = record {
   environment = E;
   name = n;
   declares = declares;

@@ -1,10 +1,12 @@
 -- What files of low bodies declare is low.
-use Rattle.std.proofs.Common.{◌≡◌, ℕ, ◌≤◌, Bool, true, false, cond, List, [], ◌∷◌, ◌++◌, map, Some, unwrap_or, max, refl, sym, ap₂, subst, arith}
+use Rattle.std.proofs.Common.{◌≡◌, ℕ, ◌≤◌, Bool, true, false, cond, List, [], ◌∷◌, map, Some, unwrap_or, max, refl, sym, ap₂, subst, arith}
 use Rattle.std.specs.List.{AllByRecursion, flat_map}
 use Rattle.std.specs.Prelude.{filter, nat_le}
 use Rattle.std.proofs.lemmas.Bool.Decides.{nat_tests}
 use Rattle.std.specs.Str.{bytes_eq}
 use Rattle.cs_grammar.specs.Height as tree
+use Rattle.cs_grammar.specs.Limits.{most_height}
+use Rattle.cs_grammar.specs.declared.profile.Profile.{Profile}
 use Rattle.cs_syntax.proofs.Heights.{no_height}
 use Rattle.cs_grammar.specs.Tree as T
 use Rattle.cs_grammar.specs.Tree.{Tree, Trees, Fields, End, DefinitionTree, body, defined_name, FileTree, definitions}
@@ -16,7 +18,8 @@ use Rattle.cs_package.specs.Height.{height, height_all, height_fields, height_re
 use Rattle.cs_resolve.specs.Predeclared.{names, among, predeclared}
 use Rattle.cs_resolve.specs.Refinement.{Refinements}
 use Rattle.cs_resolve.specs.Resolved.{read_opened, all_opened, narrowed_operands, resolved, resolved_all, resolved_fields, resolved_end, environment_of_files}
-use Rattle.cs_tool.specs.Accepted.{AreFiles, IsAccepted}
+use Rattle.cs_tool.specs.Accepted.{IsAccepted}
+use Rattle.cs_tool.proofs.Written.{meant_low}
 
 -- ---- what is resolved is no higher than it was
 
@@ -101,24 +104,15 @@ module _ (rs : Refinements) where
       by true rest e = let same : map (resolved rs) (declared.bodies_of m ds) ≡ es = cc in subst (λ fs. heights fs ≤ tree.height_definitions ds) same (low_bodies m ds)
       by false rest e = rest e
 
-both_low : (ds es : List DefinitionTree) → tree.height_definitions ds ≤ 28 → tree.height_definitions es ≤ 28 → tree.height_definitions (ds ++ es) ≤ 28
-both_low [] es h k = k
-both_low (d ∷ ds) es h k = let rest = both_low ds es (omega arith) k in omega (arith, rest)
-
-low_spelled : (ss : List (List ℕ)) (fs : List FileTree) → AreFiles ss fs → tree.height_definitions (flat_map definitions fs) ≤ 28
-low_spelled [] [] h = omega arith
-low_spelled [] (f ∷ fs) h = absurd h
-low_spelled (s ∷ ss) [] h = absurd h
-low_spelled (s ∷ ss) (f ∷ fs) h = let low = h.0.low in both_low (definitions f) (flat_map definitions fs) (omega arith) (low_spelled ss fs h.1)
-
--- what spelled files declare is low
-pub low_files : (rs : Refinements) (ss : List (List ℕ)) (fs : List FileTree) → AreFiles ss fs → IsLow (environment_of_files rs fs)
-low_files rs ss fs h n es is =
+-- what low files declare is low
+low_files : (rs : Refinements) (fs : List FileTree) → tree.height_definitions (flat_map definitions fs) ≤ most_height → IsLow (environment_of_files rs fs)
+low_files rs fs low n es is =
     let ds = flat_map definitions fs in
     let bound = low_named rs ds (declared.names ds) n es is in
-    let all = low_spelled ss fs h in
-    omega (arith, bound, all)
+    omega (arith, bound, low)
 
 -- what accepted sources declare is low
-pub low_accepted : (ss : List (List ℕ)) (E : Environment) → IsAccepted ss E → IsLow E
-low_accepted ss E a = subst IsLow (sym a.one_package.declares) (low_files a.one_package.refinements ss a.files a.spelled)
+pub low_accepted : (p : Profile) (ss : List (List ℕ)) (E : Environment) → IsAccepted p ss E → IsLow E
+low_accepted p ss E a =
+    let low = meant_low p ss a.files a.meant a.spelled a.stand_for in
+    subst IsLow (sym a.one_package.declares) (low_files a.one_package.refinements a.meant low)

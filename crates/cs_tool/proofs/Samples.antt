@@ -10,11 +10,11 @@ use Rattle.cs_compile.specs.declared.fault.CompileFault.TheVariants as compile
 use Rattle.cs_profile.specs.declared.fault.SchemaFault.TheVariants as schema
 use Rattle.cs_table.specs.declared.fault.TableFault.TheVariants as validate
 use Rattle.cs_document.specs.declared.fault.DocFault.TheVariants as doc
-use Rattle.cs_tool.specs.Accepted.{most_bytes, bytes_of}
 use Rattle.cs_tool.specs.Conversions.{of_syntax, of_resolve, of_guard, of_instance, of_compile, of_schema, of_validate, of_document, of_schema_text}
 use Rattle.cs_tool.specs.Refusals.{number_of, offset_of, file_of, status_of, fault_line}
 use Rattle.cs_tool.specs.Runs.{line_of}
 use Rattle.cs_tool.specs.Streams.{IsLonger, LosesAtMost, chunk_bytes}
+use Rattle.cs_tool.specs.Texts.{most_bytes, bytes_of}
 use Rattle.cs_tool.specs.declared.fault.Fault.{Fault}
 use Rattle.cs_tool.specs.declared.fault.Fault.TheVariants.{SourcesTooLong, NotUtf8, NoToken, Syntax, LeftOut, IntegerRange, TooHigh, PackageName, UnknownName, FieldReference, NotOpened, Cycle, UnknownRoot, TooLarge, OutOfMemory, ChainTooLong, TooManyCases, SchemaNotJson, Keyword, Shape, Reference, Loop, NotJson, NotInteger, TooManyPairs, InputTooLong, ReadFailed, WriteFailed}
 

@@ -1,6 +1,7 @@
 -- Which refusal of a call comes when; memory may run out at any time.
 use Rattle.std.specs.Prelude.{ℕ, true, false, List}
 use Rattle.cs_document.specs.Document.{Document}
+use Rattle.cs_grammar.specs.declared.profile.Profile.{Profile}
 use Rattle.cs_json.specs.Refusal as unread
 use Rattle.cs_json.specs.Texts.{Reads}
 use Rattle.cs_document.specs.declared.fault.DocFault.TheVariants as doc
@@ -14,17 +15,17 @@ use Rattle.cs_tool.specs.Ready.{IsReady, RootHasManyPairs, SchemaHasManyPairs, E
 use Rattle.cs_tool.specs.declared.fault.Fault.{Fault}
 use Rattle.cs_tool.specs.declared.fault.Fault.TheVariants.{OutOfMemory, SchemaNotJson, Keyword, Shape, Reference, Loop, NotJson, NotInteger, TooManyPairs}
 
-abbrev pub ExportRefusal : List (List ℕ) → List ℕ → Fault → Type 0
-ExportRefusal sources root OutOfMemory = Unit {0}
-ExportRefusal sources root f = First sources root f
+abbrev pub ExportRefusal : Profile → List (List ℕ) → List ℕ → Fault → Type 0
+ExportRefusal p sources root OutOfMemory = Unit {0}
+ExportRefusal p sources root f = First p sources root f
 
 -- the document's text comes after the sources and the root, and its pairs with the rules of the root come last
-abbrev pub VetRefusal : List (List ℕ) → List ℕ → List ℕ → Fault → Type 0
-VetRefusal sources root text OutOfMemory = Unit {0}
-VetRefusal sources root text (NotJson offset is_cut) = IsReady sources root × unread.IsRefusal (doc.NotJson offset is_cut) text
-VetRefusal sources root text (NotInteger offset false) = IsReady sources root × unread.IsRefusal (doc.NotInteger offset) text
-VetRefusal sources root text (TooManyPairs items rules false) = RootHasManyPairs sources root text items rules
-VetRefusal sources root text f = First sources root f
+abbrev pub VetRefusal : Profile → List (List ℕ) → List ℕ → List ℕ → Fault → Type 0
+VetRefusal p sources root text OutOfMemory = Unit {0}
+VetRefusal p sources root text (NotJson offset is_cut) = IsReady p sources root × unread.IsRefusal (doc.NotJson offset is_cut) text
+VetRefusal p sources root text (NotInteger offset false) = IsReady p sources root × unread.IsRefusal (doc.NotInteger offset) text
+VetRefusal p sources root text (TooManyPairs items rules false) = RootHasManyPairs p sources root text items rules
+VetRefusal p sources root text f = First p sources root f
 
 -- the schema's text is read as a document, which is no schema with only keywords that are taken, by this fault
 pub record IsNoSchema (taken : Vocabulary) (schema_text : List ℕ) (f : SchemaFault) : Type 0 where
@@ -54,10 +55,10 @@ ValidateRefusal taken schema_text text _ = ⊥
 
 -- the conditions of an export come first, then the document's text, and last its pairs with the rules of the root or of the
 -- exported schema
-abbrev pub AgreeRefusal : List (List ℕ) → List ℕ → List ℕ → Fault → Type 0
-AgreeRefusal sources root text OutOfMemory = Unit {0}
-AgreeRefusal sources root text (NotJson offset is_cut) = IsReady sources root × unread.IsRefusal (doc.NotJson offset is_cut) text
-AgreeRefusal sources root text (NotInteger offset false) = IsReady sources root × unread.IsRefusal (doc.NotInteger offset) text
-AgreeRefusal sources root text (TooManyPairs items rules false) = IsReady sources root × RootHasManyPairs sources root text items rules
-AgreeRefusal sources root text (TooManyPairs items rules true) = IsReady sources root × ExportHasManyPairs sources root text items rules
-AgreeRefusal sources root text f = First sources root f
+abbrev pub AgreeRefusal : Profile → List (List ℕ) → List ℕ → List ℕ → Fault → Type 0
+AgreeRefusal p sources root text OutOfMemory = Unit {0}
+AgreeRefusal p sources root text (NotJson offset is_cut) = IsReady p sources root × unread.IsRefusal (doc.NotJson offset is_cut) text
+AgreeRefusal p sources root text (NotInteger offset false) = IsReady p sources root × unread.IsRefusal (doc.NotInteger offset) text
+AgreeRefusal p sources root text (TooManyPairs items rules false) = IsReady p sources root × RootHasManyPairs p sources root text items rules
+AgreeRefusal p sources root text (TooManyPairs items rules true) = IsReady p sources root × ExportHasManyPairs p sources root text items rules
+AgreeRefusal p sources root text f = First p sources root f

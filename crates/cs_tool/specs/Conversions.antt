@@ -4,6 +4,16 @@ use Rattle.cs_tool.specs.declared.fault.Fault.{Fault}
 use Rattle.cs_tool.specs.declared.fault.Fault.TheVariants.{NoToken, Syntax, LeftOut, IntegerRange, TooHigh, PackageName, UnknownName, FieldReference, NotOpened, Cycle, UnknownRoot, TooLarge, OutOfMemory, ChainTooLong, SchemaNotJson, Keyword, Shape, Reference, Loop, NotJson, NotInteger, TooManyPairs}
 use Rattle.cs_grammar.specs.declared.fault.SyntaxFault.{SyntaxFault}
 use Rattle.cs_grammar.specs.declared.fault.SyntaxFault.TheVariants as syntax
+use Rattle.cs_names.specs.declared.fault.NameFault.{NameFault}
+use Rattle.cs_names.specs.declared.fault.NameFault.TheVariants as scopes
+use Rattle.cs_selectors.specs.declared.fault.SelectorFault.{SelectorFault}
+use Rattle.cs_selectors.specs.declared.fault.SelectorFault.TheVariants as selections
+use Rattle.cs_conditions.specs.declared.fault.ConditionFault.{ConditionFault}
+use Rattle.cs_conditions.specs.declared.fault.ConditionFault.TheVariants as choices
+use Rattle.cs_embeddings.specs.declared.fault.EmbeddingFault.{EmbeddingFault}
+use Rattle.cs_embeddings.specs.declared.fault.EmbeddingFault.TheVariants as joins
+use Rattle.cs_defaults.specs.declared.fault.DefaultFault.{DefaultFault}
+use Rattle.cs_defaults.specs.declared.fault.DefaultFault.TheVariants as marks
 use Rattle.cs_resolve.specs.declared.fault.ResolveFault.{ResolveFault}
 use Rattle.cs_resolve.specs.declared.fault.ResolveFault.TheVariants as resolve
 use Rattle.cs_guard.specs.declared.fault.GuardFault.{GuardFault}
@@ -27,6 +37,44 @@ of_syntax file (syntax.Syntax offset) = Syntax file offset
 of_syntax file (syntax.LeftOut offset) = LeftOut file offset
 of_syntax file (syntax.IntegerRange offset) = IntegerRange file offset
 of_syntax file syntax.TooHigh = TooHigh file
+
+-- a selector from what nothing declares is a form that is left out; a name that nothing declares is unknown, and so is one that is bound and not named; what
+-- a name stands for names no field around it; and a name that two literals declare isn't opened where files join literals
+abbrev pub of_name : NameFault → Fault
+of_name scopes.OutOfMemory = OutOfMemory
+of_name (scopes.LeftOut file offset) = LeftOut file offset
+of_name (scopes.UnknownName file offset) = UnknownName file offset
+of_name (scopes.NamesField file offset) = FieldReference file offset
+of_name (scopes.Redeclared file offset) = NotOpened file offset
+
+-- a selector that looks into what doesn't tell its fields is a form that is left out, one whose label nothing declares is unknown, and one whose label no
+-- regular field declares is one of a field that may be absent
+abbrev pub of_selector : SelectorFault → Fault
+of_selector selections.OutOfMemory = OutOfMemory
+of_selector (selections.LeftOut file offset) = LeftOut file offset
+of_selector (selections.UnknownName file offset) = UnknownName file offset
+of_selector (selections.NotRegular file offset) = FieldReference file offset
+of_selector selections.TooLarge = TooLarge 0
+
+-- a condition that isn't taken is a form that is left out, and a field that may be absent where it is asked about is one that a name depends on
+abbrev pub of_condition : ConditionFault → Fault
+of_condition choices.OutOfMemory = OutOfMemory
+of_condition (choices.LeftOut file offset) = LeftOut file offset
+of_condition (choices.MayBeAbsent file offset) = FieldReference file offset
+
+-- what can't be embedded, or would be opened by an embedding, is a literal that isn't opened
+abbrev pub of_embedding : EmbeddingFault → Fault
+of_embedding joins.OutOfMemory = OutOfMemory
+of_embedding (joins.UnknownName file offset) = UnknownName file offset
+of_embedding (joins.NoStruct file offset) = NotOpened file offset
+of_embedding (joins.Reopened file offset) = NotOpened file offset
+of_embedding (joins.TooHigh file) = TooHigh file
+of_embedding joins.TooLarge = TooLarge 0
+
+-- a mark that isn't taken is a form that is left out
+abbrev pub of_mark : DefaultFault → Fault
+of_mark marks.OutOfMemory = OutOfMemory
+of_mark (marks.Mark file offset) = LeftOut file offset
 
 abbrev pub of_resolve : ResolveFault → Fault
 of_resolve resolve.OutOfMemory = OutOfMemory

@@ -6,7 +6,7 @@ use Rattle.cs_guard.specs.Earlier.{IsGuardedEarlier}
 use Rattle.cs_package.specs.Environment.{Environment}
 use Rattle.cs_resolve.specs.Earlier.{IsPackageEarlier}
 use Rattle.cs_syntax.specs.Earlier.{IsSpelledEarlier}
-use Rattle.cs_tool.specs.Accepted.{AreTexts}
+use Rattle.cs_tool.specs.Texts.{AreTexts}
 
 -- each source was spelled by the file at its place
 abbrev pub AreFilesEarlier : List (List ℕ) → List FileTree → Type 0

@@ -1,10 +1,9 @@
--- The first condition that sources and a root fail (own rules).
+-- The first condition that sources and a root fail in a profile (own rules).
 use Rattle.std.specs.Prelude.{◌≡◌, ◌⊎◌, ℕ, ◌<◌, ◌≤◌, List, take, Some, slice_get, IsUtf8}
 use Rattle.std.specs.List.{AllByRecursion}
 use Rattle.cs_grammar.specs.Tree.{FileTree}
 use Rattle.cs_grammar.specs.declared.fault.SyntaxFault.{SyntaxFault}
 use Rattle.cs_grammar.specs.declared.profile.Profile.{Profile}
-use Rattle.cs_grammar.specs.declared.profile.Profile.TheVariants as profiles
 use Rattle.cs_syntax.specs.Refusal.{IsFileRefusalIn}
 use Rattle.cs_package.specs.Environment.{Environment, Names}
 use Rattle.cs_resolve.specs.Refusal as resolve
@@ -12,9 +11,12 @@ use Rattle.cs_resolve.specs.Resolved.{IsPackage}
 use Rattle.cs_resolve.specs.declared.fault.ResolveFault.{ResolveFault}
 use Rattle.cs_guard.specs.Cycles as guard
 use Rattle.cs_guard.specs.declared.fault.GuardFault.{GuardFault}
-use Rattle.cs_tool.specs.Accepted.{most_bytes, bytes_of, AreTexts, AreFiles, IsAccepted}
-use Rattle.cs_tool.specs.FilesIn.{AreFilesIn}
+use Rattle.cs_tool.specs.Accepted.{IsAccepted}
 use Rattle.cs_tool.specs.Conversions.{of_syntax, of_resolve, of_guard}
+use Rattle.cs_tool.specs.FilesIn.{AreFilesIn}
+use Rattle.cs_tool.specs.Stands.{AreMeantIn}
+use Rattle.cs_tool.specs.Texts.{most_bytes, bytes_of, AreTexts}
+use Rattle.cs_tool.specs.Unmeant.{OfWide, IsNameRefusal, IsSelectorRefusal, IsConditionRefusal, IsEmbeddingRefusal, IsMarkRefusal}
 use Rattle.cs_tool.specs.declared.fault.Fault.{Fault}
 use Rattle.cs_tool.specs.declared.fault.Fault.TheVariants.{SourcesTooLong, NotUtf8, NoToken, Syntax, LeftOut, IntegerRange, TooHigh, PackageName, UnknownName, FieldReference, NotOpened, Cycle, UnknownRoot, TooLarge, OutOfMemory, ChainTooLong}
 
@@ -43,56 +45,70 @@ pub record IsMisspelledIn (p : Profile) (sources : List (List ℕ)) (f : Fault) 
   pub texts : AreTexts sources
   pub first : IsFirstMisspelledIn p sources f
 
-abbrev pub IsMisspelled : List (List ℕ) → Fault → Type 0
-IsMisspelled = IsMisspelledIn profiles.Default
-
--- the sources spell files, and that is why these are no package
-pub record IsNoPackage (sources : List (List ℕ)) (f : Fault) : Type 0 where
+-- that is why the files that the sources stand for are no package
+pub record IsNoPackage (p : Profile) (sources : List (List ℕ)) (f : Fault) : Type 0 where
   pub texts : AreTexts sources
   pub files : List FileTree
-  pub spelled : AreFiles sources files
+  pub spelled : AreFilesIn p sources files
+  pub meant : List FileTree
+  pub stand_for : AreMeantIn p files meant
   pub fault : ResolveFault
-  pub refused : resolve.IsRefusal fault files
+  pub refused : resolve.IsRefusal fault meant
   pub told : f ≡ of_resolve fault
 
--- the sources are a package, and that is why its recursion isn't guarded
-pub record IsUnguarded (sources : List (List ℕ)) (f : Fault) : Type 0 where
+-- they are a package, and that is why its recursion isn't guarded
+pub record IsUnguarded (p : Profile) (sources : List (List ℕ)) (f : Fault) : Type 0 where
   pub texts : AreTexts sources
   pub files : List FileTree
-  pub spelled : AreFiles sources files
+  pub spelled : AreFilesIn p sources files
+  pub meant : List FileTree
+  pub stand_for : AreMeantIn p files meant
   pub environment : Environment
-  pub one_package : IsPackage files environment
+  pub one_package : IsPackage meant environment
   pub fault : GuardFault
   pub refused : guard.IsRefusal fault environment
   pub told : f ≡ of_guard fault
 
 -- the sources are accepted, and don't declare the root
-pub record IsUnknownRoot (sources : List (List ℕ)) (root : List ℕ) : Type 0 where
+pub record IsUnknownRoot (p : Profile) (sources : List (List ℕ)) (root : List ℕ) : Type 0 where
   pub environment : Environment
-  pub accepted : IsAccepted sources environment
+  pub accepted : IsAccepted p sources environment
   pub unknown : (n : List ℕ) → ¬ (Names environment root n)
 
 -- the fault tells the first condition that the sources fail, whatever the root is
-abbrev pub SourcesFault : List (List ℕ) → Fault → Type 0
-SourcesFault sources SourcesTooLong = most_bytes < bytes_of sources
-SourcesFault sources (NotUtf8 number) = (bytes_of sources ≤ most_bytes) × IsFirstOther sources number
-SourcesFault sources (NoToken number offset) = IsMisspelled sources (NoToken number offset)
-SourcesFault sources (Syntax number offset) = IsMisspelled sources (Syntax number offset)
-SourcesFault sources (IntegerRange number offset) = IsMisspelled sources (IntegerRange number offset)
-SourcesFault sources (TooHigh number) = IsMisspelled sources (TooHigh number)
-SourcesFault sources (LeftOut number offset) = IsMisspelled sources (LeftOut number offset)
-SourcesFault sources (PackageName number) = IsNoPackage sources (PackageName number)
-SourcesFault sources (TooLarge definitions) = IsNoPackage sources (TooLarge definitions)
-SourcesFault sources (UnknownName number offset) = IsNoPackage sources (UnknownName number offset)
-SourcesFault sources (FieldReference number offset) = IsNoPackage sources (FieldReference number offset)
-SourcesFault sources (NotOpened number offset) = IsNoPackage sources (NotOpened number offset)
-SourcesFault sources (Cycle names) = IsUnguarded sources (Cycle names)
-SourcesFault sources (ChainTooLong names) = IsUnguarded sources (ChainTooLong names)
-SourcesFault sources _ = ⊥
+abbrev pub SourcesFault : Profile → List (List ℕ) → Fault → Type 0
+SourcesFault p sources SourcesTooLong = most_bytes < bytes_of sources
+SourcesFault p sources (NotUtf8 number) = (bytes_of sources ≤ most_bytes) × IsFirstOther sources number
+SourcesFault p sources (NoToken number offset) = IsMisspelledIn p sources (NoToken number offset)
+SourcesFault p sources (Syntax number offset) = IsMisspelledIn p sources (Syntax number offset)
+SourcesFault p sources (IntegerRange number offset) = IsMisspelledIn p sources (IntegerRange number offset)
+SourcesFault p sources (TooHigh number) = IsMisspelledIn p sources (TooHigh number) ⊎ OfWide p (IsEmbeddingRefusal sources (TooHigh number))
+SourcesFault p sources (LeftOut number offset) =
+    IsMisspelledIn p sources (LeftOut number offset) ⊎ OfWide p
+    (IsNameRefusal sources (LeftOut number offset) ⊎ (IsSelectorRefusal sources (LeftOut number offset)
+    ⊎ (IsConditionRefusal sources (LeftOut number offset) ⊎ IsMarkRefusal sources (LeftOut number offset))))
+SourcesFault p sources (PackageName number) = IsNoPackage p sources (PackageName number)
+SourcesFault p sources (TooLarge definitions) =
+    OfWide p (IsSelectorRefusal sources (TooLarge definitions) ⊎ IsEmbeddingRefusal sources (TooLarge definitions))
+    ⊎ IsNoPackage p sources (TooLarge definitions)
+SourcesFault p sources (UnknownName number offset) =
+    OfWide p (IsNameRefusal sources (UnknownName number offset) ⊎ (IsSelectorRefusal sources (UnknownName number offset)
+    ⊎ IsEmbeddingRefusal sources (UnknownName number offset)))
+    ⊎ IsNoPackage p sources (UnknownName number offset)
+SourcesFault p sources (FieldReference number offset) =
+    OfWide p (IsNameRefusal sources (FieldReference number offset) ⊎ (IsSelectorRefusal sources (FieldReference number offset)
+    ⊎ IsConditionRefusal sources (FieldReference number offset)))
+    ⊎ IsNoPackage p sources (FieldReference number offset)
+SourcesFault p sources (NotOpened number offset) =
+    OfWide p (IsNameRefusal sources (NotOpened number offset) ⊎ IsEmbeddingRefusal sources (NotOpened number offset))
+    ⊎ IsNoPackage p sources (NotOpened number offset)
+SourcesFault p sources (Cycle names) = IsUnguarded p sources (Cycle names)
+SourcesFault p sources (ChainTooLong names) = IsUnguarded p sources (ChainTooLong names)
+SourcesFault p sources _ = ⊥
 
 -- the fault tells the first condition that the sources and the root fail: the root comes after the sources
-abbrev pub First : List (List ℕ) → List ℕ → Fault → Type 0
-First sources root f = SourcesFault sources f ⊎ ((f ≡ UnknownRoot) × IsUnknownRoot sources root)
+abbrev pub First : Profile → List (List ℕ) → List ℕ → Fault → Type 0
+First p sources root f = SourcesFault p sources f ⊎ ((f ≡ UnknownRoot) × IsUnknownRoot p sources root)
 
 -- ---- the parts, where memory may run out at any time; for private contracts alone
 
@@ -118,6 +134,6 @@ SpellingRefusal p sources (LeftOut number offset) = IsMisspelledIn p sources (Le
 SpellingRefusal p sources _ = ⊥
 
 -- the refusals of the sources, whatever the root is
-abbrev pub SourcesRefusal : List (List ℕ) → Fault → Type 0
-SourcesRefusal sources OutOfMemory = Unit {0}
-SourcesRefusal sources f = SourcesFault sources f
+abbrev pub SourcesRefusal : Profile → List (List ℕ) → Fault → Type 0
+SourcesRefusal p sources OutOfMemory = Unit {0}
+SourcesRefusal p sources f = SourcesFault p sources f

@@ -1,6 +1,7 @@
 -- What the calls answer. A schema admits exactly the documents that are instances of the root definition.
 use Rattle.std.specs.Prelude.{◌≡◌, ◌↔◌, ℕ, ◌≤◌, List, Bool, Option, IsSome}
 use Rattle.cs_document.specs.Document.{Document, IsDocument, depth}
+use Rattle.cs_grammar.specs.declared.profile.Profile.{Profile}
 use Rattle.cs_json.specs.Texts.{Reads, text_of}
 use Rattle.cs_package.specs.Environment.{Environment}
 use Rattle.cs_guard.specs.Reachable.{Reaches}
@@ -19,12 +20,12 @@ use Rattle.cs_validate.specs.Rules as validate
 use Rattle.cs_compile.specs.Depth.{most_schema_depth}
 use Rattle.cs_tool.specs.Accepted.{DeclaresRoot}
 
--- the text is the schema of the root definition that the sources spell
-pub record IsExport (sources : List (List ℕ)) (root text : List ℕ) : Type 0 where
+-- the text is the schema of the root definition that the sources declare in the profile
+pub record IsExport (p : Profile) (sources : List (List ℕ)) (root text : List ℕ) : Type 0 where
   -- the sources are accepted, and declare the root
   pub environment : Environment
   pub name : List ℕ
-  pub declares : DeclaresRoot sources root environment name
+  pub declares : DeclaresRoot p sources root environment name
   -- the text is the compact text of a schema of the default profile, nests no deeper than `most_schema_depth` (114) and is read as that schema
   pub schema : Document
   pub written : text ≡ text_of schema
@@ -41,11 +42,11 @@ pub record IsExport (sources : List (List ℕ)) (root text : List ℕ) : Type 0 
   pub admits : (V : Document → Document → Bool) (I : Rule → Document → Bool) → IsValidity schema V → IsInstance environment I
       → (x : Document) → IsDocument x → V schema x ≡ I (definition name) x
 
--- the answer says whether the document is an instance of the root definition that the sources spell
-pub record IsVerdict (sources : List (List ℕ)) (root text : List ℕ) (answer : Bool) : Type 0 where
+-- the answer says whether the document is an instance of the root definition that the sources declare in the profile
+pub record IsVerdict (p : Profile) (sources : List (List ℕ)) (root text : List ℕ) (answer : Bool) : Type 0 where
   pub environment : Environment
   pub name : List ℕ
-  pub declares : DeclaresRoot sources root environment name
+  pub declares : DeclaresRoot p sources root environment name
   pub document : Document
   pub read : Reads text document
   pub proper : IsDocument document

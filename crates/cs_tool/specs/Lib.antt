@@ -1,13 +1,16 @@
 -- What the calls answer and refuse.
 pub mod Given
-pub mod Accepted
+pub mod Texts
 pub mod FilesIn
+pub mod Stands
+pub mod Accepted
 pub mod Headline
 pub mod Translated
 pub mod Agreement
 pub mod Refusals
 pub mod Objects
 pub mod Conversions
+pub mod Unmeant
 pub mod First
 pub mod Ready
 pub mod CallRefusals

@@ -2,27 +2,29 @@
 use Rattle.std.specs.Prelude.{◌≡◌, ℕ, ◌≤◌, ◌⊎◌, List, [], ◌∷◌, ◌++◌, length, map, Bool, true, false, Option, Some, None, Vec, string_bytes, codes}
 use Rattle.std.specs.declared.alloc.Global.{Global}
 use Rattle.std.specs.Io.KnownBytes.{Keeps}
+use Rattle.cs_grammar.specs.declared.profile.Profile.{Profile}
+use Rattle.cs_grammar.specs.declared.profile.Profile.TheVariants as profiles
 use Rattle.cs_profile.specs.declared.keyword.Vocabulary.{Vocabulary}
 use Rattle.cs_profile.specs.declared.keyword.Vocabulary.TheVariants as vocabularies
 use Rattle.cs_tool.specs.declared.fault.Fault.{Fault}
 use Rattle.cs_tool.specs.declared.fault.Fault.TheVariants.{OutOfMemory, SourcesTooLong, InputTooLong, ReadFailed, WriteFailed}
 use Rattle.cs_tool.specs.declared.request.Request.{Request}
 use Rattle.cs_tool.specs.declared.request.Request.TheVariants.{Export, Vet, Validate, Agree}
-use Rattle.cs_tool.specs.Accepted.{most_bytes}
 use Rattle.cs_tool.specs.Headline.{IsExport, IsVerdict, IsValidated}
 use Rattle.cs_tool.specs.Agreement.{IsAgreement}
 use Rattle.cs_tool.specs.Ready.{IsReady, IsReadyToVet, IsReadyToValidate, IsReadyToAgree}
 use Rattle.cs_tool.specs.CallRefusals.{ExportRefusal, VetRefusal, ValidateRefusal, AgreeRefusal}
 use Rattle.cs_tool.specs.Streams.{IsWholeInput, IsLonger, AppendsFront}
+use Rattle.cs_tool.specs.Texts.{most_bytes}
 
 -- ---- the call that a request makes
 
--- a call, with its sources, its root and its texts, and of a schema the keywords that are taken
+-- a call, with the profile of its sources, these, its root and its texts, and of a schema the keywords that are taken
 pub data Call : Type 0 where
-  export : List (List ℕ) → List ℕ → Call
-  vet : List (List ℕ) → List ℕ → List ℕ → Call
+  export : Profile → List (List ℕ) → List ℕ → Call
+  vet : Profile → List (List ℕ) → List ℕ → List ℕ → Call
   validate : Vocabulary → List ℕ → List ℕ → Call
-  agree : List (List ℕ) → List ℕ → List ℕ → Call
+  agree : Profile → List (List ℕ) → List ℕ → List ℕ → Call
 
 -- the files, or the input as the one source where there are none
 abbrev pub sources_or : List (Vec ℕ Global) → List ℕ → List (List ℕ)
@@ -34,12 +36,12 @@ abbrev pub text_or : Option (Vec ℕ Global) → List ℕ → List ℕ
 text_or None input = input
 text_or (Some doc) input = doc.items
 
--- the call of a request, where the input has these bytes: schemas are those of the default profile
+-- the call of a request, where the input has these bytes: sources and schemas are those of the default profile
 abbrev pub call_of : Request → List ℕ → Call
-call_of (Export files root) input = export (sources_or files.items input) (string_bytes root)
-call_of (Vet files root doc) input = vet (sources_or files.items input) (string_bytes root) doc.items
+call_of (Export files root) input = export profiles.Default (sources_or files.items input) (string_bytes root)
+call_of (Vet files root doc) input = vet profiles.Default (sources_or files.items input) (string_bytes root) doc.items
 call_of (Validate schema doc) input = validate vocabularies.Default schema.items (text_or doc input)
-call_of (Agree files root doc) input = agree (sources_or files.items input) (string_bytes root) doc.items
+call_of (Agree files root doc) input = agree profiles.Default (sources_or files.items input) (string_bytes root) doc.items
 
 -- a request asks for the input: as its source where it has no files, or as its document where it has none
 abbrev pub ReadsInput : Request → Type 0
@@ -67,23 +69,23 @@ verdict_text false = codes "invalid"
 
 -- the truth value and the text are those of the call
 abbrev pub IsCallAnswer : Call → Bool → List ℕ → Type 0
-IsCallAnswer (export sources root) truth text = IsExport sources root text × (truth ≡ true)
-IsCallAnswer (vet sources root doc) truth text = IsVerdict sources root doc truth × (text ≡ verdict_text truth)
+IsCallAnswer (export p sources root) truth text = IsExport p sources root text × (truth ≡ true)
+IsCallAnswer (vet p sources root doc) truth text = IsVerdict p sources root doc truth × (text ≡ verdict_text truth)
 IsCallAnswer (validate taken schema doc) truth text = IsValidated taken schema doc truth × (text ≡ verdict_text truth)
-IsCallAnswer (agree sources root doc) truth text = IsAgreement sources root doc truth × (text ≡ verdict_text truth)
+IsCallAnswer (agree p sources root doc) truth text = IsAgreement p sources root doc truth × (text ≡ verdict_text truth)
 
 abbrev pub IsCallRefusal : Call → Fault → Type 0
-IsCallRefusal (export sources root) fault = ExportRefusal sources root fault
-IsCallRefusal (vet sources root doc) fault = VetRefusal sources root doc fault
+IsCallRefusal (export p sources root) fault = ExportRefusal p sources root fault
+IsCallRefusal (vet p sources root doc) fault = VetRefusal p sources root doc fault
 IsCallRefusal (validate taken schema doc) fault = ValidateRefusal taken schema doc fault
-IsCallRefusal (agree sources root doc) fault = AgreeRefusal sources root doc fault
+IsCallRefusal (agree p sources root doc) fault = AgreeRefusal p sources root doc fault
 
 -- a call that is answered, unless memory runs out
 abbrev pub IsReadyCall : Call → Type 0
-IsReadyCall (export sources root) = IsReady sources root
-IsReadyCall (vet sources root doc) = IsReadyToVet sources root doc
+IsReadyCall (export p sources root) = IsReady p sources root
+IsReadyCall (vet p sources root doc) = IsReadyToVet p sources root doc
 IsReadyCall (validate taken schema doc) = IsReadyToValidate taken schema doc
-IsReadyCall (agree sources root doc) = IsReadyToAgree sources root doc
+IsReadyCall (agree p sources root doc) = IsReadyToAgree p sources root doc
 
 -- ---- what a run answers
 

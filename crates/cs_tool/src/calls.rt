@@ -1,5 +1,6 @@
 // The calls that judge one document.
 ghost use Rattle.std.specs.Prelude.{IfOk, IfErr, IsOkUnless};
+ghost use Rattle.cs_grammar.specs.declared.profile.Profile.TheVariants as profiles;
 ghost use Rattle.cs_profile.specs.declared.keyword.Vocabulary.TheVariants as vocabularies;
 ghost use Rattle.cs_tool.specs.Given.{bytes_in};
 ghost use Rattle.cs_tool.specs.Headline.{IsVerdict, IsValidated};
@@ -13,20 +14,43 @@ use crate::numbering::{number_root, number_schema};
 use crate::read_rules::{read_both, read_root, read_schema_text};
 use cs_json::Scratch;
 use cs_profile::Vocabulary;
+use cs_syntax::Profile;
 use cs_table::Verdicts;
 use std::alloc::Global;
 
 /// Whether the document is an instance of the root definition of the sources.
 ///
-/// Refusals in order: the first condition that the sources and the root fail, as `First` has them (`specs/First.antt`);
-/// `NotJson` and `NotInteger`, of the document; then `TooManyPairs`, of the document and the rules of the root.
+/// Refusals: those of [`vet_in`] in the default profile.
 pub fn vet(alloc: Global, sources: &[&[u8]], root: &str, doc: &[u8]) -> Result<bool, Fault>
-    ensures found { IfOk result (λ b. IsVerdict (bytes_in sources.now) root.now doc.now b) }
-    ensures refused { IfErr result (λ e. VetRefusal (bytes_in sources.now) root.now doc.now e) }
-    ensures only { IsReadyToVet (bytes_in sources.now) root.now doc.now
+    ensures found { IfOk result
+        (λ b. IsVerdict profiles.Default (bytes_in sources.now) root.now doc.now b) }
+    ensures refused { IfErr result
+        (λ e. VetRefusal profiles.Default (bytes_in sources.now) root.now doc.now e) }
+    ensures only { IsReadyToVet profiles.Default (bytes_in sources.now) root.now doc.now
         → IsOkUnless result Fault.OutOfMemory }
 {
-    let guarded = read_root(alloc, sources, root)?;
+    vet_in(alloc, Profile::Default, sources, root, doc)
+}
+
+/// Whether the document is an instance of the root definition that the sources declare in a profile.
+///
+/// Refusals in order: the first condition that the sources and the root fail, as `First` has them (`specs/First.antt`);
+/// `NotJson` and `NotInteger`, of the document; then `TooManyPairs`, of the document and the rules of the root.
+pub fn vet_in(
+    alloc: Global,
+    profile: Profile,
+    sources: &[&[u8]],
+    root: &str,
+    doc: &[u8],
+) -> Result<bool, Fault>
+    ensures found { IfOk result
+        (λ b. IsVerdict profile (bytes_in sources.now) root.now doc.now b) }
+    ensures refused { IfErr result
+        (λ e. VetRefusal profile (bytes_in sources.now) root.now doc.now e) }
+    ensures only { IsReadyToVet profile (bytes_in sources.now) root.now doc.now
+        → IsOkUnless result Fault.OutOfMemory }
+{
+    let guarded = read_root(alloc, profile, sources, root)?;
     let rules = number_root(alloc, &guarded, root)?;
     let mut scratch = Scratch::new(alloc);
     judge_root(&rules, alloc, doc, &mut scratch, &mut Verdicts::new(alloc))
@@ -70,15 +94,37 @@ pub fn validate_by(
 /// Whether the document is an instance of the root definition of the sources, judged on both sides: by the definition
 /// itself, and by the exported schema, which is read again from its text. Both answer the same.
 ///
-/// Refusals in order: those of `export`; `NotJson` and `NotInteger`, of the document; then `TooManyPairs`, of the document
-/// and the rules of the root or of the exported schema.
+/// Refusals: those of [`agree_in`] in the default profile.
 pub fn agree(alloc: Global, sources: &[&[u8]], root: &str, doc: &[u8]) -> Result<bool, Fault>
-    ensures found { IfOk result (λ b. IsAgreement (bytes_in sources.now) root.now doc.now b) }
-    ensures refused { IfErr result (λ e. AgreeRefusal (bytes_in sources.now) root.now doc.now e) }
-    ensures only { IsReadyToAgree (bytes_in sources.now) root.now doc.now
+    ensures found { IfOk result
+        (λ b. IsAgreement profiles.Default (bytes_in sources.now) root.now doc.now b) }
+    ensures refused { IfErr result
+        (λ e. AgreeRefusal profiles.Default (bytes_in sources.now) root.now doc.now e) }
+    ensures only { IsReadyToAgree profiles.Default (bytes_in sources.now) root.now doc.now
         → IsOkUnless result Fault.OutOfMemory }
 {
-    let (guarded, schema) = read_both(alloc, sources, root)?;
+    agree_in(alloc, Profile::Default, sources, root, doc)
+}
+
+/// Whether the document is an instance of the root definition that the sources declare in a profile, judged on both sides.
+///
+/// Refusals in order: those of `export_in`; `NotJson` and `NotInteger`, of the document; then `TooManyPairs`, of the document
+/// and the rules of the root or of the exported schema.
+pub fn agree_in(
+    alloc: Global,
+    profile: Profile,
+    sources: &[&[u8]],
+    root: &str,
+    doc: &[u8],
+) -> Result<bool, Fault>
+    ensures found { IfOk result
+        (λ b. IsAgreement profile (bytes_in sources.now) root.now doc.now b) }
+    ensures refused { IfErr result
+        (λ e. AgreeRefusal profile (bytes_in sources.now) root.now doc.now e) }
+    ensures only { IsReadyToAgree profile (bytes_in sources.now) root.now doc.now
+        → IsOkUnless result Fault.OutOfMemory }
+{
+    let (guarded, schema) = read_both(alloc, profile, sources, root)?;
     let root_side = number_root(alloc, &guarded, root)?;
     let schema_side = number_schema(alloc, &schema)?;
     let mut scratch = Scratch::new(alloc);

@@ -1,6 +1,7 @@
 // What the profile's first edition accepted.
 ghost use Rattle.std.specs.Prelude.{◌≡◌, ℕ, List, Bool};
 ghost use Rattle.cs_document.specs.Document.{Document};
+ghost use Rattle.cs_grammar.specs.declared.profile.Profile.TheVariants as profiles;
 ghost use Rattle.cs_instance.specs.Earlier.{IsInstanceEarlier};
 ghost use Rattle.cs_instance.specs.Instance.{Rule, definition, IsInstance};
 ghost use Rattle.cs_package.specs.Environment.{Environment};
@@ -11,7 +12,7 @@ ghost use Rattle.cs_tool.specs.Earlier.{IsAcceptedEarlier};
 /// instance relation is one by the earlier reading too, and each that was one gives every definition the same instances.
 pub fn earlier_law()
     ensures accepted { (sources : List (List ℕ)) (E : Environment) → IsAcceptedEarlier sources E
-        → IsAccepted sources E }
+        → IsAccepted profiles.Default sources E }
     ensures still { (sources : List (List ℕ)) (E : Environment) → IsAcceptedEarlier sources E
         → (I : Rule → Document → Bool) → IsInstance E I → IsInstanceEarlier E I }
     ensures same { (sources : List (List ℕ)) (E : Environment) → IsAcceptedEarlier sources E

@@ -1,6 +1,8 @@
 // The export of a schema from sources.
 ghost use Rattle.std.specs.Prelude.{◌≡◌, ℕ, ◌≤◌, List, IfOk, IfErr, IsOkUnless};
 ghost use Rattle.cs_document.specs.Document.{depth};
+ghost use Rattle.cs_grammar.specs.declared.profile.Profile.{Profile};
+ghost use Rattle.cs_grammar.specs.declared.profile.Profile.TheVariants as profiles;
 ghost use Rattle.cs_json.specs.Texts.{Reads, text_of};
 ghost use Rattle.cs_package.specs.Environment.{Names};
 ghost use Rattle.cs_schema.specs.SchemaDocument.{document_of};
@@ -18,32 +20,58 @@ use cs_compile::compile;
 use cs_guard::Guarded;
 use cs_json::write_doc;
 use cs_schema::{SchemaDoc, to_doc};
+use cs_syntax::Profile;
 use std::alloc::Global;
 
 /// The text of the schema that admits the documents that the root definition of the sources admits,
 /// without a newline. The root is named with its `#`.
 ///
+/// Refusals: those of [`export_in`] in the default profile.
+pub fn export(alloc: Global, sources: &[&[u8]], root: &str) -> Result<Vec<u8>, Fault>
+    ensures found { IfOk result
+        (λ text. IsExport profiles.Default (bytes_in sources.now) root.now text.items) }
+    ensures translated { IfOk result
+        (λ text. IsTranslated profiles.Default (bytes_in sources.now) root.now text.items) }
+    ensures refused { IfErr result
+        (λ e. ExportRefusal profiles.Default (bytes_in sources.now) root.now e) }
+    ensures only { IsReady profiles.Default (bytes_in sources.now) root.now
+        → IsOkUnless result Fault.OutOfMemory }
+{
+    export_in(alloc, Profile::Default, sources, root)
+}
+
+/// The text of the schema that admits the documents that the root definition admits which the sources declare in a profile,
+/// without a newline.
+///
 /// A refusal reports the first condition that the sources and the root fail, in the order of `First`
 /// (`specs/First.antt`).
-pub fn export(alloc: Global, sources: &[&[u8]], root: &str) -> Result<Vec<u8>, Fault>
-    ensures found { IfOk result (λ text. IsExport (bytes_in sources.now) root.now text.items) }
+pub fn export_in(
+    alloc: Global,
+    profile: Profile,
+    sources: &[&[u8]],
+    root: &str,
+) -> Result<Vec<u8>, Fault>
+    ensures found { IfOk result
+        (λ text. IsExport profile (bytes_in sources.now) root.now text.items) }
     ensures translated { IfOk result
-        (λ text. IsTranslated (bytes_in sources.now) root.now text.items) }
-    ensures refused { IfErr result (λ e. ExportRefusal (bytes_in sources.now) root.now e) }
-    ensures only { IsReady (bytes_in sources.now) root.now → IsOkUnless result Fault.OutOfMemory }
+        (λ text. IsTranslated profile (bytes_in sources.now) root.now text.items) }
+    ensures refused { IfErr result
+        (λ e. ExportRefusal profile (bytes_in sources.now) root.now e) }
+    ensures only { IsReady profile (bytes_in sources.now) root.now
+        → IsOkUnless result Fault.OutOfMemory }
 {
-    let guarded = accepted_package(alloc, sources)?;
+    let guarded = accepted_package(alloc, profile, sources)?;
     exported(alloc, &guarded, root)
 }
 
 /// The text of the schema of the root definition, without a newline.
 pub(crate) fn exported(alloc: Global, guarded: &Guarded, root: &str) -> Result<Vec<u8>, Fault>
-    ensures found { (sources : List (List ℕ)) → IsAccepted sources guarded.now
-        → IfOk result (λ text. IsExport sources root.now text.items) }
-    ensures translated { (sources : List (List ℕ)) → IsAccepted sources guarded.now
-        → IfOk result (λ text. IsTranslated sources root.now text.items) }
-    ensures refused { (sources : List (List ℕ)) → IsAccepted sources guarded.now
-        → IfErr result (λ e. ExportRefusal sources root.now e) }
+    ensures found { (p : Profile) (sources : List (List ℕ)) → IsAccepted p sources guarded.now
+        → IfOk result (λ text. IsExport p sources root.now text.items) }
+    ensures translated { (p : Profile) (sources : List (List ℕ)) → IsAccepted p sources guarded.now
+        → IfOk result (λ text. IsTranslated p sources root.now text.items) }
+    ensures refused { (p : Profile) (sources : List (List ℕ)) → IsAccepted p sources guarded.now
+        → IfErr result (λ e. ExportRefusal p sources root.now e) }
     ensures only { (n : List ℕ)
         → Names guarded.now root.now n → IsOkUnless result Fault.OutOfMemory }
 {

@@ -1,5 +1,6 @@
 // Judging the document of a text by numbered rules. The memory of `scratch` and `table` is used again.
 ghost use Rattle.std.specs.Prelude.{ℕ, List, IfOk, IfErr, IsOkUnless};
+ghost use Rattle.cs_grammar.specs.declared.profile.Profile.{Profile};
 ghost use Rattle.cs_profile.specs.declared.keyword.Vocabulary.{Vocabulary};
 ghost use Rattle.cs_tool.specs.Accepted.{DeclaresRoot};
 ghost use Rattle.cs_tool.specs.Agreement.{IsAgreement};
@@ -24,15 +25,15 @@ pub fn judge_root(
     scratch: &mut Scratch,
     table: &mut Verdicts,
 ) -> Result<bool, Fault>
-    ensures found { (sources : List (List ℕ)) (root : List ℕ)
-        → DeclaresRoot sources root rules.now.0 rules.now.1
-        → IfOk result (λ b. IsVerdict sources root text.now b) }
-    ensures refused { (sources : List (List ℕ)) (root : List ℕ)
-        → DeclaresRoot sources root rules.now.0 rules.now.1
-        → IfErr result (λ e. VetRefusal sources root text.now e) }
-    ensures only { (sources : List (List ℕ)) (root : List ℕ)
-        → DeclaresRoot sources root rules.now.0 rules.now.1
-        → IsReadyToVet sources root text.now → IsOkUnless result Fault.OutOfMemory }
+    ensures found { (p : Profile) (sources : List (List ℕ)) (root : List ℕ)
+        → DeclaresRoot p sources root rules.now.0 rules.now.1
+        → IfOk result (λ b. IsVerdict p sources root text.now b) }
+    ensures refused { (p : Profile) (sources : List (List ℕ)) (root : List ℕ)
+        → DeclaresRoot p sources root rules.now.0 rules.now.1
+        → IfErr result (λ e. VetRefusal p sources root text.now e) }
+    ensures only { (p : Profile) (sources : List (List ℕ)) (root : List ℕ)
+        → DeclaresRoot p sources root rules.now.0 rules.now.1
+        → IsReadyToVet p sources root text.now → IsOkUnless result Fault.OutOfMemory }
 {
     let doc = read_document(alloc, text, scratch)?;
     Ok(is_instance(rules, alloc, &doc, table)?)
@@ -66,15 +67,15 @@ pub fn judge_both(
     scratch: &mut Scratch,
     table: &mut Verdicts,
 ) -> Result<bool, Fault>
-    ensures found { (sources : List (List ℕ)) (root : List ℕ)
-        → AreSidesOf sources root root_side.now.0 root_side.now.1 schema_side.now
-        → IfOk result (λ b. IsAgreement sources root text.now b) }
-    ensures refused { (sources : List (List ℕ)) (root : List ℕ)
-        → AreSidesOf sources root root_side.now.0 root_side.now.1 schema_side.now
-        → IfErr result (λ e. AgreeRefusal sources root text.now e) }
-    ensures only { (sources : List (List ℕ)) (root : List ℕ)
-        → AreSidesOf sources root root_side.now.0 root_side.now.1 schema_side.now
-        → IsReadyToAgree sources root text.now → IsOkUnless result Fault.OutOfMemory }
+    ensures found { (p : Profile) (sources : List (List ℕ)) (root : List ℕ)
+        → AreSidesOf p sources root root_side.now.0 root_side.now.1 schema_side.now
+        → IfOk result (λ b. IsAgreement p sources root text.now b) }
+    ensures refused { (p : Profile) (sources : List (List ℕ)) (root : List ℕ)
+        → AreSidesOf p sources root root_side.now.0 root_side.now.1 schema_side.now
+        → IfErr result (λ e. AgreeRefusal p sources root text.now e) }
+    ensures only { (p : Profile) (sources : List (List ℕ)) (root : List ℕ)
+        → AreSidesOf p sources root root_side.now.0 root_side.now.1 schema_side.now
+        → IsReadyToAgree p sources root text.now → IsOkUnless result Fault.OutOfMemory }
 {
     let doc = read_document(alloc, text, scratch)?;
     let is_instance = is_instance(root_side, alloc, &doc, table)?;

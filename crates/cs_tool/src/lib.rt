@@ -1,4 +1,4 @@
-// The calls over bytes, and a command over a reader and a writer.
+// The calls over bytes in a profile, and a command over a reader and a writer.
 #![tactic(auto)]
 
 mod calls;
@@ -8,6 +8,7 @@ mod earlier;
 mod exports;
 mod fault;
 mod judgements;
+mod meant;
 mod numbering;
 mod objects;
 mod packages;
@@ -21,13 +22,15 @@ mod slices;
 mod verdicts;
 mod writes;
 
-pub use calls::{agree, validate, validate_by, vet};
+pub use calls::{agree, agree_in, validate, validate_by, vet, vet_in};
 pub use commands::command;
 pub use cs_profile::Vocabulary;
+pub use cs_syntax::Profile;
 pub use earlier::earlier_law;
-pub use exports::export;
+pub use exports::{export, export_in};
 pub use fault::Fault;
 pub use judgements::{judge_both, judge_root, judge_schema};
+pub use meant::files_meant_by;
 pub use numbering::{number_root, number_schema};
 pub use objects::{MEMBER_ROOM, put_error, write_fault_json};
 pub use packages::{MOST_BYTES, accepted_package, spelled_files};

@@ -1,5 +1,6 @@
 // Numbering what was read, once for any number of documents.
 ghost use Rattle.std.specs.Prelude.{◌≡◌, ℕ, List, IfOk, IsOkUnless};
+ghost use Rattle.cs_grammar.specs.declared.profile.Profile.{Profile};
 ghost use Rattle.cs_profile.specs.SchemaDocument.{document_of};
 ghost use Rattle.cs_tool.specs.Accepted.{DeclaresRoot};
 
@@ -16,11 +17,11 @@ pub fn number_root<'a>(
     guarded: &'a Guarded,
     root: &str,
 ) -> Result<RootRules<'a>, Fault>
-    ensures found { (sources : List (List ℕ)) (n : List ℕ)
-        → DeclaresRoot sources root.now guarded.now n
-        → IfOk result (λ r. DeclaresRoot sources root.now r.0 r.1) }
-    ensures memory { (sources : List (List ℕ)) (n : List ℕ)
-        → DeclaresRoot sources root.now guarded.now n → IsOkUnless result Fault.OutOfMemory }
+    ensures found { (p : Profile) (sources : List (List ℕ)) (n : List ℕ)
+        → DeclaresRoot p sources root.now guarded.now n
+        → IfOk result (λ r. DeclaresRoot p sources root.now r.0 r.1) }
+    ensures memory { (p : Profile) (sources : List (List ℕ)) (n : List ℕ)
+        → DeclaresRoot p sources root.now guarded.now n → IsOkUnless result Fault.OutOfMemory }
 {
     Ok(root_rules(alloc, guarded, root)?)
 }

@@ -4,31 +4,42 @@ ghost use Rattle.std.specs.List.{AllByRecursion};
 ghost use Rattle.cs_grammar.specs.Tree.{FileTree};
 ghost use Rattle.cs_grammar.specs.View.{file_view};
 ghost use Rattle.cs_package.specs.Environment.{Environment};
-ghost use Rattle.cs_tool.specs.Accepted.{most_bytes, bytes_of, AreTexts, IsAccepted};
+ghost use Rattle.cs_tool.specs.Accepted.{IsAccepted};
 ghost use Rattle.cs_tool.specs.FilesIn.{AreFilesIn};
-ghost use Rattle.cs_tool.specs.Given.{bytes_in};
 ghost use Rattle.cs_tool.specs.First.{SourcesRefusal, SpellingRefusal, TextsRefusal, FilesRefusalIn};
+ghost use Rattle.cs_tool.specs.Given.{bytes_in};
+ghost use Rattle.cs_tool.specs.Texts.{most_bytes, bytes_of, AreTexts};
 
 use crate::Fault;
 use crate::conversions::of_syntax;
+use crate::meant::files_meant_by;
 use cs_guard::{Guarded, guard};
-use cs_resolve::resolve;
+use cs_resolve::resolve_written;
 use cs_syntax::{File, Profile, parse_file_in};
 use std::alloc::Global;
 
 /// The bytes that all sources of a call may have together.
 pub const MOST_BYTES: usize = 1_048_576;
 
-/// The guarded package that the sources spell. A refusal reports the first condition that they fail, in the order of
-/// `SourcesFault` (`specs/First.antt`).
-pub fn accepted_package(alloc: Global, sources: &[&[u8]]) -> Result<Guarded, Fault>
-    ensures accepted { IfOk result (λ g. IsAccepted (bytes_in sources.now) g) }
-    ensures refused { IfErr result (λ e. SourcesRefusal (bytes_in sources.now) e) }
+/// The guarded package that the sources declare in a profile.
+///
+/// # Errors
+/// The first condition that they fail, in the order of `SourcesFault` (`specs/First.antt`): their size and characters, then those that spell
+/// no file in the profile; in the wide one the first name of a scope at fault, the first selector at fault, the first condition of an `if` at
+/// fault, what is embedded and can't be, and the first mark of a default at fault; and then why what they stand for is no package, or isn't
+/// guarded. `OutOfMemory`.
+pub fn accepted_package(
+    alloc: Global,
+    profile: Profile,
+    sources: &[&[u8]],
+) -> Result<Guarded, Fault>
+    ensures accepted { IfOk result (λ g. IsAccepted profile (bytes_in sources.now) g) }
+    ensures refused { IfErr result (λ e. SourcesRefusal profile (bytes_in sources.now) e) }
     ensures only { (E : Environment)
-        → IsAccepted (bytes_in sources.now) E → IsOkUnless result Fault.OutOfMemory }
+        → IsAccepted profile (bytes_in sources.now) E → IsOkUnless result Fault.OutOfMemory }
 {
-    let files = spelled_files(alloc, Profile::Default, sources)?;
-    let package = guard(alloc, resolve(alloc, files)?)?;
+    let meant = files_meant_by(alloc, profile, sources)?;
+    let package = guard(alloc, resolve_written(alloc, meant)?)?;
     Ok(package)
 }
 

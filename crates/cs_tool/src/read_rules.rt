@@ -15,16 +15,23 @@ use cs_guard::Guarded;
 use cs_json::read_doc;
 use cs_profile::Vocabulary;
 use cs_schema::{SchemaDoc, read_schema};
+use cs_syntax::Profile;
 use std::alloc::Global;
 
-/// The package of the sources, where it declares the root.
-pub fn read_root(alloc: Global, sources: &[&[u8]], root: &str) -> Result<Guarded, Fault>
+/// The package that the sources declare in a profile, where it declares the root.
+pub fn read_root(
+    alloc: Global,
+    profile: Profile,
+    sources: &[&[u8]],
+    root: &str,
+) -> Result<Guarded, Fault>
     ensures found { IfOk result (λ g. (n : List ℕ)
-        × DeclaresRoot (bytes_in sources.now) root.now g n) }
-    ensures refused { IfErr result (λ e. ExportRefusal (bytes_in sources.now) root.now e) }
-    ensures only { IsReady (bytes_in sources.now) root.now → IsOkUnless result Fault.OutOfMemory }
+        × DeclaresRoot profile (bytes_in sources.now) root.now g n) }
+    ensures refused { IfErr result (λ e. ExportRefusal profile (bytes_in sources.now) root.now e) }
+    ensures only { IsReady profile (bytes_in sources.now) root.now
+        → IsOkUnless result Fault.OutOfMemory }
 {
-    let guarded = accepted_package(alloc, sources)?;
+    let guarded = accepted_package(alloc, profile, sources)?;
     if guarded.package().find(root).is_none() {
         return Err(Fault::UnknownRoot);
     }
@@ -49,18 +56,20 @@ pub fn read_schema_text(
     }
 }
 
-/// The package of the sources, and the exported schema of the root, which is read again from its text.
+/// The package that the sources declare in a profile, and the exported schema of the root, which is read again from its text.
 pub fn read_both(
     alloc: Global,
+    profile: Profile,
     sources: &[&[u8]],
     root: &str,
 ) -> Result<(Guarded, SchemaDoc), Fault>
     ensures found { IfOk result (λ t. (n : List ℕ)
-        × AreSidesOf (bytes_in sources.now) root.now t.0 n (document_of t.1)) }
-    ensures refused { IfErr result (λ e. ExportRefusal (bytes_in sources.now) root.now e) }
-    ensures only { IsReady (bytes_in sources.now) root.now → IsOkUnless result Fault.OutOfMemory }
+        × AreSidesOf profile (bytes_in sources.now) root.now t.0 n (document_of t.1)) }
+    ensures refused { IfErr result (λ e. ExportRefusal profile (bytes_in sources.now) root.now e) }
+    ensures only { IsReady profile (bytes_in sources.now) root.now
+        → IsOkUnless result Fault.OutOfMemory }
 {
-    let guarded = accepted_package(alloc, sources)?;
+    let guarded = accepted_package(alloc, profile, sources)?;
     let schema = read_schema_text(
         alloc,
         Vocabulary::Default,

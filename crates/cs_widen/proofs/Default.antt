@@ -1,5 +1,5 @@
 -- What the default profile accepts stands for itself, in either profile.
-use Rattle.std.proofs.Common.{◌≡◌, ℕ, false, List, [], ◌∷◌, refl, subst, ◌∙◌}
+use Rattle.std.proofs.Common.{◌≡◌, ℕ, false, List, [], ◌∷◌, subst}
 use Rattle.std.specs.List.{AllByRecursion}
 use Rattle.cs_grammar.specs.declared.profile.Profile.TheVariants as profiles
 use Rattle.cs_grammar.specs.DefaultForms.{IsDefaultFile}
@@ -17,14 +17,12 @@ use Rattle.cs_names.specs.Having.{have_names}
 use Rattle.cs_names.specs.Names.{AreNamed}
 use Rattle.cs_selectors.specs.Having.{have_selectors}
 use Rattle.cs_selectors.specs.Selectors.{AreUnselected}
-use Rattle.cs_tool.specs.Accepted.{AreFiles, IsAccepted}
-use Rattle.cs_tool.specs.FilesIn.{AreFilesIn}
-use Rattle.cs_widen.specs.Accepted.{IsAcceptedIn}
-use Rattle.cs_widen.specs.Meant.{IsMeant, IsMeantIn, Declare}
-use Rattle.cs_widen.specs.Stands.{AreMeant}
+use Rattle.cs_tool.specs.Accepted.{IsAccepted}
+use Rattle.cs_tool.specs.FilesIn.{AreFiles, AreFilesIn}
+use Rattle.cs_tool.specs.Stands.{AreMeant}
+use Rattle.cs_tool.proofs.Written.{HaveDefaultForms, WritesSpelled, all_spelled, spelled_default, spelled_low}
+use Rattle.cs_widen.specs.Meant.{IsMeant, IsMeantIn}
 use Rattle.cs_widen.proofs.DefaultFiles.{package_stands}
-use Rattle.cs_widen.proofs.Once.{one_files}
-use Rattle.cs_widen.proofs.Printed.{HaveDefaultForms, WritesSpelled, all_spelled, spelled_default, spelled_low}
 
 abbrev pub Stay : Type 0
 Stay = (fs : List FileTree) → AllByRecursion IsDefaultFile fs → IsUnmarked fs fs
@@ -78,45 +76,19 @@ themselves law writes nameless stay_named direct stay_unselected free stay_chose
       unmarked = stay fs forms;
     }
 
-module _ (ss : List (List ℕ)) where
-  pub accepted_in_default : (E : Environment) → IsAccepted ss E → IsAcceptedIn profiles.Default ss E
-  accepted_in_default E h = record {
-    texts = h.texts;
-    files = h.files;
-    spelled = h.spelled;
-    meant = h.files;
-    stand_for = refl;
-    one_package = h.one_package;
-    guarded = h.guarded;
-  }
+-- in the default profile what is meant is what is spelled
+pub meant_in_default : (ss : List (List ℕ)) (s : List ℕ) → IsMeantIn profiles.Default ss s → IsMeant ss s
+meant_in_default ss s h = record { environment = h.environment; accepted = h.accepted; read = subst (λ fs. IsReadAs s fs) h.accepted.stand_for h.read }
 
-  pub default_accepted : (E : Environment) → IsAcceptedIn profiles.Default ss E → IsAccepted ss E
-  default_accepted E h = record {
-    texts = h.texts;
-    files = h.files;
-    spelled = h.spelled;
-    one_package = subst (λ fs. IsPackage fs E) h.stand_for h.one_package;
-    guarded = h.guarded;
-  }
-
-  pub meant_in_default : (s : List ℕ) (E : Environment) → IsAccepted ss E → IsMeantIn profiles.Default ss s → IsMeant ss s
-  meant_in_default s E accepted h =
-      let files = h.accepted.stand_for ∙ one_files profiles.Default ss h.accepted.files accepted.files h.accepted.spelled accepted.spelled in
-      record { environment = E; accepted = accepted; read = subst (λ fs. IsReadAs s fs) files h.read }
-
-  pub declare_in_default : (E : Environment) → IsAccepted ss E → Declare profiles.Default ss ss
-  declare_in_default E h = record { environment = E; given = accepted_in_default E h; taken = h }
-
-  pub accepted_in_wide : StandForThemselves → AreReadWide → (E : Environment) → IsAccepted ss E → IsAcceptedIn profiles.Wide ss E
-  accepted_in_wide law wide E h = record {
-    texts = h.texts;
-    files = h.files;
-    spelled = all_wide wide ss h.files h.spelled;
-    meant = h.files;
-    stand_for = law ss h.files E h.spelled h.one_package;
-    one_package = h.one_package;
-    guarded = h.guarded;
-  }
-
-  pub declare_in_wide : StandForThemselves → AreReadWide → (E : Environment) → IsAccepted ss E → Declare profiles.Wide ss ss
-  declare_in_wide law wide E h = record { environment = E; given = accepted_in_wide law wide E h; taken = h }
+pub accepted_in_wide : StandForThemselves → AreReadWide → (ss : List (List ℕ)) (E : Environment) → IsAccepted profiles.Default ss E → IsAccepted profiles.Wide ss E
+accepted_in_wide law wide ss E h =
+    let one_package = subst (λ fs. IsPackage fs E) h.stand_for h.one_package in
+    record {
+      texts = h.texts;
+      files = h.files;
+      spelled = all_wide wide ss h.files h.spelled;
+      meant = h.files;
+      stand_for = law ss h.files E h.spelled one_package;
+      one_package = one_package;
+      guarded = h.guarded;
+    }

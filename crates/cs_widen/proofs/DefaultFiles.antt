@@ -23,8 +23,8 @@ use Rattle.cs_embeddings.specs.Held.{holding}
 use Rattle.cs_embeddings.specs.Joined.{placed, fields_of_brought, joined_with, joined_each, joined_end, joined_value}
 use Rattle.cs_embeddings.specs.United.{unites}
 use Rattle.cs_embeddings.specs.Without.{found_from, clashes_from, all_definitions, IsJoined}
+use Rattle.cs_tool.proofs.Written.{low_parts}
 use Rattle.cs_widen.proofs.DefaultRule.{both, not_united, declarations_of, not_gathered, no_bodies_gathered}
-use Rattle.cs_widen.proofs.Printed.{low_parts}
 
 none_of_both : {X : Type 0} (xs ys : List X) → xs ≡ [] → ys ≡ [] → xs ++ ys ≡ []
 none_of_both xs ys p q = ap₂ (λ zs ws. zs ++ ws) p q

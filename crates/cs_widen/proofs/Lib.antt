@@ -1,16 +1,9 @@
--- What is meant can be printed and is read again (`Printed`), and has the nodes that are counted without embeddings (`Sizes`), what is accepted in
--- the default profile stands for itself (`DefaultRule`, `DefaultFiles`, `Default`), sources declare one environment in a profile (`Once`), which refusal is
--- which (`Refusals`), what is printed declares the same environment (`printed_package` in `UnplacedPackages`, `Judged`), and so what a call answers of it is
--- the answer in the profile (`Judgements`).
-mod Printed
-mod Sizes
-mod Once
+-- What the default profile accepts stands for itself in the wide one (`DefaultRule`, `DefaultFiles`, `Default`), and what is printed declares the same
+-- environment (`printed_package` in `UnplacedPackages`, `Judged`).
 mod DefaultRule
 mod DefaultFiles
 mod Default
-mod Refusals
 mod Judged
-pub mod Judgements
 -- a literal with defaults, one with embeddings and one without, operands that are plain, fields that conditions ask for, and a literal under conditions, read
 -- as they are written
 mod Direct

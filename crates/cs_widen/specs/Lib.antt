@@ -1,9 +1,5 @@
--- What sources stand for in a profile, and the source that it is; and schemas.
-pub mod Stands
-pub mod Accepted
+-- The source that sources stand for in a profile; what it means, read as the sources are written; and schemas.
 pub mod Meant
-pub mod Refused
-pub mod Calls
 pub mod Direct
 pub mod Asked
 pub mod Embedding

@@ -1,18 +1,21 @@
 // What holds of what sources stand for.
-ghost use Rattle.std.specs.Prelude.{◌↔◌, ℕ, List, Bool};
+ghost use Rattle.std.specs.Prelude.{ℕ, List, [], ◌∷◌, Bool};
 ghost use Rattle.cs_document.specs.Document.{Document};
 ghost use Rattle.cs_instance.specs.Instance.{Rule, IsInstance};
 ghost use Rattle.cs_grammar.specs.Tree.{FileTree};
+ghost use Rattle.cs_grammar.specs.declared.profile.Profile.{Profile};
 ghost use Rattle.cs_grammar.specs.declared.profile.Profile.TheVariants as profiles;
 ghost use Rattle.cs_package.specs.Environment.{Environment};
 ghost use Rattle.cs_resolve.specs.Resolved.{IsPackage};
-ghost use Rattle.cs_tool.specs.Accepted.{AreFiles, IsAccepted};
-ghost use Rattle.cs_widen.specs.Accepted.{IsAcceptedIn};
+ghost use Rattle.cs_tool.specs.Accepted.{IsAccepted};
+ghost use Rattle.cs_tool.specs.FilesIn.{AreFiles};
+ghost use Rattle.cs_tool.specs.Stands.{AreMeant};
+ghost use Rattle.cs_tool.specs.Texts.{AreTexts};
 ghost use Rattle.cs_widen.specs.Asked.{AreAskedReadDirectly};
 ghost use Rattle.cs_widen.specs.Conditional.{AreConditionsReadDirectly};
 ghost use Rattle.cs_widen.specs.Direct.{AreReadDirectly};
 ghost use Rattle.cs_widen.specs.Embedding.{AreEmbeddingsReadDirectly, AreLiteralsReadDirectly, ArePlainReadDirectly, AreUnionsReadDirectly};
-ghost use Rattle.cs_widen.specs.Stands.{AreMeant};
+ghost use Rattle.cs_widen.specs.Meant.{IsMeantIn};
 
 /// A law: a map is an instance of what a struct literal with defaults stands for exactly where each key that is missing is that of a field
 /// that is optional or has a default, each value is as the alternatives of its field ask, whether marked or not, and each key is allowed.
@@ -76,14 +79,17 @@ pub(crate) fn default_packages_are_meant()
     cs_defaults::default_files_stay(); // for the proof: and nothing is marked
 }
 
-/// A law: in the default profile sources declare what they declare by `cs_tool` alone; and what the default profile accepts, the wide one
-/// accepts, with the same definitions, and so with the same instances.
+/// A law: what the default profile accepts, the wide one accepts, with the same definitions, and so with the same instances.
 pub fn wide_law()
-    ensures default { (sources : List (List ℕ)) (E : Environment)
-        → IsAccepted sources E ↔ IsAcceptedIn profiles.Default sources E }
-    ensures wide { (sources : List (List ℕ)) (E : Environment)
-        → IsAccepted sources E → IsAcceptedIn profiles.Wide sources E }
+    ensures { (sources : List (List ℕ)) (E : Environment)
+        → IsAccepted profiles.Default sources E → IsAccepted profiles.Wide sources E }
 {
     default_packages_are_meant(); // for the proof: they stand for themselves there
     cs_syntax::wide_reads_the_default(); // for the proof: the wide profile reads them as the default one
 }
+
+/// A law: a source that sources mean in a profile declares in the default one what they declare, where it is no longer than sources may be.
+pub fn meant_law()
+    ensures { (p : Profile) (sources : List (List ℕ)) (source : List ℕ) (m : IsMeantIn p sources source)
+        → AreTexts (source ∷ []) → IsAccepted profiles.Default (source ∷ []) m.environment }
+{}

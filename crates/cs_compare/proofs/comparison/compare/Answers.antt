@@ -2,6 +2,7 @@ use Rattle.std.proofs.Common.{◌≡◌, ◌⊎◌, ℕ, List, [], ◌∷◌, Bo
 use Rattle.std.specs.Option.{is_some}
 use Rattle.cs_document.specs.Document.{Document}
 use Rattle.cs_document.specs.View.{doc_view}
+use Rattle.cs_grammar.specs.declared.profile.Profile.{Profile}
 use Rattle.cs_package.specs.Environment.{Environment, Names}
 use Rattle.cs_instance.specs.Instance.{Rule, definition, IsInstance}
 use Rattle.cs_question.specs.Faults.{IsRefusal}
@@ -40,12 +41,12 @@ module _ (E F : Environment) (r s n m : List ℕ) (named : Names E r n) (other :
   either question.UnknownRoot (inr f) = absurd (f m other)
 
 -- what is answered of a document that breaks
-module _ (old : List (List ℕ)) (r : List ℕ) (new : List (List ℕ)) (s : List ℕ) where
-  shows : (before : Edition old r) (after : Edition new s) (x : Document) (a : Comparison) → Breaks before after x → ShowsDocument x a → IsComparison old r new s a
+module _ (p : Profile) (old : List (List ℕ)) (r : List ℕ) (new : List (List ℕ)) (s : List ℕ) where
+  shows : (before : Edition p old r) (after : Edition p new s) (x : Document) (a : Comparison) → Breaks before after x → ShowsDocument x a → IsComparison p old r new s a
   shows before after x Compatible breaks shown = absurd shown
   shows before after x (Breaking t) breaks shown = record { before = before; after = after; answers = (x, shown, breaks) }
 
-  answered : (before : Edition old r) (after : Edition new s) (x : Document) (o : Result Comparison CompareRefusal) → Breaks before after x → IfOk o (ShowsDocument x) → IfOk o (IsComparison old r new s)
+  answered : (before : Edition p old r) (after : Edition p new s) (x : Document) (o : Result Comparison CompareRefusal) → Breaks before after x → IfOk o (ShowsDocument x) → IfOk o (IsComparison p old r new s)
   answered before after x (Ok a) breaks shown = shows before after x a breaks shown
   answered before after x (Err e) breaks shown = tt
 
@@ -53,10 +54,10 @@ module _ (old : List (List ℕ)) (r : List ℕ) (new : List (List ℕ)) (s : Lis
   of_two f (inl is) = subst OfQuestion (sym is) tt
   of_two f (inr is) = subst OfQuestion (sym is) tt
 
-  alone : IsReady old r → IsReady new s → (o : Result Comparison CompareRefusal) → IfErr o (λ e. e.side ≡ None) → IfErr o (λ e. (e.fault ≡ OutOfMemory) ⊎ (e.fault ≡ TooManyCases))
-      → IfErr o (λ e. refused.IsRefusal old r new s e.side e.fault)
+  alone : IsReady p old r → IsReady p new s → (o : Result Comparison CompareRefusal) → IfErr o (λ e. e.side ≡ None) → IfErr o (λ e. (e.fault ≡ OutOfMemory) ⊎ (e.fault ≡ TooManyCases))
+      → IfErr o (λ e. refused.IsRefusal p old r new s e.side e.fault)
   alone ready ready' (Ok a) side fault = tt
-  alone ready ready' (Err e) side fault = subst (λ p. refused.IsRefusal old r new s p e.fault) (sym side) (ready, ready', of_two e.fault fault)
+  alone ready ready' (Err e) side fault = subst (λ o. refused.IsRefusal p old r new s o e.fault) (sym side) (ready, ready', of_two e.fault fault)
 
 pub returns-in-Ok-None-clause-answered : goal.returns-in-Ok-None-clause-answered
 returns-in-Ok-None-clause-answered c =
@@ -79,15 +80,15 @@ returns-in-Ok-Some-clause-answered c =
     let one : (I J : Rule → Document → Bool) (n m : List ℕ) → IsInstance E I → IsInstance F J → Names E c.args.old_root.now n → Names F c.args.new_root.now m
     → Separates (I (definition n) ∷ []) (J (definition m) ∷ []) x = rw c.in-Ok-Some.field-0-is at c.in-Ok-Some.ensures.one in
     let read : IsReadAgain x = rw c.in-Ok-Some.field-0-is at c.in-Ok-Some.ensures.read in
-    let before : Edition (bytes_in c.args.old.now) c.args.old_root.now = record { environment = E; name = old.0; declares = old.1; one_meaning = c.one_meaning.ensures } in
-    let after : Edition (bytes_in c.args.new.now) c.args.new_root.now = record { environment = F; name = new.0; declares = new.1; one_meaning = c.one_meaning-2.ensures } in
-    answered _ _ _ _ before after x c.breaking.result (read, λ I J i j. let s = one I J old.0 new.0 i j old.1.named new.1.named in (s.0.0, s.1.0)) c.breaking.ensures.shown
+    let before : Edition c.args.profile (bytes_in c.args.old.now) c.args.old_root.now = record { environment = E; name = old.0; declares = old.1; one_meaning = c.one_meaning.ensures } in
+    let after : Edition c.args.profile (bytes_in c.args.new.now) c.args.new_root.now = record { environment = F; name = new.0; declares = new.1; one_meaning = c.one_meaning-2.ensures } in
+    answered _ _ _ _ _ before after x c.breaking.result (read, λ I J i j. let s = one I J old.0 new.0 i j old.1.named new.1.named in (s.0.0, s.1.0)) c.breaking.ensures.shown
 
 pub returns-in-Ok-Some-clause-refused : goal.returns-in-Ok-Some-clause-refused
 returns-in-Ok-Some-clause-refused c =
     let old = c.in_ok-before.ensures.found in
     let new = c.in_ok-after.ensures.found in
-    alone _ _ _ _ (c.in_ok-before.before, old.0, old.1) (c.in_ok-after.after, new.0, new.1) c.breaking.result c.breaking.ensures.side c.breaking.ensures.fault
+    alone _ _ _ _ _ (c.in_ok-before.before, old.0, old.1) (c.in_ok-after.after, new.0, new.1) c.breaking.result c.breaking.ensures.side c.breaking.ensures.fault
 
 pub returns-clause-refused : goal.returns-clause-refused
 returns-clause-refused c =

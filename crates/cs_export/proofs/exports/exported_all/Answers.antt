@@ -13,9 +13,9 @@ pub returns-clause-found : goal.returns-clause-found
 returns-clause-found c =
     let made = c.in_ok-schema.ensures.found in
     let one = c.one_meaning-2.ensures in
-    let nested : depth (document_of c.in_ok-schema.schema) ≤ 114 = made.nested (low_accepted _ _ c.in_ok-package.ensures.accepted) in
+    let nested : depth (document_of c.in_ok-schema.schema) ≤ 114 = made.nested (low_accepted _ _ _ c.in_ok-package.ensures.accepted) in
     IfOk-weaker _ (λ (v : Vec ℕ Global). IsShaped c.args.layout (document_of c.in_ok-schema.schema) v.items)
-    (λ (v : Vec ℕ Global). ArePackageSchemas _ c.args.layout v.items)
+    (λ (v : Vec ℕ Global). ArePackageSchemas _ _ c.args.layout v.items)
     (λ v shaped. record {
       environment = c.in_ok-package.«package»;
       accepted = c.in_ok-package.ensures.accepted;

@@ -19,9 +19,9 @@ returns-clause-found c =
     let one = c.one_meaning-2.ensures in
     let schema = document_of c.in_ok-schema.schema in
     let ds = unless_no_map (definitions_view c.in_ok-schema.schema.definitions) in
-    let nested : depth schema ≤ 114 = made.2.nested (low_accepted _ _ at.1.accepted) in
+    let nested : depth schema ≤ 114 = made.2.nested (low_accepted _ _ _ at.1.accepted) in
     IfOk-weaker _ (λ (v : Vec ℕ Global). IsShaped c.args.layout schema v.items)
-    (λ (v : Vec ℕ Global). IsRootSchema _ c.args.root.now c.args.layout v.items)
+    (λ (v : Vec ℕ Global). IsRootSchema _ _ c.args.root.now c.args.layout v.items)
     (λ v shaped.
     let document = shaped.document in
     let within = deeper_within c.args.layout.has_defaults _ _ nested shaped.nested in

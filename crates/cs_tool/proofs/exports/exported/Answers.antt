@@ -1,6 +1,7 @@
 use Rattle.std.proofs.Common.{◌≡◌, ℕ, ◌≤◌, List, Vec, sym, ap, subst, subst₂, arith}
 use Rattle.std.proofs.lemmas.Result.{IfOk-weaker}
 use Rattle.std.specs.declared.alloc.Global.{Global}
+use Rattle.cs_grammar.specs.declared.profile.Profile.{Profile}
 use Rattle.cs_document.specs.Document.{Document, depth}
 use Rattle.cs_json.specs.Texts.{Reads, text_of}
 use Rattle.cs_package.specs.Environment.{Environment, Names}
@@ -17,13 +18,13 @@ use Rattle.cs_tool.proofs.Texts.{one_document}
 use Rattle.cs_tool.proofs.exports.exported.Goals as goal
 
 pub returns-clause-found : goal.returns-clause-found
-returns-clause-found c = λ sources accepted.
+returns-clause-found c = λ p sources accepted.
     let made = c.in_ok-schema.ensures.found in
     let schema = document_of c.in_ok-schema.schema in
     let ds = unless_no_map (definitions_view c.in_ok-schema.schema.definitions) in
-    let nested = made.2.nested (low_accepted _ _ accepted) in
+    let nested = made.2.nested (low_accepted _ _ _ accepted) in
     IfOk-weaker _ (λ (v : Vec ℕ Global). (v.items ≡ text_of schema) × (depth schema ≤ 127 → Reads v.items schema))
-    (λ (v : Vec ℕ Global). IsExport sources c.args.root.now v.items)
+    (λ (v : Vec ℕ Global). IsExport p sources c.args.root.now v.items)
     (λ v h. record {
       environment = c.args.guarded.now;
       name = made.0;
@@ -42,18 +43,18 @@ returns-clause-found c = λ sources accepted.
     }) c.text_of_schema.ensures.found
 
 -- what the text is read as is the one schema, and the sources declare the one environment
-translation : (sources : List (List ℕ)) (root text : List ℕ) (E : Environment) (schema : Document) → IsAccepted sources E → Reads text schema
-    → ((n : List ℕ) → Names E root n → IsTranslation E n schema) → IsTranslated sources root text
-translation sources root text E schema accepted read is F n read_as declares reads =
+translation : (p : Profile) (sources : List (List ℕ)) (root text : List ℕ) (E : Environment) (schema : Document) → IsAccepted p sources E → Reads text schema
+    → ((n : List ℕ) → Names E root n → IsTranslation E n schema) → IsTranslated p sources root text
+translation p sources root text E schema accepted read is F n read_as declares reads =
     let same = one_document text schema read_as read reads in
     let there = one_environment accepted declares.accepted in
     subst₂ (λ G d. IsTranslation G n d) there same (is n (subst (λ G. Names G root n) (sym there) declares.named))
 
 pub returns-clause-translated : goal.returns-clause-translated
-returns-clause-translated c = λ sources accepted.
+returns-clause-translated c = λ p sources accepted.
     let schema = document_of c.in_ok-schema.schema in
-    let nested = c.in_ok-schema.ensures.found.2.nested (low_accepted _ _ accepted) in
+    let nested = c.in_ok-schema.ensures.found.2.nested (low_accepted _ _ _ accepted) in
     IfOk-weaker _ (λ (v : Vec ℕ Global). (v.items ≡ text_of schema) × (depth schema ≤ 127 → Reads v.items schema))
-    (λ (v : Vec ℕ Global). IsTranslated sources c.args.root.now v.items)
-    (λ v h. translation sources c.args.root.now v.items c.args.guarded.now schema accepted (h.1 (omega (arith, nested))) c.in_ok-schema.ensures.translated)
+    (λ (v : Vec ℕ Global). IsTranslated p sources c.args.root.now v.items)
+    (λ v h. translation p sources c.args.root.now v.items c.args.guarded.now schema accepted (h.1 (omega (arith, nested))) c.in_ok-schema.ensures.translated)
     c.text_of_schema.ensures.found

@@ -1,5 +1,6 @@
 use Rattle.std.proofs.Common.{◌≡◌, ℕ, List, Result, Err, IsErrOf, refl, sym, subst}
 use Rattle.std.proofs.lemmas.Result.{err_from_is_err_and}
+use Rattle.cs_grammar.specs.declared.profile.Profile.{Profile}
 use Rattle.cs_package.specs.Environment.{Environment, Names}
 use Rattle.cs_instance.specs.declared.fault.InstanceFault.{InstanceFault}
 use Rattle.cs_instance.specs.declared.fault.InstanceFault.TheVariants as instance
@@ -19,16 +20,16 @@ memory E root n named instance.OutOfMemory unknown many = refl
 memory E root n named instance.UnknownRoot unknown many = absurd (unknown refl n named)
 memory E root n named (instance.TooManyPairs i r) unknown many = absurd (many i r refl)
 
-declared : (sources : List (List ℕ)) (root : List ℕ) (E F : Environment) (m : List ℕ) → F ≡ E → Names E root m → IsAccepted sources E → DeclaresRoot sources root F m
-declared sources root E F m kept named accepted = record { accepted = subst (IsAccepted sources) (sym kept) accepted; named = subst (λ G. Names G root m) (sym kept) named }
+declared : (p : Profile) (sources : List (List ℕ)) (root : List ℕ) (E F : Environment) (m : List ℕ) → F ≡ E → Names E root m → IsAccepted p sources E → DeclaresRoot p sources root F m
+declared p sources root E F m kept named accepted = record { accepted = subst (IsAccepted p sources) (sym kept) accepted; named = subst (λ G. Names G root m) (sym kept) named }
 
 pub returns-in_err-root_rules-clause-memory : goal.returns-in_err-root_rules-clause-memory
-returns-in_err-root_rules-clause-memory c = λ sources n declares.
+returns-in_err-root_rules-clause-memory c = λ p sources n declares.
     let refused = c.in_err-root_rules.ensures in
     let p = err_from_is_err_and c.from_residual.result c.from_residual.ensures.1 in
     rw (p.1, p.2) (memory c.args.guarded.now c.args.root.now n declares.named c.in_err-root_rules.field-0.0 refused.unknown refused.fits)
 
 pub returns-clause-found : goal.returns-clause-found
-returns-clause-found c = λ sources n declares.
+returns-clause-found c = λ p sources n declares.
     let numbered = c.in_ok-root_rules.ensures in
-    declared sources c.args.root.now c.args.guarded.now _ _ numbered.package_kept numbered.named declares.accepted
+    declared p sources c.args.root.now c.args.guarded.now _ _ numbered.package_kept numbered.named declares.accepted

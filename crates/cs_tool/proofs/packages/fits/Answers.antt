@@ -2,7 +2,7 @@ use Rattle.std.proofs.Common.{◌≡◌, ℕ, ◌+◌, ◌<◌, ◌≤◌, List,
 use Rattle.std.proofs.lemmas.Bool.{false≢true}
 use Rattle.std.proofs.lemmas.List.{length-map, get_or-map, take-map}
 use Rattle.std.proofs.lemmas.List.Sums.{sum_by_more_le}
-use Rattle.cs_tool.specs.Accepted.{most_bytes, bytes_of}
+use Rattle.cs_tool.specs.Texts.{most_bytes, bytes_of}
 use Rattle.cs_tool.proofs.packages.fits.Goals as goal
 
 -- where a source is longer than what those before it leave, all are too long

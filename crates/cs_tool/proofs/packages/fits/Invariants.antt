@@ -1,5 +1,5 @@
 use Rattle.std.proofs.Common.{◌≡◌, ◌+◌, map, take}
-use Rattle.cs_tool.specs.Accepted.{most_bytes, bytes_of}
+use Rattle.cs_tool.specs.Texts.{most_bytes, bytes_of}
 use Rattle.cs_tool.proofs.packages.fits.Given as goal
 
 abbrev pub invariant-loop-source : goal.invariant-loop-source

@@ -1,5 +1,6 @@
 use Rattle.std.proofs.Common.{ℕ, List, Bor, map, refl, sym, subst}
 use Rattle.std.proofs.lemmas.Result.{err_from_is_err_and}
+use Rattle.cs_grammar.specs.declared.profile.Profile.{Profile}
 use Rattle.cs_package.specs.Environment.{Environment, Names}
 use Rattle.cs_profile.specs.SchemaDocument.{document_of}
 use Rattle.cs_profile.specs.declared.keyword.Vocabulary.TheVariants as vocabularies
@@ -14,12 +15,12 @@ use Rattle.cs_tool.proofs.read_rules.read_both.Goals as goal
 abbrev now : Bor (List ℕ) → List ℕ
 now s = s.now
 
-declared : {sources : List (List ℕ)} {root : List ℕ} {E : Environment} → IsAccepted sources E → (r : IsReady sources root) → DeclaresRoot sources root E r.1
+declared : {p : Profile} {sources : List (List ℕ)} {root : List ℕ} {E : Environment} → IsAccepted p sources E → (r : IsReady p sources root) → DeclaresRoot p sources root E r.1
 declared {root = root} accepted r = record { accepted = accepted; named = subst (λ F. Names F root r.1) (one_environment r.2.accepted accepted) r.2.named }
 
 -- the exported text is that of a schema of the default profile
-is_schema_text : (sources : List (List ℕ)) (root schema_text : List ℕ) → IsExport sources root schema_text → IsSchemaText vocabularies.Default schema_text
-is_schema_text sources root schema_text exported = record { document = exported.schema; read = exported.read; profile = exported.profile }
+is_schema_text : (p : Profile) (sources : List (List ℕ)) (root schema_text : List ℕ) → IsExport p sources root schema_text → IsSchemaText vocabularies.Default schema_text
+is_schema_text p sources root schema_text exported = record { document = exported.schema; read = exported.read; profile = exported.profile }
 
 pub returns-in_err-guarded-clause-only : goal.returns-in_err-guarded-clause-only
 returns-in_err-guarded-clause-only c = λ ready.
@@ -34,7 +35,7 @@ returns-in_err-exported c =
     let p = err_from_is_err_and c.from_residual-in_err-exported.result c.from_residual-in_err-exported.ensures.1 in
     rw (p.1, p.2) (record {
       found = tt;
-      refused = export.refused sources accepted;
+      refused = export.refused c.args.profile sources accepted;
       only = λ ready. export.only ready.1 (declared accepted ready).named;
     })
 
@@ -42,8 +43,8 @@ returns-in_err-exported c =
 pub returns-in_err-schema : goal.returns-in_err-schema
 returns-in_err-schema c =
     let sources = map now c.args.sources.now in
-    let export = c.in_ok-exported.ensures.found sources c.in_ok-guarded.ensures.accepted in
-    let is = subst (IsSchemaText vocabularies.Default) (sym c.deref.ensures.value) (is_schema_text sources c.args.root.now _ export) in
+    let export = c.in_ok-exported.ensures.found c.args.profile sources c.in_ok-guarded.ensures.accepted in
+    let is = subst (IsSchemaText vocabularies.Default) (sym c.deref.ensures.value) (is_schema_text c.args.profile sources c.args.root.now _ export) in
     let p = err_from_is_err_and c.from_residual-in_err-schema.result c.from_residual-in_err-schema.ensures.1 in
     rw (p.1, p.2, c.in_err-schema.ensures.only is) (record { found = tt; refused = tt; only = λ ready. refl })
 
@@ -51,13 +52,13 @@ pub returns-clause-found : goal.returns-clause-found
 returns-clause-found c =
     let sources = map now c.args.sources.now in
     let accepted = c.in_ok-guarded.ensures.accepted in
-    let exported = c.in_ok-exported.ensures.found sources accepted in (
+    let exported = c.in_ok-exported.ensures.found c.args.profile sources accepted in (
       exported.name,
       record {
         declares = declared accepted (exported.environment, exported.name, exported.declares);
         schema_text = _;
         exported = exported;
-        translated = c.in_ok-exported.ensures.translated sources accepted;
+        translated = c.in_ok-exported.ensures.translated c.args.profile sources accepted;
         read = subst (λ s. IsSchemaOf vocabularies.Default s (document_of c.in_ok-schema.schema)) c.deref.ensures.value c.in_ok-schema.ensures.found;
       },
     )

@@ -1,6 +1,7 @@
 use Rattle.std.proofs.Common.{◌≡◌, ℕ, true, false, List, Option, Some, None, IfSome, IfNone, Bor, map, sym, subst, ◌∙◌}
 use Rattle.std.specs.Option.{is_some}
 use Rattle.std.proofs.lemmas.Result.{err_from_is_err_and}
+use Rattle.cs_grammar.specs.declared.profile.Profile.{Profile}
 use Rattle.cs_package.specs.Environment.{Environment, Names, name_at}
 use Rattle.cs_tool.specs.Accepted.{IsAccepted, DeclaresRoot}
 use Rattle.cs_tool.proofs.Declared.{one_environment}
@@ -13,10 +14,10 @@ none_known : {X : Type 0} (o : Option X) (P : Type 0) → is_some o ≡ false �
 none_known None P is h = h
 none_known (Some x) P is h = cc
 
-declared : (sources : List (List ℕ)) (root : List ℕ) {E P : Environment} (o : Option ℕ) → P ≡ E → IsAccepted sources E → is_some o ≡ true
-    → IfSome o (λ i. (n : List ℕ) × Names P root n × (name_at P i ≡ Some n)) → (n : List ℕ) × DeclaresRoot sources root E n
-declared sources root None kept accepted is h = cc
-declared sources root (Some i) kept accepted is h = (h.0, record { accepted = accepted; named = subst (λ F. Names F root h.0) kept h.1 })
+declared : (p : Profile) (sources : List (List ℕ)) (root : List ℕ) {E P : Environment} (o : Option ℕ) → P ≡ E → IsAccepted p sources E → is_some o ≡ true
+    → IfSome o (λ i. (n : List ℕ) × Names P root n × (name_at P i ≡ Some n)) → (n : List ℕ) × DeclaresRoot p sources root E n
+declared p sources root None kept accepted is h = cc
+declared p sources root (Some i) kept accepted is h = (h.0, record { accepted = accepted; named = subst (λ F. Names F root h.0) kept h.1 })
 
 pub returns-in_err-guarded-clause-only : goal.returns-in_err-guarded-clause-only
 returns-in_err-guarded-clause-only c = λ ready.
@@ -33,4 +34,4 @@ returns-then-is_none-clause-only c = λ ready.
 
 pub returns-clause-found : goal.returns-clause-found
 returns-clause-found c =
-    declared (map now c.args.sources.now) c.args.root.now c.find.result c.package.ensures.kept c.in_ok-guarded.ensures.accepted c.if-is_none.ensures c.find.ensures.found
+    declared c.args.profile (map now c.args.sources.now) c.args.root.now c.find.result c.package.ensures.kept c.in_ok-guarded.ensures.accepted c.if-is_none.ensures c.find.ensures.found

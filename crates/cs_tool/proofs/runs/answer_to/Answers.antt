@@ -1,5 +1,6 @@
 use Rattle.std.proofs.Common.{◌≡◌, ℕ, List, Bor, map, ap, subst, subst₂, ◌∙◌}
 use Rattle.std.proofs.lemmas.Result.{err_from_is_err_and}
+use Rattle.cs_grammar.specs.declared.profile.Profile.TheVariants as profiles
 use Rattle.cs_profile.specs.declared.keyword.Vocabulary.TheVariants as vocabularies
 use Rattle.cs_tool.specs.CallRefusals.{ValidateRefusal}
 use Rattle.cs_tool.specs.Runs.{Call, vet, agree, sources_or, IsCallRefusal}
@@ -16,7 +17,7 @@ pub returns-in_err-truth-in-Vet-clause-refused : goal.returns-in_err-truth-in-Ve
 returns-in_err-truth-in-Vet-clause-refused c =
     let sources = ap (map now) c.deref-in-Vet-2.ensures.value ∙ c.in_ok-sources-in-Vet.ensures ∙ ap (λ fs. sources_or fs c.args.input.now) c.deref-in-Vet.ensures.value in
     let p = err_from_is_err_and c.from_residual-in_err-truth-in-Vet.result c.from_residual-in_err-truth-in-Vet.ensures.1 in
-    rw (p.1, p.2, c.in-Vet.is) (same vet c.in_err-truth-in-Vet.field-0.0 _ _ _ _ _ _ sources c.deref-in-Vet-3.ensures c.deref-in-Vet-4.ensures.value c.in_err-truth-in-Vet.ensures.refused)
+    rw (p.1, p.2, c.in-Vet.is) (same (vet profiles.Default) c.in_err-truth-in-Vet.field-0.0 _ _ _ _ _ _ sources c.deref-in-Vet-3.ensures c.deref-in-Vet-4.ensures.value c.in_err-truth-in-Vet.ensures.refused)
 
 pub returns-in_err-truth-in-Validate-clause-refused : goal.returns-in_err-truth-in-Validate-clause-refused
 returns-in_err-truth-in-Validate-clause-refused c =
@@ -27,4 +28,4 @@ pub returns-in_err-truth-in-Agree-clause-refused : goal.returns-in_err-truth-in-
 returns-in_err-truth-in-Agree-clause-refused c =
     let sources = ap (map now) c.deref-in-Agree-2.ensures.value ∙ c.in_ok-sources-in-Agree.ensures ∙ ap (λ fs. sources_or fs c.args.input.now) c.deref-in-Agree.ensures.value in
     let p = err_from_is_err_and c.from_residual-in_err-truth-in-Agree.result c.from_residual-in_err-truth-in-Agree.ensures.1 in
-    rw (p.1, p.2, c.in-Agree.is) (same agree c.in_err-truth-in-Agree.field-0.0 _ _ _ _ _ _ sources c.deref-in-Agree-3.ensures c.deref-in-Agree-4.ensures.value c.in_err-truth-in-Agree.ensures.refused)
+    rw (p.1, p.2, c.in-Agree.is) (same (agree profiles.Default) c.in_err-truth-in-Agree.field-0.0 _ _ _ _ _ _ sources c.deref-in-Agree-3.ensures c.deref-in-Agree-4.ensures.value c.in_err-truth-in-Agree.ensures.refused)

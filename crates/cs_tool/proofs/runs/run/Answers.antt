@@ -2,6 +2,7 @@ use Rattle.std.proofs.Common.{◌≡◌, ℕ, List, Option, inl, inr, sym, subst
 use Rattle.std.proofs.lemmas.Result.{err_from_is_err_and}
 use Rattle.std.specs.Io.KnownBytes.{Keeps}
 use Rattle.std.proofs.KnownBytes.{Keeps-refl}
+use Rattle.cs_grammar.specs.declared.profile.Profile.{Profile}
 use Rattle.cs_tool.specs.First.{First}
 use Rattle.cs_tool.specs.Runs.{Call, export, vet, validate, agree, call_of, IsReadyCall, IsCallRefusal, LineRefusal, Leaves}
 use Rattle.cs_tool.specs.declared.fault.Fault.{Fault}
@@ -11,15 +12,15 @@ use Rattle.cs_tool.specs.declared.request.Request.TheVariants.{Export, Vet, Vali
 use Rattle.cs_tool.proofs.runs.run.Goals as goal
 
 -- a call writes nothing
-no_write_failed : {sources : List (List ℕ)} {root : List ℕ} → First sources root WriteFailed → ⊥
+no_write_failed : {p : Profile} {sources : List (List ℕ)} {root : List ℕ} → First p sources root WriteFailed → ⊥
 no_write_failed (inl h) = h
 no_write_failed (inr h) = let is : WriteFailed ≡ UnknownRoot = h.0 in cc
 
 no_call_writes : (c : Call) → IsCallRefusal c WriteFailed → ⊥
-no_call_writes (export sources root) h = no_write_failed h
-no_call_writes (vet sources root doc) h = no_write_failed h
+no_call_writes (export p sources root) h = no_write_failed h
+no_call_writes (vet p sources root doc) h = no_write_failed h
 no_call_writes (validate taken schema doc) h = h
-no_call_writes (agree sources root doc) h = no_write_failed h
+no_call_writes (agree p sources root doc) h = no_write_failed h
 
 no_line_writes : (request : Request) (remaining : Option (List ℕ)) → LineRefusal request remaining WriteFailed → ⊥
 no_line_writes (Export files root) remaining (inl h) = h

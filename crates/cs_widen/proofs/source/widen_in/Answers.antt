@@ -7,9 +7,9 @@ use Rattle.cs_grammar.specs.Written.{IsWrittenFile}
 use Rattle.cs_print.specs.Printed.{IsPrinted}
 use Rattle.cs_tool.specs.Conversions.{of_resolve, of_guard}
 use Rattle.cs_tool.specs.Given.{bytes_in}
-use Rattle.cs_widen.proofs.Once.{are_package, is_guarded}
-use Rattle.cs_widen.proofs.Printed.{meant_written, meant_default, meant_read}
-use Rattle.cs_widen.proofs.Refusals.{by_resolve, by_guard}
+use Rattle.cs_tool.proofs.Declared.{are_package, is_guarded}
+use Rattle.cs_tool.proofs.Refused.{by_resolve, by_guard}
+use Rattle.cs_tool.proofs.Written.{meant_low}
 use Rattle.cs_widen.proofs.source.widen_in.Goals as goal
 
 pub returns-in_err-meant-clause-only : goal.returns-in_err-meant-clause-only
@@ -18,34 +18,11 @@ returns-in_err-meant-clause-only c = λ E accepted.
     rw (r.1, r.2) (c.in_err-meant.ensures.only E accepted)
 
 pub source_of-requires-clause-written : goal.source_of-requires-clause-written
-source_of-requires-clause-written c =
-    let gs = map file_view c.in_ok-meant.meant.items in
-    let m = c.in_ok-meant.ensures.found in
-    let written = meant_written m.files gs c.args.profile (bytes_in c.args.sources.now) m.spelled m.stand_for
-    c.spelled_files_are_written.ensures c.spelled_files_are_namable.ensures c.named_files_can_be_written.ensures
-    c.unselected_files_can_be_written.ensures c.chosen_files_can_be_written.ensures c.joined_files_can_be_written.ensures c.unmarked_files_can_be_written.ensures in
-    subst (λ xs. AllByRecursion IsWrittenFile (map file_view xs)) (sym c.deref.ensures.value) written
+source_of-requires-clause-written c = subst (λ xs. AllByRecursion IsWrittenFile (map file_view xs)) (sym c.deref.ensures.value) c.in_ok-meant.ensures.written
 
 pub source_of-requires-clause-default_forms : goal.source_of-requires-clause-default_forms
 source_of-requires-clause-default_forms c =
-    let m = c.in_ok-meant.ensures.found in
-    let forms = meant_default m.files (map file_view c.in_ok-meant.meant.items) c.args.profile (bytes_in c.args.sources.now) m.spelled m.stand_for
-    c.default_files_have_default_forms.ensures c.unmarked_files_have_default_forms.ensures in
-    subst (λ xs. AllByRecursion IsDefaultFile (map file_view xs)) (sym c.deref.ensures.value) forms
-
-pub resolve_written-requires-clause-written : goal.resolve_written-requires-clause-written
-resolve_written-requires-clause-written c =
-    let gs = map file_view c.in_ok-meant.meant.items in
-    let m = c.in_ok-meant.ensures.found in
-    meant_written m.files gs c.args.profile (bytes_in c.args.sources.now) m.spelled m.stand_for
-    c.spelled_files_are_written.ensures c.spelled_files_are_namable.ensures c.named_files_can_be_written.ensures
-    c.unselected_files_can_be_written.ensures c.chosen_files_can_be_written.ensures c.joined_files_can_be_written.ensures c.unmarked_files_can_be_written.ensures
-
-pub resolve_written-requires-clause-default_forms : goal.resolve_written-requires-clause-default_forms
-resolve_written-requires-clause-default_forms c =
-    let m = c.in_ok-meant.ensures.found in
-    meant_default m.files (map file_view c.in_ok-meant.meant.items) c.args.profile (bytes_in c.args.sources.now) m.spelled m.stand_for
-    c.default_files_have_default_forms.ensures c.unmarked_files_have_default_forms.ensures
+    subst (λ xs. AllByRecursion IsDefaultFile (map file_view xs)) (sym c.deref.ensures.value) c.in_ok-meant.ensures.default_forms
 
 pub returns-in_err-resolve_written-clause-refused : goal.returns-in_err-resolve_written-clause-refused
 returns-in_err-resolve_written-clause-refused c =
@@ -94,5 +71,5 @@ returns-clause-found c =
         one_package = c.in_ok-resolve_written.ensures.found;
         guarded = c.in_ok-package.ensures.guarded;
       };
-      read = meant_read m.files gs c.args.profile (bytes_in c.args.sources.now) m.spelled m.stand_for c.unmarked_files_are_no_higher.ensures.definitions c.printed_sources_are_read.ensures s printed;
+      read = c.printed_sources_are_read.ensures s gs printed (meant_low c.args.profile (bytes_in c.args.sources.now) m.files gs m.spelled m.stand_for);
     }
