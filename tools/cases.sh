@@ -125,7 +125,7 @@ for name in "$@"; do
     root=
     if [ -e args ]; then root=$(sed -n 's/^#//p' args | tail -n 1); fi
     form=single
-    for it in runs documents packages widened schemas wide_schemas answers faults firsts sources editions wide_editions instances samples table repeated fronts; do
+    for it in runs documents packages widened wide_widened schemas wide_schemas answers faults firsts sources editions wide_editions instances samples table repeated fronts; do
         if [ -e "$it" ]; then form=$it; fi
     done
     "$form" "cases/$name"

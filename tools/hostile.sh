@@ -392,12 +392,27 @@ limits 500001 500000 > schema
 try 'text of 50 MB, 78 limits: validate --why' 79 \
     'holds 1 text:1:1: (root): found a text of 50000000 characters, want at least 50000100 [#/allOf/0/minLength]' \
     'validate --profile wide --why --schema schema --doc text'
+# calls LEAST MOST: the same limits in a source
+calls() {
+    printf 'import "strings"\n#A: '
+    listed 39 "strings.MinRunes($1%02d)" ' & '
+    printf ' & '
+    listed 39 "strings.MaxRunes($2%02d)" ' & '
+}
+calls 499999 500000 > calls.cue
+try 'text of 50 MB, 78 calls: vet' 79 valid 'vet --profile wide --root #A --doc text calls.cue'
+try 'text of 50 MB, 78 calls: agree' 81 valid 'agree --profile wide --root #A --doc text calls.cue'
+calls 500001 500000 > calls.cue
+try 'text of 50 MB, 78 calls: vet --why' 79 'holds 1 text:1:1: (root): found a text of 50000000 characters, want at least 50000100 [calls.cue:2:5 #A]' \
+    'vet --profile wide --why --root #A --doc text calls.cue'
 { printf '"'; many 12500000 '😀'; printf '"'; } > text
 limits 124999 125000 > schema
 try 'text of 12,500,000 characters of 4 bytes, 78 limits' 79 valid 'validate --profile wide --schema schema --doc text'
 { printf '{"items":'; limits 1 10; printf '}'; } > schema
 { printf '['; listed 400000 '"%0140d"'; printf ']'; } > text
 try '400,000 texts of 140 bytes, 78 limits' 32000080 valid 'validate --profile wide --schema schema --doc text'
+{ calls 1 10; echo; echo '#L: [...#A]'; } > calls.cue
+try '400,000 texts of 140 bytes, 78 calls: vet' 32000080 valid 'vet --profile wide --root #L --doc text calls.cue'
 rm text schema
 # Keys and texts that agree but for their last bytes.
 letters='a b c d e f g h i j k l m n o p q r s t u v w x y z A B C D E F G H I J K L M N O P Q R S T U V W X Y Z 0 1 2 3 4 5 6 7'
@@ -1129,4 +1144,46 @@ try 'wide: 149,000 close in one another: check' 0 \
     'check --profile=wide wide.cue'
 { printf '#A: '; many 170000 'close('; } > wide.cue
 try 'wide: 170,000 open close: export' 0 'error 7' 'export --profile=wide --root #A wide.cue'
+
+# Imports, and calls of what they name, up to the limits of packages.
+{ listed 20000 'import a%d "strings"' ';' | tr ';' '\n'; printf '\n#A: {'; listed 20000 'k%d: a.MinRunes(0)' | sed 's/k\([0-9]*\): a/k\1: a\1/g'; echo '}'; } > wide.cue
+try 'wide: 20,000 imports and calls: widen' 1000000 'shows k19999: strings.MinRunes(0)' 'widen --profile=wide wide.cue'
+try 'wide: 20,000 imports and calls: check' 10000000 'lines 0' 'check --profile=wide wide.cue'
+{ printf 'import (\n'; listed 20000 'a%d "strings"' ';' | tr ';' '\n'; printf '\n)\n#A: int\n'; } > wide.cue
+try 'wide: 20,000 imports that nothing names: widen' 0 'error 9 at 9' 'widen --profile=wide wide.cue'
+{ many 20000 'import "strings";' | tr ';' '\n'; echo '#A: strings.MinRunes(1)'; } > wide.cue
+try 'wide: 20,000 imports of one name: widen' 0 'error 9 at 0' 'widen --profile=wide wide.cue'
+{ many 20000 'import "net";' | tr ';' '\n'; echo '#A: int'; } > wide.cue
+try 'wide: 20,000 imports of another package: check' 20000000 'holds 2 wide.cue:1:1: error 5' 'check --profile=wide wide.cue'
+{ printf 'import "'; fill 1000000 s; printf '"\n#A: int\n'; } > wide.cue
+try 'wide: a path of 1 MB: widen' 0 'error 5 at 0' 'widen --profile=wide wide.cue'
+{ printf 'import "strings"\n#A: strings.MinRunes('; fill 1000000 9; printf ')\n'; } > wide.cue
+try 'wide: a length of 1,000,000 digits: widen' 0 'error 6 at 38' 'widen --profile=wide wide.cue'
+many 130000 'import (' > wide.cue
+try 'wide: 130,000 open imports: widen' 0 'error 7' 'widen --profile=wide wide.cue'
+{ printf 'import "strings"\n#A: '; many 60000 'strings.MinRunes('; } > wide.cue
+try 'wide: 60,000 open calls: widen' 0 'error 7' 'widen --profile=wide wide.cue'
+{ printf 'import s "strings"\n#A: {'; listed 16666 'k%d?: s.MinRunes(1) & s.MaxRunes(9)'; echo '}'; } > wide.cue
+{ printf '{'; listed 1300 '"k%d":"a"'; printf '}'; } > keys
+{ printf '{'; listed 1300 '"k%d":""'; printf '}'; } > short
+try 'wide: 33,332 lengths in 49,999 nodes: widen' 1000000 'shows k16665?: strings.MinRunes(1) & strings.MaxRunes(9)' 'widen --profile=wide wide.cue'
+try 'wide: 33,332 lengths in 49,999 nodes: export' 1000000 'shows "k16665":{"maxLength":9,"minLength":1,"type":"string"}' \
+    'export --profile=wide --root #A wide.cue'
+try 'wide: 33,332 lengths in 49,999 nodes: vet' 65050000 valid 'vet --profile=wide --root #A --doc keys wide.cue'
+try 'wide: 33,332 lengths in 49,999 nodes: vet --why' 65050000 \
+    'holds 1 short:1:13189: /k1299: found a text of 0 characters, want at least 1 [wide.cue:2:' 'vet --profile=wide --why=all --most 20000 --root #A --doc short wide.cue'
+try 'wide: 33,332 lengths in 49,999 nodes: agree' 65050000 valid 'agree --profile=wide --root #A --doc keys wide.cue'
+try 'wide: 33,332 lengths in 49,999 nodes: check' 20000000 'lines 0' 'check --profile=wide wide.cue'
+{ printf 'import s "strings"\n#A: '; listed 50000 's.MinRunes(%d)' '&'; echo; } > wide.cue
+try 'wide: 50,000 lengths: widen' 0 'error 14' 'widen --profile=wide wide.cue'
+{ printf 'import s "strings"\n#A: '; listed 49999 's.MinRunes(%d)' '&'; echo; } > wide.cue
+try 'wide: 49,999 lengths put together: export' 1000000 '{"A":{"minLength":49998,"type":"string"}}' 'export --profile=wide --root #A wide.cue'
+# Labels that hide packages where calls are written.
+{ printf 'import s "strings"\n#A: {a: s.MinRunes(1), strings: int, '; listed 20000 'strings_%d: int'; echo '}'; } > wide.cue
+try 'wide: 20,001 labels as packages are named: widen' 1000000 'shows import strings_20000 "strings"' 'widen --profile=wide wide.cue'
+{ printf 'import "strings"\n#A: '; nested 12 '{strings: int, a: ' 'strings.MinRunes(1)' '}'; echo; } > wide.cue
+try 'wide: 12 structs that hide a package: widen' 0 'error 10 at 237' 'widen --profile=wide wide.cue'
+{ printf 'import "strings"\n#A: ['; many 16000 '{list: strings.MinRunes(1)}, '; echo ']'; } > wide.cue
+try 'wide: 16,000 structs with calls: widen' 1000000 'shows list: strings.MinRunes(1)' 'widen --profile=wide wide.cue'
+
 closing

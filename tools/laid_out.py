@@ -3,8 +3,9 @@
 written as the same text again, and each root that a case names has the same schema by both, to the byte; all definitions have where no
 case names one. A package that `widen` refuses has to be one that `list` refuses by the same lines and with the same status.
 
-The same is asked of `--profile wide`: what it writes is a source of the default profile. A package that the default profile accepts is
-written as the same text with these words, and has the same schemas. A line for each difference, and a closing count.
+The same is asked of `--profile wide`: what it writes is a source of the default profile, or where it imports packages one of the wide profile alone, which
+the default one refuses by 5. A package that the default profile accepts is written as the same text with these words, and has the same schemas. A line for
+each difference, and a closing count.
 
     tools/laid_out.py PROGRAM
 
@@ -45,7 +46,8 @@ def root_in(words: list[str]) -> str:
 
 
 def first_of(source: str) -> str:
-    return source.partition(":")[0]
+    """The first definition, which may stand behind imports."""
+    return re.sub(r"^(import [^;]*;)*", "", source).partition(":")[0]
 
 
 def of_run(folder: Path, line: str) -> Iterator[Package]:
@@ -71,6 +73,7 @@ def of_args(path: Path) -> Iterator[Package]:
 FORMS: dict[str, Callable[[list[str]], list[Package]]] = {
     "packages": lambda row: [(texts(row[0]), spelled(row[1]))],
     "widened": lambda row: [(texts(row[0]), spelled(row[1]))],
+    "wide_widened": lambda row: [(texts(row[0]), spelled(row[1]))],
     "sources": lambda row: [(texts(row[1]), root_in(row[0].split()))],
     "samples": lambda row: [(texts(row[1]), root_in(row[0].split()))],
     "instances": lambda row: [(texts(row[0]), first_of(row[0]))],
@@ -133,10 +136,14 @@ def differences(program: Program, roots: list[str], profile: list[str]) -> Itera
     (program.room / "written").write_bytes(first[1])
     if len(first[1]) > MOST_BYTES:
         return
-    again = program.run(["widen", "--why"], ["written"])
+    needed = profile if re.search(rb"^import ", first[1], re.MULTILINE) else []
+    again = program.run(["widen", "--why", *needed], ["written"])
     yield "" if again == first else f"written as {first}, and that as {again}"
+    if needed:
+        refused = program.run(["widen"], ["written"])
+        yield "" if refused[0] == 2 and refused[2].startswith(b"error 5 at ") else f"written as {first}, of which without the words is said {refused}"
     for words in exports(roots):
-        by_files, by_written = program.run(["export", *words, *profile], program.files), program.run(["export", *words], ["written"])
+        by_files, by_written = program.run(["export", *words, *profile], program.files), program.run(["export", *words, *needed], ["written"])
         yield "" if by_files == by_written else f"export {words}: {by_files}, and of what is written {by_written}"
 
 

@@ -13,11 +13,17 @@ package has, and which documents that schema admits, knows nothing of the progra
 - With a program: the schemas of the rows, with the rows' documents, and random schemas with these keywords at any place, 300 where no number is given. By
   `validate --profile wide` each document has to have the verdict that the model and `jsonschema` give. Without these words a schema with a keyword that
   the wide profile has alone is refused by 21, and any other one gives the same verdicts.
+- With a program: the packages of the rows, and as many random ones, with `--profile wide`. `export` has to write the schema of the model, with limits put
+  together; `vet`, `agree`, and `validate` by that schema have to judge documents as the model does, and what `samples` writes has to be as it is asked for.
+  What `widen` writes has to be read by the model as a package with the same schemas, and by the program so, as the same text. A row that is refused has its
+  number by each of these commands. Without these words `widen` refuses the package by 5, at the first import or call. `compare` asks whether `#P` takes the
+  documents of another definition, or of its own with another limit, and the other way round: a document that separates them, of those that are tried, makes
+  `compatible` wrong, and 17 is told only where keys are counted; a document that is told has to separate them.
 
 A text has as many characters as it has code points, also past U+FFFF, and a combining mark is one. Each of these forms admits values of one kind:
 texts of at least, or at most, so many characters; lists of so many elements; maps of so many keys. An import is named in its file, and a field of
-a literal around hides it, as any name. Refused are: by 4 what isn't spelled so; by 5 another selector of a package, and another package; by 6 a
-number below 0 or above 2^63 - 1; by 9 an import that nothing names, and a package that isn't imported; by 10 a name that leads to a field.
+a literal around hides it, as any name. Refused are: by 4 what isn't spelled so; by 5 another selector of a package, whatever it is called with,
+another package, and an import behind a declaration; by 6 a number below 0 or above 2^63 - 1; by 9 an import that nothing names, and a package that isn't imported; by 10 a name that leads to a field.
 
 Limits of one value are put together where `&` joins these forms of one kind alone, for texts also with `string`: one object has the greatest lower limit and
 the least upper one, or it is `false` where the one is above the other.
@@ -28,9 +34,7 @@ import argparse
 import json
 import random
 import re
-import subprocess
 import sys
-import tempfile
 from collections.abc import Iterator
 from dataclasses import dataclass, field
 from pathlib import Path
@@ -106,6 +110,8 @@ class LengthReader(WideReader):
         token = self.take()
         if not re.fullmatch(r"-?\d+", token):
             raise Refused(4, "a length that is no literal")
+        if not 0 <= int(token) <= LARGEST:
+            raise Refused(6, "a length that is no integer from 0 on")
         self.take(")")
         return ("call", package, function, int(token))
 
@@ -137,8 +143,6 @@ class LengthReader(WideReader):
     def form_of(package: str, function: str, number: int) -> tuple:
         if (package, function) not in FORMS:
             raise Refused(5, "another selector of a package")
-        if not 0 <= number <= LARGEST:
-            raise Refused(6, "a length that is no integer from 0 on")
         return ("length", f"{package}.{function}", number)
 
 
@@ -146,7 +150,7 @@ def read(source: str) -> Package:
     """The package of a source."""
     reader = LengthReader(source)
     if any(token == "import" for token in reader.tokens[1:]) and not imports_stand_ahead(reader.tokens):
-        raise Refused(4, "an import behind a declaration")
+        raise Refused(5, "an import behind a declaration")
     package = reader.package()
     named = {before for before, dot in zip(reader.tokens, reader.tokens[1:]) if dot == "."}
     if not reader.imports.keys() <= named:
@@ -484,121 +488,7 @@ def fault_of_package(seed: int) -> str:
     return ""
 
 
-# A program, on the schemas of the rows, and on random ones.
-
-
-class SchemaChance(Chance):
-    """Random schemas with limits of lengths at any place."""
-
-    def limits(self) -> dict:
-        keywords = [it for pair in KEYWORDS.values() for it in pair]
-        found = self.random.sample(keywords, self.random.choice([1, 1, 2, 3]))
-        return {it: self.random.choice([0, 1, 1, 2, 2, 3, 4, LARGEST]) for it in found}
-
-    def about_values(self) -> dict:
-        values = ["ab", "", "e\u0301", "\U0001f600", 1, None, True, [], {}, ["a"], {"a": 1}]
-        return self.random.choice(
-            [
-                {"type": self.random.choice(["integer", "number", "string", "array", "object", "boolean", "null"])},
-                {"const": self.random.choice(values)},
-                {"enum": self.random.sample(values, 3)},
-                {"minimum": self.random.randint(-1, 2)},
-                {"exclusiveMaximum": self.random.randint(0, 2)},
-            ]
-        )
-
-    def about_schemas(self, names: list[str], depth: int) -> dict:
-        """Keywords that hold schemas, which may name definitions behind this one."""
-        few = [self.schema(names, depth) for _ in range(self.random.randint(1, 3))]
-        choices = [{"allOf": few}, {"anyOf": few}, {"not": few[0]}, {"prefixItems": few}, {"items": few[0]}, {"additionalProperties": few[0]}]
-        choices.append({"prefixItems": few[1:] or few, "items": few[0]})
-        choices.append({"properties": dict(zip("abc", few)), "additionalProperties": self.random.choice([True, False, few[0]])})
-        choices.append({"properties": dict(zip("abc", few)), "required": self.random.sample("abz", 1)})
-        if names:
-            choices += [{"$ref": f"#/$defs/{self.random.choice(names)}"}] * 2
-        return self.random.choice(choices)
-
-    def schema(self, names: list[str], depth: int):
-        if self.random.random() < 0.05:
-            return self.random.random() < 0.7
-        found = self.limits() if self.random.random() < 0.7 else {}
-        if self.random.random() < 0.3:
-            found |= self.about_values()
-        if depth > 0 and self.random.random() < 0.7:
-            found |= self.about_schemas(names, depth - 1)
-        return found
-
-    def root(self) -> dict:
-        """A schema with definitions, of which each refers to those behind it alone."""
-        names = ["A", "B"]
-        definitions = {name: self.schema(names[place + 1 :], 2) for place, name in enumerate(names)}
-        found = self.schema(names, 3)
-        return {"$defs": definitions, **(found if isinstance(found, dict) else {"not": not found})}
-
-
-def has_keyword(schema, keywords: set[str]) -> bool:
-    """Whether a schema, or one inside it, has one of these keywords."""
-    if not isinstance(schema, dict):
-        return False
-    inside = [schema[it] for it in ("not", "items", "additionalProperties") if it in schema]
-    inside += [part for it in ("allOf", "anyOf", "prefixItems") for part in schema.get(it, [])]
-    inside += [part for it in ("properties", "$defs") for part in schema.get(it, {}).values()]
-    return bool(keywords & schema.keys()) or any(has_keyword(it, keywords) for it in inside)
-
-
-def asked(program: str, schema, documents: list, profile: tuple[str, ...]) -> tuple[list[str], str]:
-    """The lines that `validate` prints of documents, and what it says on standard error."""
-    with tempfile.NamedTemporaryFile("w", encoding="utf-8") as file:
-        file.write(json.dumps(schema))
-        file.flush()
-        words = [program, "validate", *profile, "--schema", file.name, "--lines"]
-        text = "".join(f"{json.dumps(it)}\n" for it in documents)
-        run = subprocess.run(words, input=text, capture_output=True, encoding="utf-8", timeout=120)
-    return run.stdout.splitlines(), run.stderr.strip()
-
-
-def faults_of_schema(program: str, schema, documents: list) -> Iterator[str]:
-    """How what a program says of documents isn't what the model and other validators say."""
-    wanted = [is_valid(schema, schema, doc) for doc in documents]
-    for judge in JUDGES:
-        if [judge(schema).is_valid(doc) for doc in documents] != wanted:
-            yield "Python's jsonschema differs from the model"
-    said = ["valid" if it else "invalid" for it in wanted]
-    lines, refusal = asked(program, schema, documents, WIDE)
-    for doc, one, other in zip(documents, lines, said):
-        if one != other:
-            yield f"{json.dumps(doc)} is {one}, and {other} by the model"
-    if len(lines) != len(said) or refusal:
-        yield f"{len(lines)} verdicts, and {refusal!r} is said"
-    default = ([], "error 21") if has_keyword(schema, WIDE_KEYWORDS) else (said, "")
-    answer = asked(program, schema, documents, ())
-    if answer != default:
-        yield f"without --profile wide: {answer}"
-
-
-def schemas_of_rows() -> Iterator[tuple[str, object, list]]:
-    """The schemas of the rows that aren't refused, with the documents of the row."""
-    for row in rows():
-        if not row.refusal:
-            for together in (False, True):
-                schema = Translation(read(row.source), together).document("#P")
-                yield f"{row}{': limits put together' * together}", schema, [doc for doc, _is_wanted in row.documents]
-
-
-def random_schemas(words: argparse.Namespace) -> Iterator[tuple[str, object, list]]:
-    for seed in range(words.seed, words.seed + (SCHEMAS if words.random is None else words.random)):
-        chance = SchemaChance(seed)
-        schema = chance.root()
-        yield f"seed {seed}: {json.dumps(schema)}", schema, [chance.document(3) for _ in range(DOCUMENTS)]
-
-
 # What is counted.
-
-
-def tried_program(words: argparse.Namespace) -> Iterator[tuple[str, list[str]]]:
-    program = str(words.program.resolve())
-    for name, schema, documents in [*schemas_of_rows(), *random_schemas(words)]:
-        yield name, list(faults_of_schema(program, schema, documents))
 
 
 def tried_model(words: argparse.Namespace) -> Iterator[tuple[str, list[str]]]:
@@ -608,10 +498,20 @@ def tried_model(words: argparse.Namespace) -> Iterator[tuple[str, list[str]]]:
         yield f"seed {seed}", [it for it in [fault_of_package(seed)] if it]
 
 
+def tried(words: argparse.Namespace) -> Iterator[tuple[str, list[str]]]:
+    if not words.program:
+        return tried_model(words)
+    # It knows the model, which knows no program.
+    from asked_lengths import tried_program
+
+    seeds = range(words.seed, words.seed + (SCHEMAS if words.random is None else words.random))
+    return tried_program(str(words.program.resolve()), seeds)
+
+
 def main(words: argparse.Namespace) -> int:
     assert set(LENGTHS) == {".".join(it) for it in FORMS}
     passed = failed = 0
-    for name, faults in tried_program(words) if words.program else tried_model(words):
+    for name, faults in tried(words):
         passed, failed = passed + (not faults), failed + bool(faults)
         for it in faults:
             print(f"{name}: {it}")

@@ -4,7 +4,7 @@ each wrong verdict, and a closing count of verdicts.
 
     tools/peers.py PROGRAM [PACKAGE..]        a file is a package, and so are the files of a folder together, and the rows of a file
                                               as tools/widening.rows that the program takes; where none is named, each file of
-                                              examples/ and of the folders in cases/, the packages of the rows `widened` there, and
+                                              examples/ and of the folders in cases/, the packages of the rows `widened` and `wide_widened` there, and
                                               tools/widening.rows, tools/naming.rows and tools/conditions.rows
 
 The packages of rows are exported by `--profile wide`, and so are others where `export` refuses them without these words.
@@ -36,6 +36,8 @@ from collections.abc import Callable
 from pathlib import Path
 
 import widened
+from asked_lengths import has_keyword
+from lengths import WIDE_KEYWORDS
 from prefixes import TOP, WIDE, on_a_line, rows_of, spelled
 
 MOST = 1000
@@ -169,8 +171,14 @@ class Package:
         with tempfile.NamedTemporaryFile("w", encoding="utf-8") as file:
             file.write(schema)
             file.flush()
-            by_schema = self.run("validate", "--schema", file.name, "--lines", text=text)
+            by_schema = self.run("validate", *(self.profile if has_wide_keyword(schema) else ()), "--schema", file.name, "--lines", text=text)
         return {"vet": self.on_files("vet", root, "--lines", text=text), "validate": by_schema}
+
+
+def has_wide_keyword(schema: str) -> bool:
+    """Whether a schema, or one inside it, has a keyword that the wide profile has alone."""
+    document = json.loads(schema)
+    return has_keyword({**document, **document.get("components", {})}, WIDE_KEYWORDS)
 
 
 def said(is_valid: bool) -> str:
@@ -200,7 +208,7 @@ class Report:
             self.judge(package, root, schema, docs, is_valid)
         except Refused as refusal:
             # Where the search for documents meets its limits, nothing can be judged.
-            is_limited = str(refusal) == "error 17" or str(refusal).endswith("a limit was met")
+            is_limited = str(refusal) == "error 17" or "a limit was met" in str(refusal)
             self.limited += is_limited
             if not is_limited:
                 self.fail(f"{where}: {wanted} samples: {refusal}")
@@ -249,16 +257,16 @@ class Report:
 
 
 def add_rows(report: Report, program: str) -> None:
-    """The rows `widened` of the cases that have documents."""
-    for file in sorted((TOP / "cases").glob("*/widened")):
+    """The rows `widened` and `wide_widened` of the cases that have documents."""
+    for file in [*sorted((TOP / "cases").glob("*/widened")), *sorted((TOP / "cases").glob("*/wide_widened"))]:
         for number, (sources, root, *cells) in enumerate(rows_of(file), 1):
             if not cells[2:]:
                 continue
             with tempfile.TemporaryDirectory(prefix=f"{file.parent.name}-{number}-") as room:
                 for name, source in enumerate(sources.split(" % "), 1):
                     (Path(room) / f"{name}.cue").write_text(spelled(source), encoding="utf-8")
-                parted = [cell.partition(": ") for cell in cells[2:]]
-                docs = {verdict: [on_a_line(spelled(it)) for it in given.split(" ")] for verdict, _, given in parted}
+                parted = [cell.partition(": ") for cell in cells[2:] if cell]
+                docs = {verdict: [on_a_line(spelled(it)) for it in given.split()] for verdict, _, given in parted}
                 report.add_row(Package(program, Path(room), WIDE), root, docs)
 
 

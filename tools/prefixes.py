@@ -171,6 +171,7 @@ def all_rules() -> list[Rules]:
     for form, read in (
         ("packages", of_packages),
         ("widened", of_widened),
+        ("wide_widened", of_widened),
         ("schemas", of_schemas),
         ("wide_schemas", of_wide_schemas),
         ("documents", of_documents),

@@ -5,14 +5,14 @@
 # std and the ported crates define, isn't counted. Status 2 where an import names a file that isn't there.
 #
 #     tools/reached.sh [FILE..]      other files to begin from, as crates/cs_json/specs/Texts.antt
-#     tools/reached.sh --default     without the crates that say which files those of the wide profile stand for: in the default one, where
-#                                    files stand for themselves (AreMeantIn), nothing is said by them
+#     tools/reached.sh --default     without the crates that say which files those of the wide profile stand for, and which keywords their
+#                                    schemas need: in the default one, where files stand for themselves (AreMeantIn), nothing is said by them
 set -eu
 cd "$(dirname "$0")/.."
 export LC_ALL=C
 
 wide=
-[ "${1-}" != --default ] || { wide="cs_plain cs_names cs_selectors cs_conditions cs_embeddings cs_defaults"; shift; }
+[ "${1-}" != --default ] || { wide="cs_plain cs_imports cs_names cs_selectors cs_conditions cs_embeddings cs_defaults cs_compile.Sizes"; shift; }
 [ $# -gt 0 ] || set -- crates/cs_tool/specs/Headline.antt
 awk -v first="$*" -v wide="$wide" '
     function is_there(file,    line, status) {
@@ -53,7 +53,7 @@ awk -v first="$*" -v wide="$wide" '
             sub(/^pub /, "", line)
             split(line, word, " ")
             split(word[2], part, ".")
-            if (index(" " wide " ", " " part[2] " ")) continue
+            if (index(" " wide " ", " " part[2] " ") || index(" " wide " ", " " part[2] "." part[4] " ")) continue
             if (part[1] == "Rattle" && part[3] == "specs" && part[4] != "declared" && is_there("crates/" part[2] "/specs/Lib.antt"))
                 imported = imported " Rattle." part[2] ".specs." part[4]
         }

@@ -1,8 +1,9 @@
 # The forms of cases whose rows have cells with ` => ` between them; cases/README.md says how each is written. cases.sh sets `program`, and
 # its `run` runs that on $room/in; wanted.sh says whether a run did what is wanted.
 
-# The words that name the profile of the sources.
+# The words that name the profile of the sources, and the one of what they stand for and of its schema.
 profile=
+meant_in=
 
 # for_rows FILE FOLDER COMMAND: runs the command for each `row` of a table; a line that begins with two blanks and `…` goes on with the
 # one before it
@@ -85,7 +86,7 @@ put_package() {
 # call NAME: judges `document` by the package of `files`, or by the schema; `validate_in` names the profile, and judges by the one with notes
 call() {
     case $1 in
-        validate) run validate --schema schema.json --doc document ;;
+        validate) run validate $meant_in --schema schema.json --doc document ;;
         validate_in) run validate $profile --schema described.json --doc document ;;
         *) run "$1" --root "$word" $profile --doc document $files ;;
     esac
@@ -177,12 +178,28 @@ is_widened() {
 
 # is_meant: the schema of the text that the sources stand for, and both compared
 is_meant() {
-    run export --root "$word" meant
+    run export --root "$word" $meant_in meant
     if [ "$status" = 0 ] && cmp -s "$room/out" schema.json; then count "$label: export of it" yes; else count "$label: export of it" no; fi
     run compare --root "$word" $profile --old $files --new meant
     judge "$label: compare with it" 'lines 0 compatible'
     run compare --root "$word" $profile --old meant --new $files
     judge "$label: compare it" 'lines 0 compatible'
+}
+
+# is_wide_alone SCHEMAS: whether the text is refused at its first import without the words of the profile, and so is its schema by the first
+# keyword that the wide one has alone
+is_wide_alone() {
+    text=$(cat meant; printf .)
+    before=${text%%import *}
+    run widen meant
+    judge "$label: without the words" "error 5 at ${#before}"
+    printf 1 > document
+    run validate --schema schema.json --doc document
+    case $1 in
+        *'"minLength"'* | *'"maxLength"'* | *'"maxItems"'* | *'"minProperties"'* | *'"maxProperties"'*) refusal='error 21' ;;
+        *) refusal=invalid ;;
+    esac
+    judge "$label: validate without the words" "$refusal"
 }
 
 # The rows of `widened`: sources of the wide profile, a root, what they stand for or why that is nothing, what is wanted of `export`, and
@@ -194,11 +211,12 @@ widening() {
     put wanted_text "$cell"
     is_widened $profile $files
     cp "$room/out" meant
-    is_widened meant
+    is_widened $meant_in meant
     cut_cell
     exported "$cell"
     case $cell in 'error '*) return ;; esac
     is_meant
+    [ -z "$meant_in" ] || is_wide_alone "$cell"
     run export --describe --root "$word" $profile $files
     cp "$room/out" described.json
     while [ -n "$row" ]; do
@@ -210,6 +228,15 @@ widened() { # folder
     profile='--profile wide'
     for_rows widened "$1" widening
     profile=
+}
+
+# The rows of `wide_widened`: the same of sources that stand for one of the wide profile, which is read so, as its schema is.
+wide_widened() { # folder
+    profile='--profile wide'
+    meant_in=$profile
+    for_rows wide_widened "$1" widening
+    profile=
+    meant_in=
 }
 
 # The rows of `schemas`: a schema, and cells of what is wanted of documents by `validate`.
@@ -258,11 +285,14 @@ sourced() {
 }
 sources() { for_rows sources "$1" sourced; } # folder
 
-# put_source FILE: takes a cell off `row` and writes the source; `word` is the name of its first definition
+# put_source FILE: takes a cell off `row` and writes the source; `word` is the name of its first definition, which may stand behind imports
 put_source() {
     cut_cell
     put "$1" "$cell"
-    IFS=: read -r word _ < "$1" || true
+    case $cell in
+        import*) word=$(sed -n 's/^\(#[^:]*\):.*/\1/p' "$1" | head -n 1) ;;
+        *) IFS=: read -r word _ < "$1" || true ;;
+    esac
 }
 
 # is_among SOURCE ROOT WANTED: whether `document` is an instance of the root

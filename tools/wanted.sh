@@ -6,6 +6,8 @@ room=$(mktemp -d)
 trap 'rm -rf "$room"' EXIT
 passed=0
 failed=0
+# That of the last run, where there was one.
+status=-
 dialect='"$schema":"https://json-schema.org/draft/2020-12/schema"'
 
 # run_line LINE: the program with the words of a line, parted by blanks; behind `<` stands the file that it reads

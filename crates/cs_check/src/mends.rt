@@ -196,7 +196,12 @@ fn mended_head(near: Near<'_, '_>) -> Option<Mend> {
 
 /// The declaration that a token is in goes, with the comma behind it.
 fn mended_declaration(near: Near<'_, '_>) -> Mend {
-    let Part { source, from, to } = declaration_of(near);
+    left_out(declaration_of(near))
+}
+
+/// A part goes, with the comma behind it.
+fn left_out(part: Part<'_, '_>) -> Mend {
+    let Part { source, from, to } = part;
     let comma = usize::from(separates(source.token(to)));
     Mend::over(source.whole().between(from, to.saturating_add(comma)), " ")
 }
@@ -239,6 +244,8 @@ pub(crate) fn mend_at(source: &Source<'_>, offset: usize, made: usize) -> Option
     let is_closing = source.open_at(at) != source.around(at);
     let place = at.saturating_sub(usize::from(is_closing));
     let near = Near { source, place };
+    // The argument of a call isn't mended without that.
+    let near = near.call().unwrap_or(near);
     let declaration = Some(mended_declaration(near));
     let part = mended_label(near).or(mended_operand(near));
     let part = part.or(mended_head(near)).or(declaration);
@@ -248,18 +255,21 @@ pub(crate) fn mend_at(source: &Source<'_>, offset: usize, made: usize) -> Option
     [first, declaration, gone].get(made).copied().flatten()
 }
 
-/// The mend of a name that isn't declared or is a field, or of a literal that would have to be opened. A declaration goes that gives a name: a `let` that
-/// nothing names, or where a literal is at fault a name that another struct declares too, or that is held open. Of conditions that a name is in, what stands
-/// before their struct becomes a label. What is embedded becomes an open struct, or the name there alone; else a name becomes `_`, and as the name of a label
-/// in brackets another label. A literal beside embeddings becomes `_`, and there is none where it is to be opened.
+/// The mend of a name that isn't declared or is a field, or of a literal that would have to be opened. A declaration goes that gives a name: a `let` or an
+/// import at fault, or where a literal is at fault a name that another struct declares too, or that is held open. Of conditions that a name is in, what stands
+/// before their struct becomes a label. What is embedded becomes an open struct, or the name there alone; else a name becomes `_`, with what is called behind
+/// it, and as the name of a label in brackets another label. A literal beside embeddings becomes `_`, and there is none where it is to be opened.
 pub(crate) fn mended(near: Near<'_, '_>, is_literal: bool) -> Option<Mend> {
     if near.begins_let() || is_literal && near.declares_name() {
         return Some(mended_declaration(near));
     }
+    if near.imported().is_some() {
+        return Some(left_out(near.part()));
+    }
     if !is_literal && near.is_in_condition() {
         return mended_head(near);
     }
-    let name = near.selector().unwrap_or(alone(near));
+    let name = near.called().or(near.selector()).unwrap_or(alone(near));
     match near.embedding() {
         Some(embedded) => Some(Mend::over(if is_literal { embedded } else { name }, "{...}")),
         None if is_literal => {

@@ -216,17 +216,19 @@ impl<'f, 'a> Told<'f, 'a> {
         let is_literal = matches!(fault, Fault::NotOpened { .. });
         let is_known = match fault {
             Fault::UnknownName { .. } | Fault::FieldReference { .. } => true,
-            Fault::LeftOut { .. } => near.selector().is_some(),
+            Fault::LeftOut { .. } => near.selector().or(near.called()).is_some()
+                || near.imported().is_some(),
             _ => is_literal && !is_of_text(self.first),
         };
         if is_mended || !is_known {
             return Ok(None);
         }
-        let word = near.name_declared().here().text;
+        let word = near.imported().unwrap_or(near.name_declared().here().text);
         let is_embedded = near.embedding().is_some();
         let is_loose = is_literal && !is_embedded && self.is_loose;
         let is_certain = !is_loose && !self.taken.contains(word);
-        let is_declared = near.begins_let() || is_literal && near.declares_name();
+        let is_bound = near.begins_let() || near.imported().is_some();
+        let is_declared = is_bound || is_literal && near.declares_name();
         // A name that a `let` binds may be named by this selector alone.
         let is_named = near.selector().is_some() && near.here().sort == Sort::Name;
         if is_declared || is_named {

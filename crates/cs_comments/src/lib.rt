@@ -107,7 +107,7 @@ impl<'a> Comments<'a> {
             atom!()
             | Expr::Name { .. }
             | Expr::Reference { .. }
-            | Expr::Wide(Wide::Selected { .. }) => {}
+            | Expr::Wide(Wide::Selected { .. } | Wide::Called { .. } | Wide::Imported { .. }) => {}
         }
         settle(&mut notes.properties);
         self.nodes = self.nodes.saturating_add(1);

@@ -17,7 +17,9 @@ use Rattle.cs_instance.specs.Instance.{Rule, node, definition, constraint_of, re
 use Rattle.cs_compile.specs.Translation.{schema_of, schemas_of, declared_schemas, rest_schema, definition_schema}
 use Rattle.cs_compile.proofs.Asserted.{valid_one_or_all, valid_false}
 use Rattle.cs_compile.proofs.Enumerations.{valid_disjunction}
-use Rattle.cs_compile.proofs.Interval.{and_turned, conjunction_valid}
+use Rattle.cs_compile.proofs.Conjunctions.{conjunction_valid}
+use Rattle.cs_compile.proofs.Interval.{and_turned}
+use Rattle.cs_compile.proofs.SizeLimits.{limit_valid}
 use Rattle.cs_compile.proofs.Structs.{struct_holds}
 use Rattle.cs_compile.proofs.Lists.{list_holds, rest_by, nothing_behind}
 
@@ -192,6 +194,7 @@ module _ (E : Environment) (R : Document) (V : Document → Document → Bool) (
   rule_step (node (cue.atom (cue.not_integer n))) x is w = not_integer_step n x
   rule_step (node (cue.atom (cue.not_text s))) x is w = not_text_step s x
   rule_step (node (cue.atom cue.not_null)) x is w = not_null_step x
+  rule_step (node (cue.atom (cue.size c b n))) x is w = limit_valid R V g c b n x
   rule_step (node (cue.kind k)) x is w = kind_step k x
   rule_step (node (cue.range least greatest)) x is w = range_step least greatest x
   rule_step (node (cue.conjunction es)) x is w =

@@ -14,11 +14,11 @@ use Rattle.cs_profile.specs.Profile.{IsSchema}
 use Rattle.cs_profile.specs.Root.{reference_to}
 use Rattle.cs_profile.specs.SchemaDocument.{SchemaValue, document_of, schema_view, definitions_view, IsWhole}
 use Rattle.cs_profile.specs.Validity.{IsValidity}
-use Rattle.cs_profile.specs.declared.keyword.Vocabulary.TheVariants as vocabularies
 use Rattle.cs_profile.proofs.Vocabularies.{wide_schema}
 use Rattle.cs_compile.specs.Definitions.{definition_entries, AreDefinitionsOf, IsDeclared, IsResolved}
 use Rattle.cs_compile.specs.Depth.{most_schema_depth}
 use Rattle.cs_compile.specs.Translation.{definition_schema}
+use Rattle.cs_compile.specs.Sizes.{vocabulary_for}
 use Rattle.cs_compile.specs.Whole.{CompilesAll}
 use Rattle.cs_compile.proofs.Covered.{agreement}
 use Rattle.cs_compile.proofs.Declared.{definition_under}
@@ -57,12 +57,12 @@ module _ (E : Environment) (resolved : IsResolved E) (guarded : IsGuarded E) (s 
   is_bare : document_of s ≡ bare_root ms
   is_bare = document_of-bare s root
 
-  pub all_in_profile : IsSchema vocabularies.Default (document_of s)
-  all_in_profile = subst (IsSchema vocabularies.Default) (sym is_bare) (is_schema-bare_root E resolved guarded ms are each)
+  pub all_in_profile : IsSchema (vocabulary_for E) (document_of s)
+  all_in_profile = subst (λ d. IsSchema (vocabulary_for E) d) (sym is_bare) (is_schema-bare_root E resolved guarded ms are each)
 
   pub whole_all : IsWhole s
   whole_all = record {
-    profile = wide_schema vocabularies.Default (document_of s) all_in_profile;
+    profile = wide_schema (vocabulary_for E) (document_of s) all_in_profile;
     bare = λ b is. cc;
   }
 

@@ -9,12 +9,12 @@ use Rattle.cs_profile.specs.Keywords.{defined}
 use Rattle.cs_profile.specs.Profile.{IsSchema}
 use Rattle.cs_profile.specs.SchemaDocument.{SchemaValue, document_of, schema_view, definitions_view, IsWhole}
 use Rattle.cs_profile.specs.Validity.{IsValidity}
-use Rattle.cs_profile.specs.declared.keyword.Vocabulary.TheVariants as vocabularies
 use Rattle.cs_profile.proofs.Vocabularies.{wide_schema}
 use Rattle.cs_compile.specs.Translation.{definition_schema, IsTranslation}
 use Rattle.cs_compile.specs.Definitions.{definition_entries, AreDefinitions}
 use Rattle.cs_profile.specs.Root.{reference_to}
 use Rattle.cs_compile.specs.Depth.{most_schema_depth}
+use Rattle.cs_compile.specs.Sizes.{vocabulary_for}
 use Rattle.cs_compile.specs.Whole.{Compiles}
 use Rattle.cs_guard.specs.Guarded.{IsGuarded}
 use Rattle.cs_guard.specs.Reachable.{Reaches}
@@ -61,12 +61,12 @@ module _ (E : Environment) (n : List ℕ) (s : SchemaValue) (root : schema_view 
   is_root : document_of s ≡ root_of ms n
   is_root = document_of-root s n root (each n (itself E n ms are each))
 
-  pub in_profile : IsSchema vocabularies.Default (document_of s)
-  in_profile = subst (IsSchema vocabularies.Default) (sym is_root) (is_schema-root_of E n ms are each guarded (itself E n ms are each))
+  pub in_profile : IsSchema (vocabulary_for E) (document_of s)
+  in_profile = subst (λ d. IsSchema (vocabulary_for E) d) (sym is_root) (is_schema-root_of E n ms are each guarded (itself E n ms are each))
 
   pub whole : IsWhole s
   whole = record {
-    profile = wide_schema vocabularies.Default (document_of s) in_profile;
+    profile = wide_schema (vocabulary_for E) (document_of s) in_profile;
     bare = λ b is. cc;
   }
 

@@ -14,13 +14,15 @@ use Rattle.cs_package.specs.Expression as cue
 use Rattle.cs_package.specs.Expression.{Expression, Expressions, operands, Declaration, Declarations, is_every}
 use Rattle.cs_package.specs.Environment.{Environment}
 use Rattle.cs_compile.proofs.Enumerations.{by_literals, enumeration-depth}
-use Rattle.cs_compile.specs.Translation.{schema_of, schemas_of, declared_schemas, rest_schema, definition_schema, any_of, one_or_all, members_at, labels_of, values_of, properties_of, required_of, unless_empty, closing, struct_schema, fixed, list_schema, of_type, labelled, under_every_key}
+use Rattle.cs_compile.specs.Translation.{schema_of, schemas_of, declared_schemas, rest_schema, definition_schema, any_of, one_or_all, members_at, labels_of, values_of, properties_of, required_of, unless_empty, closing, struct_schema, fixed, list_schema, of_type, labelled, under_every_key, greatest_lower, least_upper, greatest_least, least_most, from_size, up_to_size}
 use Rattle.cs_compile.specs.Definitions.{AreDefinitionsOf, AreDefinitions}
 use Rattle.cs_compile.specs.Grouped.{for_every_key}
 use Rattle.cs_grammar.specs.Limits.{most_height}
 use Rattle.cs_compile.specs.Depth.{most_schema_depth}
 use Rattle.cs_package.specs.Height.{height, height_all, height_fields, height_rest, heights, IsLow}
-use Rattle.cs_compile.proofs.Interval.{by_conjunction, interval-depth}
+use Rattle.cs_compile.proofs.Conjunctions.{by_conjunction}
+use Rattle.cs_compile.proofs.Interval.{by_limits, interval-depth}
+use Rattle.cs_compile.proofs.SizeLimits.{by_sizes, natural_from, natural_least, sizes-depth}
 use Rattle.cs_compile.proofs.Root.{root_of, bare_root}
 use Rattle.cs_guard.specs.Reachable.{Reaches}
 
@@ -166,7 +168,11 @@ mutual
   schema_of-depth (cue.range least (Some greatest)) = omega arith
   schema_of-depth (cue.conjunction cue.no_expressions) = omega arith
   schema_of-depth (cue.conjunction (cue.expression e es)) =
-      by_conjunction (λ d. depth d + 2 ≤ 4 * (1 + height_all (cue.expression e es))) (operands (cue.expression e es)) (schemas_of (cue.expression e es)) (λ h. omega arith) (λ h lower upper. omega (arith, interval-depth lower upper))
+      let P : Document → Type 0 = λ d. depth d + 2 ≤ 4 * (1 + height_all (cue.expression e es)) in
+      let all = operands (cue.expression e es) in
+      by_conjunction P all (schemas_of (cue.expression e es))
+      (λ h. by_limits P (omega arith) (λ lower upper. omega (arith, interval-depth lower upper)) (greatest_lower all) (least_upper all))
+      (λ c h. by_sizes P c (greatest_least all) (least_most all) (natural_least all) (omega arith) (λ up. omega (arith, sizes-depth c (greatest_least all) (least_most all))))
       (of_list (documents_depth (schemas_of (cue.expression e es))) (height_all (cue.expression e es)) (schemas_of-depth (cue.expression e es)))
   schema_of-depth (cue.disjunction es) =
       by_literals (λ d. depth d + 2 ≤ 4 * (1 + height_all es)) (operands es) (schemas_of es)
@@ -192,6 +198,8 @@ mutual
   schema_of-depth (cue.atom (cue.not_integer n)) = omega arith
   schema_of-depth (cue.atom (cue.not_text s)) = omega arith
   schema_of-depth (cue.atom cue.not_null) = omega arith
+  schema_of-depth (cue.atom (cue.size c b n)) =
+      by_sizes (λ d. depth d + 2 ≤ 4) c (from_size b n) (up_to_size b n) (natural_from b n) (omega arith) (λ up. omega (arith, sizes-depth c (from_size b n) (up_to_size b n)))
   schema_of-depth (cue.kind k) = omega arith
   schema_of-depth (cue.reference n) = omega arith
 

@@ -21,9 +21,11 @@ use Rattle.cs_profile.specs.SchemaDocument.{unless_no_list}
 use Rattle.cs_profile.specs.Trim.{with_member}
 use Rattle.cs_compile.proofs.Enumerations.{by_literals, literals-direct}
 use Rattle.cs_compile.specs.Definitions.{IsDefinition}
-use Rattle.cs_compile.specs.Translation.{schema_of, schemas_of, declared_schemas, rest_schema, definition_schema, all_of, any_of, properties_of, required_of, unless_empty, closing, struct_schema, fixed, list_schema, of_type, labelled, under_every_key}
+use Rattle.cs_compile.specs.Translation.{schema_of, schemas_of, declared_schemas, rest_schema, definition_schema, all_of, any_of, properties_of, required_of, unless_empty, closing, struct_schema, fixed, list_schema, of_type, labelled, under_every_key, greatest_lower, least_upper, greatest_least, least_most, from_size, up_to_size}
 use Rattle.cs_compile.specs.Grouped.{for_every_key}
-use Rattle.cs_compile.proofs.Interval.{by_conjunction, interval-direct, interval-names}
+use Rattle.cs_compile.proofs.Conjunctions.{by_conjunction}
+use Rattle.cs_compile.proofs.Interval.{by_limits, interval-direct, interval-names}
+use Rattle.cs_compile.proofs.SizeLimits.{by_sizes, natural_from, natural_least, sizes-direct, sizes-names}
 
 -- ---- the names of a schema
 
@@ -78,12 +80,18 @@ mutual
   schema_of-names (cue.atom (cue.not_integer n)) = refl
   schema_of-names (cue.atom (cue.not_text s)) = refl
   schema_of-names (cue.atom cue.not_null) = refl
+  schema_of-names (cue.atom (cue.size c b n)) =
+      by_sizes (λ d. direct_names d ≡ []) c (from_size b n) (up_to_size b n) (natural_from b n) refl (λ up. sizes-names c (from_size b n) (up_to_size b n) (natural_from b n) up)
   schema_of-names (cue.kind k) = refl
   schema_of-names (cue.range least None) = refl
   schema_of-names (cue.range least (Some greatest)) = refl
   schema_of-names (cue.reference n) = refl
   schema_of-names (cue.conjunction es) =
-      by_conjunction (λ d. direct_names d ≡ direct_all es) (operands es) (schemas_of es) (λ h. sym (interval-direct es h)) (λ h lower upper. interval-names lower upper ∙ sym (interval-direct es h))
+      let P : Document → Type 0 = λ d. direct_names d ≡ direct_all es in
+      let all = operands es in
+      by_conjunction P all (schemas_of es)
+      (λ h. by_limits P (sym (interval-direct es h)) (λ lower upper. interval-names lower upper ∙ sym (interval-direct es h)) (greatest_lower all) (least_upper all))
+      (λ c h. by_sizes P c (greatest_least all) (least_most all) (natural_least all) (sym (sizes-direct c es h)) (λ up. sizes-names c (greatest_least all) (least_most all) (natural_least all) up ∙ sym (sizes-direct c es h)))
       (all_of-names (schemas_of es) ∙ schemas_of-names es)
   schema_of-names (cue.disjunction es) = by_literals (λ d. direct_names d ≡ direct_all es) (operands es) (schemas_of es) (λ alone. sym (literals-direct es alone)) (any_of-names (schemas_of es) ∙ schemas_of-names es)
   schema_of-names (cue.struct ds o) = struct-names (declared_schemas ds) o

@@ -1,5 +1,5 @@
--- A root that refers to one of its definitions, together with those that it reaches, is a schema of the default profile, and so is one
--- that asks nothing, together with all definitions.
+-- A root that refers to one of its definitions, together with those that it reaches, is a schema with the keywords that the package
+-- needs, and so is one that asks nothing, together with all definitions.
 use Rattle.std.proofs.Common.{◌≡◌, ℕ, List, [], ◌∷◌, ◌++◌, flat_map, unwrap_or, Contains, Bool, true, false, Option, Some, None, IsSome, is_some, codes, refl, sym, ap, ◌∙◌, subst}
 use Rattle.std.specs.List.{AllByRecursion as Each}
 use Rattle.cs_document.specs.Document.{Document, text, Members, no_members, member, entries, under}
@@ -13,13 +13,15 @@ use Rattle.cs_profile.specs.Loops.{NoLoop}
 use Rattle.cs_profile.specs.Places.{at_key}
 use Rattle.cs_profile.specs.Profile.{Visit, keyword_at, fault_of, undefined_at, visits, named_visits, IsSchema}
 use Rattle.cs_profile.specs.Shapes.{dialect}
-use Rattle.cs_profile.specs.declared.keyword.Vocabulary.TheVariants as vocabularies
+use Rattle.cs_profile.specs.declared.keyword.Vocabulary.{Vocabulary}
 use Rattle.cs_profile.proofs.Walks.{first_past}
 use Rattle.cs_compile.specs.Definitions.{IsDefinition, AreDefinitionsOf, AreDefinitions, IsDeclared, IsResolved}
 use Rattle.cs_compile.proofs.Declared.{definition_under}
 use Rattle.cs_compile.proofs.Direct.{no_loop}
 use Rattle.cs_compile.proofs.NameCodes.{definition_name}
+use Rattle.cs_compile.proofs.Vocabularies.{takes_bodies}
 use Rattle.cs_compile.proofs.Root.{root_of, defined-root_of, bare_root, defined-bare_root}
+use Rattle.cs_compile.specs.Sizes.{vocabulary_for}
 use Rattle.cs_compile.proofs.Visited.{IsClean, Known, clean-append, clean-nothing, definition_schema-clean}
 
 pub some_value : {A : Type 0} (o : Option A) → IsSome o → (x : A) × (o ≡ Some x)
@@ -39,6 +41,9 @@ module _ (E : Environment) (Asked : List ℕ → Type 0) (closed : (m k : List �
   abbrev is_defined : List ℕ → Bool
   is_defined m = is_some (defined R m)
 
+  abbrev taken : Vocabulary
+  taken = vocabulary_for E
+
   known : (m : List ℕ) → Asked m → Known is_defined m
   known m r = (
     (let own = definition_of m r in definition_name m own.2.spelled),
@@ -51,16 +56,16 @@ module _ (E : Environment) (Asked : List ℕ → Type 0) (closed : (m k : List �
       let refers : RefersTo E m k = subst (λ o. Contains (flat_map referred (unwrap_or o [])) k) (sym own.declared) c in
       known k (closed m k own.asked refers))
 
-  definitions-clean : (p : List ℕ) (ks : Members) → AreDefinitionsOf E Asked ks → IsClean is_defined (named_visits p ks)
-  definitions-clean p no_members h = clean-nothing is_defined
+  definitions-clean : (p : List ℕ) (ks : Members) → AreDefinitionsOf E Asked ks → IsClean taken is_defined (named_visits p ks)
+  definitions-clean p no_members h = clean-nothing taken is_defined
   definitions-clean p (member k d ks) h =
-      clean-append is_defined _ _ (subst (λ s. IsClean is_defined (visits false (at_key p k) s)) (sym h.0.schema) (definition_schema-clean is_defined h.0.operands (all_known k d h.0) (at_key p k))) (definitions-clean p ks h.1)
+      clean-append taken is_defined _ _ (subst (λ s. IsClean taken is_defined (visits false (at_key p k) s)) (sym h.0.schema) (definition_schema-clean taken is_defined h.0.operands (all_known k d h.0) (takes_bodies E k h.0.operands h.0.declared) (at_key p k))) (definitions-clean p ks h.1)
 
   without_loop : IsGuarded E → NoLoop R
   without_loop guarded = no_loop E Asked R (λ m d e. definition_under E Asked m ms d are (sym (is m) ∙ e)) guarded
 
 module _ (E : Environment) (root : List ℕ) (ms : Members) (are : AreDefinitions E root ms) (each : (m : List ℕ) → Reaches E root m → IsSome (under m (entries ms))) where
-  pub is_schema-root_of : IsGuarded E → Reaches E root root → IsSchema vocabularies.Default (root_of ms root)
+  pub is_schema-root_of : IsGuarded E → Reaches E root root → IsSchema (vocabulary_for E) (root_of ms root)
   is_schema-root_of guarded itself =
       let R = root_of ms root in
       let p = at_key [] (codes "$defs") in
@@ -70,14 +75,14 @@ module _ (E : Environment) (root : List ℕ) (ms : Members) (are : AreDefinition
       let name = own.0 in
       let has = own.1 in
       record {
-        shaped = first_past (fault_of vocabularies.Default) (named_visits p ms) rest clean.shaped ∙ rw name refl;
+        shaped = first_past (fault_of (vocabulary_for E)) (named_visits p ms) rest clean.shaped ∙ rw name refl;
         named = first_past (undefined_at (λ m. is_some (defined R m))) (named_visits p ms) rest clean.named ∙ rw has refl;
         no_loop = without_loop E (Reaches E root) (reaches_more E root) ms are each R (defined-root_of ms root) guarded;
       }
 
 -- so is the root that asks nothing, beside all that is declared
 module _ (E : Environment) (resolved : IsResolved E) (guarded : IsGuarded E) where
-  pub is_schema-bare_root : (ms : Members) → AreDefinitionsOf E (IsDeclared E) ms → ((m : List ℕ) → IsDeclared E m → IsSome (under m (entries ms))) → IsSchema vocabularies.Default (bare_root ms)
+  pub is_schema-bare_root : (ms : Members) → AreDefinitionsOf E (IsDeclared E) ms → ((m : List ℕ) → IsDeclared E m → IsSome (under m (entries ms))) → IsSchema (vocabulary_for E) (bare_root ms)
   is_schema-bare_root no_members are each = record {
     shaped = refl;
     named = refl;
@@ -90,7 +95,7 @@ module _ (E : Environment) (resolved : IsResolved E) (guarded : IsGuarded E) whe
       let rest : List Visit = keyword_at true [] (codes "$schema") (text dialect) ∷ [] in
       let clean = definitions-clean E (IsDeclared E) resolved all are each R (defined-bare_root all) p all are in
       record {
-        shaped = first_past (fault_of vocabularies.Default) (named_visits p all) rest clean.shaped;
+        shaped = first_past (fault_of (vocabulary_for E)) (named_visits p all) rest clean.shaped;
         named = first_past (undefined_at (λ m. is_some (defined R m))) (named_visits p all) rest clean.named;
         no_loop = without_loop E (IsDeclared E) resolved all are each R (defined-bare_root all) guarded;
       }

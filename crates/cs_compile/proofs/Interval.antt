@@ -7,17 +7,16 @@ use Rattle.std.specs.Option.{option_map_or}
 use Rattle.std.proofs.Math.Bool.{and-true, and_assoc}
 use Rattle.std.proofs.lemmas.Bool.{and_parts, and_right}
 use Rattle.std.proofs.lemmas.Int.{ints}
-use Rattle.cs_document.specs.Document.{Document, boolean, integer, object, Documents, elements, depth, IsDocument}
+use Rattle.cs_document.specs.Document.{Document, boolean, integer, object, depth, IsDocument}
 use Rattle.cs_document.proofs.Each.{all_same, all_true, each_map}
 use Rattle.cs_guard.specs.References.{direct, direct_all}
 use Rattle.cs_package.specs.Expression as cue
 use Rattle.cs_package.specs.Expression.{Expression, Expressions, operands, int, less, at_most, more, at_least}
 use Rattle.cs_profile.specs.Loops.{direct_names}
 use Rattle.cs_profile.specs.Profile.{first, fault_of, undefined_at, visits}
-use Rattle.cs_profile.specs.declared.keyword.Vocabulary.TheVariants as vocabularies
+use Rattle.cs_profile.specs.declared.keyword.Vocabulary.{Vocabulary}
 use Rattle.cs_profile.specs.Validity.{IsValidity}
-use Rattle.cs_compile.specs.Translation.{schema_of, all_of, is_integer_kind, is_bound, is_interval, lower_limit, upper_limit, greatest_of, least_of, are_apart, interval_keywords, interval_schema, conjunction_schema}
-use Rattle.cs_compile.proofs.Asserted.{valid_all_of}
+use Rattle.cs_compile.specs.Translation.{schema_of, is_integer_kind, is_bound, is_interval, lower_limit, upper_limit, greatest_of, least_of, are_apart, interval_keywords, interval_schema}
 
 pub and_turned : (a b : Bool) → (a && (b && true)) ≡ (b && a)
 and_turned true true = refl
@@ -48,10 +47,10 @@ all_min n [] z = sym (and-true _)
 all_min n (m ∷ ns) z = all_min (int_min n m) ns z ∙ ap (λ b. b && list_all (λ k. int_le z k) ns) (min_above n m z) ∙ and_assoc (int_le z n) (int_le z m) (list_all (λ k. int_le z k) ns)
 
 -- an integer between two limits, where they are
-abbrev above : ℤ → Option ℤ → Bool
+abbrev pub above : ℤ → Option ℤ → Bool
 above z lower = option_map_or (λ l. int_le l z) lower true
 
-abbrev below : ℤ → Option ℤ → Bool
+abbrev pub below : ℤ → Option ℤ → Bool
 below z upper = option_map_or (λ u. int_le z u) upper true
 
 all_above : (ns : List ℤ) (z : ℤ) → above z (greatest_of ns) ≡ list_all (λ n. int_le n z) ns
@@ -81,14 +80,14 @@ all_both p q (x ∷ xs) = ap (λ b. (p x && q x) && b) (all_both p q xs) ∙ by 
     by true false false d = refl
     by false b c d = refl
 
--- the limits of all operands are between those of each
-all_between : (es : List Expression) (z : ℤ)
-    → list_all (λ e. above z (lower_limit e) && below z (upper_limit e)) es ≡ (above z (greatest_of (filter_map lower_limit es)) && below z (least_of (filter_map upper_limit es)))
-all_between es z =
-    all_both (λ e. above z (lower_limit e)) (λ e. below z (upper_limit e)) es
+-- what is between the limits of all is between those of each
+pub all_between : {X : Type 0} (low high : X → Option ℤ) (xs : List X) (z : ℤ)
+    → list_all (λ x. above z (low x) && below z (high x)) xs ≡ (above z (greatest_of (filter_map low xs)) && below z (least_of (filter_map high xs)))
+all_between low high xs z =
+    all_both (λ x. above z (low x)) (λ x. below z (high x)) xs
     ∙ ap₂ ◌&&◌
-    (sym (all_above (filter_map lower_limit es) z ∙ limits_pass (λ n. int_le n z) lower_limit es))
-    (sym (all_below (filter_map upper_limit es) z ∙ limits_pass (λ n. int_le z n) upper_limit es))
+    (sym (all_above (filter_map low xs) z ∙ limits_pass (λ n. int_le n z) low xs))
+    (sym (all_below (filter_map high xs) z ∙ limits_pass (λ n. int_le z n) high xs))
 
 -- no integer of 64 signed bits is between limits that are apart
 apart : (lower upper : Option ℤ) (z : ℤ) → FitsSigned w64 z → are_apart lower upper ≡ true → (above z lower && below z upper) ≡ false
@@ -160,43 +159,24 @@ module _ (R : Document) (V : Document → Document → Bool) (g : IsValidity R V
       go false k h rest = and_right (V (schema_of e) x) (list_all (λ f. V (schema_of f) x) es) (rest h)
 
   -- operands of an interval are valid together where the interval is
-  interval_valid : (es : List Expression) → is_interval es ≡ true → (x : Document) → IsDocument x → V (interval_schema (greatest_of (filter_map lower_limit es)) (least_of (filter_map upper_limit es))) x ≡ list_all (λ e. V (schema_of e) x) es
+  pub interval_valid : (es : List Expression) → is_interval es ≡ true → (x : Document) → IsDocument x → V (interval_schema (greatest_of (filter_map lower_limit es)) (least_of (filter_map upper_limit es))) x ≡ list_all (λ e. V (schema_of e) x) es
   interval_valid es h (integer z) fits =
       let alone = and_parts (list_all (λ e. is_integer_kind e || is_bound e) es) (list_any is_integer_kind es) h in
-      interval_integer (greatest_of (filter_map lower_limit es)) (least_of (filter_map upper_limit es)) z fits ∙ sym (all_between es z)
+      interval_integer (greatest_of (filter_map lower_limit es)) (least_of (filter_map upper_limit es)) z fits ∙ sym (all_between lower_limit upper_limit es z)
       ∙ sym (all_same _ _ es (each_map _ _ (λ e k. operand_integer e k z) es (all_true (λ e. is_integer_kind e || is_bound e) es alone.0)))
   interval_valid es h x d =
       let alone = and_parts (list_all (λ e. is_integer_kind e || is_bound e) es) (list_any is_integer_kind es) h in
       interval_other (greatest_of (filter_map lower_limit es)) (least_of (filter_map upper_limit es)) x tt ∙ sym (kinds_other es alone.1 x tt)
 
-  -- a conjunction asks what its operands ask
-  pub conjunction_valid : (es : List Expression) (ds : Documents) (x : Document) → IsDocument x → list_all (λ d. V d x) (elements ds) ≡ list_all (λ e. V (schema_of e) x) es
-      → V (conjunction_schema es ds) x ≡ list_all (λ e. V (schema_of e) x) es
-  conjunction_valid es ds x is same = go (is_interval es) refl
-    where
-      go : (b : Bool) → is_interval es ≡ b → V (if b then interval_schema (greatest_of (filter_map lower_limit es)) (least_of (filter_map upper_limit es)) else object (all_of ds)) x ≡ list_all (λ e. V (schema_of e) x) es
-      go true h = interval_valid es h x is
-      go false h = valid_all_of R V g ds x ∙ same
-
 -- ---- how deep an interval nests, and what the walk over it meets
 
-module _ (P : Document → Type 0) where
-  -- what holds of `false` and of each object of limits holds of an interval
-  by_limits : P (boolean false) → ((lower upper : Option ℤ) → P (object (interval_keywords lower upper))) → (lower upper : Option ℤ) → P (interval_schema lower upper)
-  by_limits none some lower upper = go (are_apart lower upper)
-    where
-      go : (b : Bool) → P (if b then boolean false else object (interval_keywords lower upper))
-      go true = none
-      go false = some lower upper
-
-  -- what holds of it and of the operands' `allOf` holds of a conjunction
-  pub by_conjunction : (es : List Expression) (ds : Documents)
-      → (is_interval es ≡ true → P (boolean false)) → (is_interval es ≡ true → (lower upper : Option ℤ) → P (object (interval_keywords lower upper))) → P (object (all_of ds)) → P (conjunction_schema es ds)
-  by_conjunction es ds none some all = go (is_interval es) refl
-    where
-      go : (b : Bool) → is_interval es ≡ b → P (if b then interval_schema (greatest_of (filter_map lower_limit es)) (least_of (filter_map upper_limit es)) else object (all_of ds))
-      go true h = by_limits (none h) (some h) (greatest_of (filter_map lower_limit es)) (least_of (filter_map upper_limit es))
-      go false h = all
+-- what holds of `false` and of each object of limits holds of an interval
+pub by_limits : (P : Document → Type 0) → P (boolean false) → ((lower upper : Option ℤ) → P (object (interval_keywords lower upper))) → (lower upper : Option ℤ) → P (interval_schema lower upper)
+by_limits P none some lower upper = go (are_apart lower upper)
+  where
+    go : (b : Bool) → P (if b then boolean false else object (interval_keywords lower upper))
+    go true = none
+    go false = some lower upper
 
 pub interval-depth : (lower upper : Option ℤ) → depth (object (interval_keywords lower upper)) ≤ 1
 interval-depth None None = omega arith
@@ -210,11 +190,11 @@ interval-names None (Some u) = refl
 interval-names (Some l) None = refl
 interval-names (Some l) (Some u) = refl
 
-pub interval-shaped : (lower upper : Option ℤ) (p : List ℕ) → first (fault_of vocabularies.Default) (visits false p (object (interval_keywords lower upper))) ≡ None
-interval-shaped None None p = refl
-interval-shaped None (Some u) p = refl
-interval-shaped (Some l) None p = refl
-interval-shaped (Some l) (Some u) p = refl
+pub interval-shaped : (taken : Vocabulary) (lower upper : Option ℤ) (p : List ℕ) → first (fault_of taken) (visits false p (object (interval_keywords lower upper))) ≡ None
+interval-shaped taken None None p = refl
+interval-shaped taken None (Some u) p = refl
+interval-shaped taken (Some l) None p = refl
+interval-shaped taken (Some l) (Some u) p = refl
 
 pub interval-named : (is_defined : List ℕ → Bool) (lower upper : Option ℤ) (p : List ℕ) → first (undefined_at is_defined) (visits false p (object (interval_keywords lower upper))) ≡ None
 interval-named is_defined None None p = refl
@@ -229,11 +209,10 @@ operand-direct (cue.range least greatest) h = refl
 operand-direct (cue.atom (cue.bound r n)) h = refl
 operand-direct e h = cc
 
-operands-direct : (es : Expressions) → list_all (λ e. is_integer_kind e || is_bound e) (operands es) ≡ true → direct_all es ≡ []
-operands-direct cue.no_expressions h = refl
-operands-direct (cue.expression e es) h =
-    let both = and_parts (is_integer_kind e || is_bound e) (list_all (λ f. is_integer_kind f || is_bound f) (operands es)) h in
-    ap₂ (λ a b. a ++ b) (operand-direct e both.0) (operands-direct es both.1)
+-- so nothing is referred to by operands that pass such a test
+pub operands-direct : (p : Expression → Bool) → ((e : Expression) → p e ≡ true → direct e ≡ []) → (es : Expressions) → list_all p (operands es) ≡ true → direct_all es ≡ []
+operands-direct p none cue.no_expressions h = refl
+operands-direct p none (cue.expression e es) h = let both = and_parts (p e) (list_all p (operands es)) h in ap₂ (λ a b. a ++ b) (none e both.0) (operands-direct p none es both.1)
 
 pub interval-direct : (es : Expressions) → is_interval (operands es) ≡ true → direct_all es ≡ []
-interval-direct es h = operands-direct es (and_parts (list_all (λ e. is_integer_kind e || is_bound e) (operands es)) (list_any is_integer_kind (operands es)) h).0
+interval-direct es h = operands-direct (λ e. is_integer_kind e || is_bound e) operand-direct es (and_parts (list_all (λ e. is_integer_kind e || is_bound e) (operands es)) (list_any is_integer_kind (operands es)) h).0

@@ -10,6 +10,8 @@ pub mod Every
 pub mod Labels
 pub mod Lists
 pub mod Interval
+pub mod SizeLimits
+pub mod Conjunctions
 pub mod Enumerations
 -- the whole: all that the root reaches, and the root beside it
 pub mod Covered
@@ -18,6 +20,7 @@ pub mod Compiled
 pub mod Bare
 pub mod Resolved
 -- the profile, loops and depth
+pub mod Vocabularies
 pub mod InProfile
 pub mod Visited
 pub mod Direct
@@ -35,3 +38,4 @@ pub mod Declared
 pub mod Names
 -- samples
 pub mod Samples
+pub mod SizeSamples

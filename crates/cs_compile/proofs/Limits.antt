@@ -1,21 +1,23 @@
--- The limits of operands, one after the other, and whether a conjunction is an interval.
-use Rattle.std.proofs.Common.{◌≡◌, ℕ, ◌+◌, ◌<◌, ◌^◌, ℤ, pos, neg_ℤ, List, [], ◌∷◌, ◌++◌, map, length, take, get_or, Bool, true, false, ◌&&◌, ◌||◌, Option, Some, None, option_to_list, refl, sym, ap, ◌∙◌, subst, arith, if◌then◌else◌}
-use Rattle.std.specs.Prelude.{IfSome, FitsSigned, ◌≤ℤ◌, ◌<ℤ◌}
+-- The limits of operands, one after the other, and whether a conjunction has one schema.
+use Rattle.std.proofs.Common.{◌≡◌, ℕ, ◌+◌, ◌<◌, ◌^◌, ℤ, pos, neg_ℤ, List, [], ◌∷◌, ◌++◌, map, length, take, get_or, Bool, true, false, ◌&&◌, ◌||◌, cond, Option, Some, None, option_to_list, unwrap_or, refl, sym, ap, ap₂, ◌∙◌, subst, arith, if◌then◌else◌}
+use Rattle.std.specs.Prelude.{IfSome, FitsSigned, option_map, int_lt, ◌≤ℤ◌, ◌<ℤ◌}
 use Rattle.std.specs.Int.{w64, int_max, int_min}
 use Rattle.std.specs.List.{list_all, list_any, filter_map, cons_option}
 use Rattle.std.proofs.Math.Bool.{and-true, or-false}
-use Rattle.std.proofs.lemmas.Int.{ints, clamps}
+use Rattle.std.proofs.lemmas.Int.{ints}
 use Rattle.std.proofs.lemmas.List.{append-nil, map-append}
 use Rattle.std.proofs.lemmas.List.Elements.{filter_map-append}
 use Rattle.std.proofs.lemmas.List.Folds.{list_all-append, list_all-map, list_all_at, list_any-append}
 use Rattle.std.proofs.lemmas.List.Sums.{fold-append}
-use Rattle.cs_document.specs.Document.{Document, object}
+use Rattle.cs_document.specs.Document.{Document, integer, object}
 use Rattle.cs_document.proofs.Maps.{take_at}
 use Rattle.cs_package.specs.Expression as cue
-use Rattle.cs_package.specs.Expression.{Expression}
+use Rattle.cs_package.specs.Expression.{Expression, Counted, Characters, Elements, Keys}
 use Rattle.cs_package.specs.View.{expressions_of}
+use Rattle.cs_profile.specs.SchemaDocument.{present, set_slot}
 use Rattle.cs_instance.proofs.Placed.{operands_of}
-use Rattle.cs_compile.specs.Translation.{schema_of, schemas_of, all_of, greatest_of, least_of, are_apart, interval_schema, conjunction_schema, is_interval, lower_limit, upper_limit}
+use Rattle.cs_compile.specs.Slots.{typed}
+use Rattle.cs_compile.specs.Translation.{schema_of, schemas_of, all_of, greatest_of, least_of, are_apart, is_interval, greatest_lower, least_upper, interval_schema, are_sizes, counted_in, greatest_least, least_most, size_schema, folded, conjunction_schema, counted_type, least_name, most_name, size_keywords}
 
 -- one limit more
 pub greatest-last : (ns : List ℤ) (o : Option ℤ) → greatest_of (option_to_list (greatest_of ns) ++ option_to_list o) ≡ greatest_of (ns ++ option_to_list o)
@@ -57,17 +59,22 @@ module _ {X Y : Type 0} (p : Y → Bool) (view : X → Y) (xs : List X) (i : ℕ
   pub all-fails : p (view x) ≡ false → list_all p (map view xs) ≡ false
   all-fails e = list_all-map p view xs ∙ list_all_at (λ y. p (view y)) xs i x within (subst (λ y. p (view y) ≡ false) is e)
 
-pub low-greatest : (a b : Option ℤ) (k : ℤ) → IfSome a (λ l. k ≤ℤ l) → IfSome b (λ l. k ≤ℤ l) → IfSome (greatest_of (option_to_list a ++ option_to_list b)) (λ l. k ≤ℤ l)
-low-greatest None None k h l = h
-low-greatest (Some m) None k h l = h
-low-greatest None (Some n) k h l = l
-low-greatest (Some m) (Some n) k h l = omega (arith, ints, clamps)
+-- what holds of two limits holds of the greater and of the lesser
+either : (P : ℤ → Type 0) (b : Bool) (m n : ℤ) → P m → P n → P (cond b m n)
+either P true m n h l = h
+either P false m n h l = l
 
-pub high-least : (a b : Option ℤ) (k : ℤ) → IfSome a (λ u. u <ℤ k) → IfSome b (λ u. u <ℤ k) → IfSome (least_of (option_to_list a ++ option_to_list b)) (λ u. u <ℤ k)
-high-least None None k h l = h
-high-least (Some m) None k h l = h
-high-least None (Some n) k h l = l
-high-least (Some m) (Some n) k h l = omega (arith, ints, clamps)
+pub some-greatest : (P : ℤ → Type 0) (a b : Option ℤ) → IfSome a P → IfSome b P → IfSome (greatest_of (option_to_list a ++ option_to_list b)) P
+some-greatest P None None h l = h
+some-greatest P (Some m) None h l = h
+some-greatest P None (Some n) h l = l
+some-greatest P (Some m) (Some n) h l = either P (int_lt n m) m n h l
+
+pub some-least : (P : ℤ → Type 0) (a b : Option ℤ) → IfSome a P → IfSome b P → IfSome (least_of (option_to_list a ++ option_to_list b)) P
+some-least P None None h l = h
+some-least P (Some m) None h l = h
+some-least P None (Some n) h l = l
+some-least P (Some m) (Some n) h l = either P (int_lt n m) n m l h
 
 -- the upper of limits that are not apart is an integer of 64 signed bits
 pub upper_fits : (lower upper : Option ℤ) → are_apart lower upper ≡ false → IfSome lower (λ l. neg_ℤ (pos (2 ^ 63)) ≤ℤ l) → IfSome upper (λ u. u <ℤ pos (2 ^ 63)) → IfSome upper (λ u. FitsSigned w64 u)
@@ -75,16 +82,51 @@ upper_fits lower None e low high = tt
 upper_fits None (Some u) e low high = grind (arith, ints)
 upper_fits (Some l) (Some u) e low high = grind (arith, ints)
 
--- a conjunction that is an interval, and one that is none
+-- a conjunction with one schema, and one whose operands keep theirs
 conjoined : (es : List Expression) → schema_of (cue.conjunction (expressions_of es)) ≡ conjunction_schema es (schemas_of (expressions_of es))
 conjoined es = ap (λ os. conjunction_schema os (schemas_of (expressions_of es))) (operands_of es)
 
+pub is_folded : (es : List Expression) (d : Document) → Some d ≡ folded es → d ≡ schema_of (cue.conjunction (expressions_of es))
+is_folded es d found = ap (λ o. unwrap_or o (object (all_of (schemas_of (expressions_of es))))) found ∙ sym (conjoined es)
+
+pub is_unfolded : (es : List Expression) → None ≡ folded es → object (all_of (schemas_of (expressions_of es))) ≡ schema_of (cue.conjunction (expressions_of es))
+is_unfolded es found = ap (λ o. unwrap_or o (object (all_of (schemas_of (expressions_of es))))) found ∙ sym (conjoined es)
+
+-- ---- limits of sizes
+
+-- the keywords that are made of both limits
+pub size_slots : (c : Counted) (least most : Option ℤ)
+    → present (set_slot (most_name c) (option_map integer most) (set_slot (least_name c) (option_map integer least) (typed (counted_type c)))) ≡ size_keywords c least most
+size_slots Characters least most = refl
+size_slots Elements least most = refl
+size_slots Keys least most = refl
+
+-- what operands count, by the first kind whose sizes they limit
+abbrev first_counted : Bool → Bool → Bool → Option Counted
+first_counted a b c = if a then Some Characters else if b then Some Elements else if c then Some Keys else None
+
 module _ (es : List Expression) where
-  abbrev by_fold : Bool → Document
-  by_fold b = if b then interval_schema (greatest_of (filter_map lower_limit es)) (least_of (filter_map upper_limit es)) else object (all_of (schemas_of (expressions_of es)))
+  pub counts-characters : are_sizes Characters es ≡ true → Some Characters ≡ counted_in es
+  counts-characters h = sym (ap (λ a. first_counted a (are_sizes Elements es) (are_sizes Keys es)) h)
 
-  pub folded : is_interval es ≡ true → schema_of (cue.conjunction (expressions_of es)) ≡ interval_schema (greatest_of (filter_map lower_limit es)) (least_of (filter_map upper_limit es))
-  folded e = conjoined es ∙ ap by_fold e
+  pub counts-elements : are_sizes Characters es ≡ false → are_sizes Elements es ≡ true → Some Elements ≡ counted_in es
+  counts-elements h i = sym (ap₂ (λ a b. first_counted a b (are_sizes Keys es)) h i)
 
-  pub unfolded : is_interval es ≡ false → schema_of (cue.conjunction (expressions_of es)) ≡ object (all_of (schemas_of (expressions_of es)))
-  unfolded e = conjoined es ∙ ap by_fold e
+  pub counts-keys : are_sizes Characters es ≡ false → are_sizes Elements es ≡ false → are_sizes Keys es ≡ true → Some Keys ≡ counted_in es
+  counts-keys h i j = sym (ap₂ (λ a b. first_counted a b (are_sizes Keys es)) h i ∙ ap (first_counted false false) j)
+
+  pub counts-nothing : are_sizes Characters es ≡ false → are_sizes Elements es ≡ false → are_sizes Keys es ≡ false → None ≡ counted_in es
+  counts-nothing h i j = sym (ap₂ (λ a b. first_counted a b (are_sizes Keys es)) h i ∙ ap (first_counted false false) j)
+
+  -- the one schema, of an interval and of sizes, or none
+  abbrev by_kinds : Bool → Option Counted → Option Document
+  by_kinds b o = if b then Some (interval_schema (greatest_lower es) (least_upper es)) else option_map (λ c. size_schema c (greatest_least es) (least_most es)) o
+
+  pub folds-interval : is_interval es ≡ true → Some (interval_schema (greatest_lower es) (least_upper es)) ≡ folded es
+  folds-interval h = sym (ap (λ b. by_kinds b (counted_in es)) h)
+
+  pub folds-sizes : (c : Counted) → is_interval es ≡ false → Some c ≡ counted_in es → Some (size_schema c (greatest_least es) (least_most es)) ≡ folded es
+  folds-sizes c h i = sym (ap (λ b. by_kinds b (counted_in es)) h ∙ ap (by_kinds false) (sym i))
+
+  pub folds-nothing : is_interval es ≡ false → None ≡ counted_in es → None ≡ folded es
+  folds-nothing h i = sym (ap (λ b. by_kinds b (counted_in es)) h ∙ ap (by_kinds false) (sym i))

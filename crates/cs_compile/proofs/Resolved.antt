@@ -76,6 +76,7 @@ module _ (K : List ℕ → Type 0) (ns : List (List ℕ)) (n : ℕ) (at : (i : �
   layer (Shape-F.NotInt i) h = tt
   layer (Shape-F.NotText s) h = tt
   layer Shape-F.NotNull h = tt
+  layer (Shape-F.Size c b i) h = tt
   layer (Shape-F.And v) h = shapes v.items h
   layer (Shape-F.Or v) h = shapes v.items h
   layer (Shape-F.Struct v opened) h = parts v.items h

@@ -1,6 +1,7 @@
 -- The schema of each form, and what `compile` makes of a package.
 pub mod Translation
 pub mod Depth
+pub mod Sizes
 pub mod Whole
 -- for contracts of private functions and proofs alone
 pub mod Definitions

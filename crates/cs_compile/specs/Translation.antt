@@ -8,7 +8,7 @@ use Rattle.std.specs.Str.{bytes_eq}
 use Rattle.cs_document.specs.Document.{Document, null, boolean, integer, text, list, object, Documents, no_documents, document, elements, Members, no_members, member, put, document_eq}
 use Rattle.cs_document.specs.View.{documents_of}
 use Rattle.cs_package.specs.Expression as cue
-use Rattle.cs_package.specs.Expression.{Expression, Expressions, operands, Kind, int, number, string, bool, Relation, less, at_most, more, at_least, DeclarationMark, regular, optional, required, every, is_every, Declaration, Declarations, Rest}
+use Rattle.cs_package.specs.Expression.{Expression, Expressions, operands, Kind, int, number, string, bool, Relation, less, at_most, more, at_least, Counted, Characters, Elements, Keys, DeclarationMark, regular, optional, required, every, is_every, Declaration, Declarations, Rest}
 use Rattle.cs_package.specs.Environment.{Environment, bodies}
 use Rattle.cs_guard.specs.Reachable.{Reaches}
 use Rattle.cs_profile.specs.Keywords.{defined}
@@ -131,11 +131,102 @@ interval_keywords lower upper =
 abbrev pub interval_schema : Option ℤ → Option ℤ → Document
 interval_schema lower upper = if are_apart lower upper then boolean false else object (interval_keywords lower upper)
 
--- integer kinds with bounds are one interval; other operands keep their schemas
+-- ---- how long texts, lists and maps are
+
+-- the type of what has these, and the keywords of how many (Validation, sections 6.3.1, 6.3.2, 6.4.1, 6.4.2, 6.5.1 and 6.5.2)
+abbrev pub counted_type : Counted → List ℕ
+counted_type Characters = codes "string"
+counted_type Elements = codes "array"
+counted_type Keys = codes "object"
+
+abbrev pub most_name : Counted → List ℕ
+most_name Characters = codes "maxLength"
+most_name Elements = codes "maxItems"
+most_name Keys = codes "maxProperties"
+
+abbrev pub least_name : Counted → List ℕ
+least_name Characters = codes "minLength"
+least_name Elements = codes "minItems"
+least_name Keys = codes "minProperties"
+
+-- the least size that a limit admits, where it is one from below, and the greatest, where it is one from above; no size is below 0
+abbrev pub from_size : Bool → ℤ → Option ℤ
+from_size true n = Some (int_max n (pos 0))
+from_size false n = None
+
+abbrev pub up_to_size : Bool → ℤ → Option ℤ
+up_to_size true n = None
+up_to_size false n = Some n
+
+-- whether no size is between two limits
+abbrev pub have_no_size : Option ℤ → Option ℤ → Bool
+have_no_size least most = option_map_or (λ n. int_lt n (unwrap_or least (pos 0))) most false
+
+abbrev pub size_keywords : Counted → Option ℤ → Option ℤ → Members
+size_keywords c least most =
+    with_member (option_map integer most) (most_name c) (with_member (option_map integer least) (least_name c) (of_type (counted_type c)))
+
+-- what has at least so many of these, and at most so many, if anything can
+abbrev pub size_schema : Counted → Option ℤ → Option ℤ → Document
+size_schema c least most = if have_no_size least most then boolean false else object (size_keywords c least most)
+
+-- ---- limits of one size
+
+abbrev pub is_same : Counted → Counted → Bool
+is_same Characters Characters = true
+is_same Elements Elements = true
+is_same Keys Keys = true
+is_same _ _ = false
+
+-- a limit of how many of these there are
+abbrev pub is_size : Counted → Expression → Bool
+is_size c (cue.atom (cue.size d b n)) = is_same c d
+is_size c _ = false
+
+-- the kind of what has these, if there is one without parts: `string`
+abbrev pub is_counted_kind : Counted → Expression → Bool
+is_counted_kind Characters (cue.kind string) = true
+is_counted_kind _ _ = false
+
+-- such limits and this kind alone, at least one of them a limit
+abbrev pub are_sizes : Counted → List Expression → Bool
+are_sizes c es = list_all (λ e. is_size c e || is_counted_kind c e) es && list_any (is_size c) es
+
+-- what is counted by such operands
+abbrev pub counted_in : List Expression → Option Counted
+counted_in es =
+    if are_sizes Characters es then Some Characters
+    else if are_sizes Elements es then Some Elements
+    else if are_sizes Keys es then Some Keys
+    else None
+
+-- the least size that an operand admits, and the greatest, where it has one
+abbrev pub least_size : Expression → Option ℤ
+least_size (cue.atom (cue.size c b n)) = from_size b n
+least_size _ = None
+
+abbrev pub most_size : Expression → Option ℤ
+most_size (cue.atom (cue.size c b n)) = up_to_size b n
+most_size _ = None
+
+-- the greatest least size of some operands, and the least greatest one
+abbrev pub greatest_least : List Expression → Option ℤ
+greatest_least es = greatest_of (filter_map least_size es)
+
+abbrev pub least_most : List Expression → Option ℤ
+least_most es = least_of (filter_map most_size es)
+
+-- ---- operands of a conjunction
+
+-- the one schema of integer kinds with bounds, or of limits of one size
+abbrev pub folded : List Expression → Option Document
+folded es =
+    if is_interval es then Some (interval_schema (greatest_lower es) (least_upper es))
+    else option_map (λ c. size_schema c (greatest_least es) (least_most es)) (counted_in es)
+
+-- other operands keep their schemas
 abbrev pub conjunction_schema : List Expression → Documents → Document
-conjunction_schema es ds =
-    if is_interval es then interval_schema (greatest_lower es) (least_upper es)
-    else object (all_of ds)
+conjunction_schema es ds = unwrap_or (folded es) (object (all_of ds))
 
 -- ---- literals
 
@@ -233,6 +324,7 @@ abbrev mutual
   schema_of (cue.atom (cue.not_integer n)) = object (but (integer n) (of_type (codes "number")))
   schema_of (cue.atom (cue.not_text s)) = object (but (text s) (of_type (codes "string")))
   schema_of (cue.atom cue.not_null) = object (but null no_members)
+  schema_of (cue.atom (cue.size c b n)) = size_schema c (from_size b n) (up_to_size b n)
   schema_of (cue.conjunction es) = conjunction_schema (operands es) (schemas_of es)
   schema_of (cue.disjunction es) = disjunction_schema (operands es) (schemas_of es)
   schema_of (cue.reference n) = reference_to n

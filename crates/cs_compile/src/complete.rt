@@ -4,8 +4,8 @@ ghost use Rattle.cs_document.specs.Document.{under};
 ghost use Rattle.cs_document.specs.View.{members_of};
 ghost use Rattle.cs_profile.specs.Profile.{IsSchema};
 ghost use Rattle.cs_profile.specs.SchemaDocument.{definitions_view, document_of};
-ghost use Rattle.cs_profile.specs.declared.keyword.Vocabulary.TheVariants as vocabularies;
 ghost use Rattle.cs_compile.specs.Definitions.{definition_entries, AreDefinitionsOf, IsDeclared, IsResolved};
+ghost use Rattle.cs_compile.specs.Sizes.{vocabulary_for};
 ghost use Rattle.cs_compile.specs.Whole.{CompilesAll};
 
 use crate::keywords::{object, untyped};
@@ -19,13 +19,13 @@ use std::collections::BTreeMap;
 /// The schemas of all definitions of a package: `$defs` has exactly its definitions, each written by the table of the
 /// translation, as `compile` writes it. A `$ref` to one of them validates exactly its instances. The root asks nothing:
 /// it has no keyword but `$defs`, which is left out where the package is empty, and `$schema`. All keywords are of the
-/// default profile.
+/// default profile where the package limits no size.
 ///
 /// # Errors
 /// `AllocError`, where memory runs out.
 pub fn compile_all(alloc: Global, package: &Guarded) -> Result<SchemaDoc, AllocError>
     ensures found { IfOk result (λ s. CompilesAll «package».now s) }
-    ensures profile { IfOk result (λ s. IsSchema vocabularies.Default (document_of s)) }
+    ensures profile { IfOk result (λ s. IsSchema (vocabulary_for «package».now) (document_of s)) }
 {
     let definitions = all_definitions(alloc, package.package())?;
     let root = object(alloc, untyped(alloc))?;

@@ -123,7 +123,8 @@ fn least_upper(operands: &[Shape]) -> Option<i128>
     least
 }
 
-fn greater(a: Option<i128>, b: Option<i128>) -> Option<i128>
+/// The greater of two limits, where there is one.
+pub(crate) fn greater(a: Option<i128>, b: Option<i128>) -> Option<i128>
     ensures { result ≡ greatest_of (option_to_list a ++ option_to_list b) }
 {
     match (a, b) {
@@ -133,7 +134,8 @@ fn greater(a: Option<i128>, b: Option<i128>) -> Option<i128>
     }
 }
 
-fn lesser(a: Option<i128>, b: Option<i128>) -> Option<i128>
+/// The lesser of two limits, where there is one.
+pub(crate) fn lesser(a: Option<i128>, b: Option<i128>) -> Option<i128>
     ensures { result ≡ least_of (option_to_list a ++ option_to_list b) }
 {
     match (a, b) {
@@ -165,10 +167,11 @@ fn are_apart(lower: Option<i128>, upper: Option<i128>) -> bool
     upper.unwrap_or(i128::from(i64::MAX)) < lower.unwrap_or(i128::from(i64::MIN))
 }
 
-/// The value of `minimum` or `maximum`.
-fn limit_value(limit: Option<i128>) -> KeywordValue
+/// The value of `minimum` or `maximum`, or of a keyword of how many there are.
+pub(crate) fn limit_value(limit: Option<i128>) -> KeywordValue
     requires { IfSome limit (λ l. FitsSigned w64 l) }
-    ensures { value_at form.Integer result ≡ option_map integer limit }
+    ensures integer { value_at form.Integer result ≡ option_map integer limit }
+    ensures count { value_at form.Count result ≡ option_map integer limit }
 {
     match limit {
         Some(limit) => KeywordValue::Integer(limit as i64),

@@ -1,4 +1,4 @@
-// Schema objects, and the keyword of a limit.
+// Schema objects, and the keywords of limits.
 ghost use Rattle.std.specs.Prelude.{◌≡◌};
 ghost use Rattle.cs_document.specs.Document.{object};
 ghost use Rattle.cs_package.specs.View.{relation_of};
@@ -8,9 +8,9 @@ ghost use Rattle.cs_profile.specs.declared.keyword.Form.TheVariants as form;
 ghost use Rattle.cs_profile.specs.SchemaDocument.{slots_of, present, kind_name};
 ghost use Rattle.cs_compile.specs.Made.{Makes};
 ghost use Rattle.cs_compile.specs.Slots.{no_slots, typed};
-ghost use Rattle.cs_compile.specs.Translation.{limit_name};
+ghost use Rattle.cs_compile.specs.Translation.{limit_name, counted_type, most_name, least_name};
 
-use cs_package::Relation;
+use cs_package::{Counted, Relation};
 use cs_profile::{JsonKind, Keyword, KeywordValue, Keywords, Schema};
 use std::alloc::{AllocError, Global};
 
@@ -45,5 +45,40 @@ pub(crate) fn limit_keyword(relation: Relation) -> Keyword
         Relation::AtMost => Keyword::Maximum,
         Relation::More => Keyword::ExclusiveMinimum,
         Relation::AtLeast => Keyword::Minimum,
+    }
+}
+
+/// The kind that `type` names for what has these.
+pub(crate) fn counted_kind(counted: Counted) -> JsonKind
+    ensures { kind_name result ≡ counted_type counted }
+{
+    match counted {
+        Counted::Characters => JsonKind::String,
+        Counted::Elements => JsonKind::Array,
+        Counted::Keys => JsonKind::Object,
+    }
+}
+
+/// The keyword of how many of these there are at most.
+pub(crate) fn most_keyword(counted: Counted) -> Keyword
+    ensures name { name_of result ≡ most_name counted }
+    ensures form { form_of result ≡ form.Count }
+{
+    match counted {
+        Counted::Characters => Keyword::MaxLength,
+        Counted::Elements => Keyword::MaxItems,
+        Counted::Keys => Keyword::MaxProperties,
+    }
+}
+
+/// The keyword of how many of these there are at least.
+pub(crate) fn least_keyword(counted: Counted) -> Keyword
+    ensures name { name_of result ≡ least_name counted }
+    ensures form { form_of result ≡ form.Count }
+{
+    match counted {
+        Counted::Characters => Keyword::MinLength,
+        Counted::Elements => Keyword::MinItems,
+        Counted::Keys => Keyword::MinProperties,
     }
 }

@@ -6,10 +6,12 @@ mod complete;
 mod elements;
 mod fault;
 mod fields;
+mod folded;
 mod intervals;
 mod keywords;
 mod literals;
 mod operands;
+mod sizes;
 mod translate;
 mod whole;
 

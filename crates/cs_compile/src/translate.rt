@@ -12,10 +12,11 @@ ghost use Rattle.cs_compile.specs.Translation.{schema_of, definition_schema, res
 use crate::atoms::{bound, but, constant, json_kind, not_text, range, reference};
 use crate::elements::list_schema;
 use crate::fields::{Values, add_value, struct_schema};
-use crate::intervals::{interval, is_interval};
+use crate::folded::folded;
 use crate::keywords::{object, typed, untyped};
 use crate::literals::enumeration;
 use crate::operands::{all_of, any_of, one_or_all};
+use crate::sizes::size;
 use cs_document::Doc;
 use cs_package::{Package, Part, Shape, ShapeEnd};
 use cs_profile::{JsonKind, KeywordValue, Schema};
@@ -53,12 +54,15 @@ fn schema_of(alloc: Global, package: &Package, shape: &Shape) -> Result<Schema, 
         Shape::NotInt(n) => but(alloc, Doc::Int(*n), typed(alloc, JsonKind::Number)),
         Shape::NotText(text) => not_text(alloc, text),
         Shape::NotNull => but(alloc, Doc::Null, untyped(alloc)),
-        Shape::And(operands) => {
-            if is_interval(operands) {
-                return interval(alloc, operands);
-            }
-            all_of(alloc, schemas_of(alloc, package, operands)?)
-        }
+        Shape::Size {
+            counted,
+            is_least,
+            limit,
+        } => size(alloc, *counted, *is_least, *limit),
+        Shape::And(operands) => match folded(alloc, operands)? {
+            Some(schema) => Ok(schema),
+            None => all_of(alloc, schemas_of(alloc, package, operands)?),
+        },
         Shape::Or(operands) => match enumeration(alloc, operands)? {
             Some(schema) => Ok(schema),
             None => any_of(alloc, schemas_of(alloc, package, operands)?),

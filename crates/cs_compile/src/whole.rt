@@ -7,9 +7,9 @@ ghost use Rattle.cs_guard.specs.Numbered.{name_of};
 ghost use Rattle.cs_guard.specs.Reachable.{Reaches};
 ghost use Rattle.cs_profile.specs.Profile.{IsSchema};
 ghost use Rattle.cs_profile.specs.SchemaDocument.{document_of, definitions_view};
-ghost use Rattle.cs_profile.specs.declared.keyword.Vocabulary.TheVariants as vocabularies;
 ghost use Rattle.cs_compile.specs.Definitions.{definition_entries, AreDefinitions};
 ghost use Rattle.cs_compile.specs.Translation.{IsTranslation};
+ghost use Rattle.cs_compile.specs.Sizes.{vocabulary_for};
 ghost use Rattle.cs_compile.specs.Whole.{Compiles};
 
 use crate::CompileFault;
@@ -23,7 +23,8 @@ use std::collections::BTreeMap;
 
 /// The schema of a root definition, named with its `#`: the root is a `$ref` to its schema, and `$defs`
 /// has exactly the definitions that it reaches by any reference. It validates exactly the instances of the root.
-/// Each definition is written by the table of the translation, with keywords of the default profile alone.
+/// Each definition is written by the table of the translation, with keywords of the default profile alone
+/// where the package limits no size.
 ///
 /// # Errors
 /// `UnknownRoot` where the package has no such definition.
@@ -32,7 +33,7 @@ pub fn compile(alloc: Global, package: &Guarded, root: &str) -> Result<SchemaDoc
         × Names «package».now root.now n × Compiles «package».now n s) }
     ensures translated { IfOk result (λ s. (n : List ℕ)
         → Names «package».now root.now n → IsTranslation «package».now n (document_of s)) }
-    ensures profile { IfOk result (λ s. IsSchema vocabularies.Default (document_of s)) }
+    ensures profile { IfOk result (λ s. IsSchema (vocabulary_for «package».now) (document_of s)) }
     ensures unknown { IsErrOf result CompileFault.UnknownRoot
         → (n : List ℕ) → ¬ Names «package».now root.now n }
 {

@@ -1,8 +1,9 @@
 -- Samples, worked by the definitions: files with conditions, and what they stand for or where they are at fault.
 use Rattle.std.proofs.Common.{◌≡◌, ℕ, Bool, true, false, List, [], ◌∷◌, pos, codes, None, refl}
 use Rattle.cs_grammar.specs.Atom as atoms
-use Rattle.cs_grammar.specs.Atom.{Atom, Relation, integer, text, boolean, not_integer, not_text, not_null, bound, null, top, bottom}
+use Rattle.cs_grammar.specs.Atom.{Atom, Relation, integer, text, boolean, not_integer, not_text, not_null, bound, null, top, bottom, size}
 use Rattle.cs_grammar.specs.Tree.{Label, written_label, Test, present, truth, equals, compares, Condition, Tree, atom, named, reference, disjunction, struct, list, wide, marked, merged, Declarations, declared, embedded, conditional, no_declaration, none, more, Fields, no_field, field, any, definition, FileTree, file}
+use Rattle.cs_grammar.specs.declared.ast.Counted.TheVariants.{Characters, Elements, Keys}
 use Rattle.cs_grammar.specs.declared.ast.FieldMark.{FieldMark}
 use Rattle.cs_grammar.specs.declared.ast.FieldMark.TheVariants.{Regular, Optional, Required}
 use Rattle.cs_conditions.specs.Conditions.{condition_faults, AreChosen}
@@ -122,6 +123,24 @@ handed_on = record { faultless = refl; chosen = refl }
 -- `{m: string, if m == 1 {x: int}}`: any text
 another_kind : AreChosen (only (of (own m Regular string (under (asked m (equals (integer (pos 1))) true ∷ []))))) (only (of (own m Regular string (either (holds m Regular (number 1)) (fails m Regular (named (codes "string") 43))))))
 another_kind = record { faultless = refl; chosen = refl }
+
+-- `{m: strings.MinRunes(2), if m == 1 {x: int}}`, and the same of lists and maps: any text, any list, any map
+another_counted : AreChosen (only (of (own m Regular (atom (size Characters true (pos 2))) (under (asked m (equals (integer (pos 1))) true ∷ [])))))
+    (only (of (own m Regular (atom (size Characters true (pos 2))) (either (holds m Regular (number 1)) (fails m Regular (named (codes "string") 43))))))
+another_counted = record { faultless = refl; chosen = refl }
+
+another_list : AreChosen (only (of (own m Regular (atom (size Elements true (pos 2))) (under (asked m (equals (integer (pos 1))) true ∷ [])))))
+    (only (of (own m Regular (atom (size Elements true (pos 2))) (either (holds m Regular (number 1)) (fails m Regular (list none any))))))
+another_list = record { faultless = refl; chosen = refl }
+
+another_map : AreChosen (only (of (own m Regular (atom (size Keys false (pos 2))) (under (asked m (equals (integer (pos 1))) true ∷ [])))))
+    (only (of (own m Regular (atom (size Keys false (pos 2))) (either (holds m Regular (number 1)) (fails m Regular (struct 43 no_field true))))))
+another_map = record { faultless = refl; chosen = refl }
+
+-- `{m: strings.MaxRunes(2), if m == "a" {x: int}}`: another text, of any length that it may have
+another_text : AreChosen (only (of (own m Regular (atom (size Characters false (pos 2))) (under (asked m (equals (text (codes "a"))) true ∷ [])))))
+    (only (of (own m Regular (atom (size Characters false (pos 2))) (either (holds m Regular (word (codes "a"))) (fails m Regular (atom (not_text (codes "a"))))))))
+another_text = record { faultless = refl; chosen = refl }
 
 -- `{m: null | int, if m != null {x: int}}`
 no_null : AreChosen (only (of (own m Regular (or (atom null) int) (under (asked m (equals null) false ∷ []))))) (only (of (own m Regular (or (atom null) int) (either (holds m Regular (atom not_null)) (fails m Regular (atom null))))))

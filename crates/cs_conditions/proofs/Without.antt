@@ -2,8 +2,8 @@
 use Rattle.std.proofs.Common.{◌≡◌, ℕ, suc, Bool, true, false, ◌||◌, cond, codes, List, [], ◌∷◌, ◌++◌, map, refl, sym, ap, ap₂, ◌∙◌}
 use Rattle.std.specs.List.{AllByRecursion, list_any, flat_map}
 use Rattle.cs_grammar.specs.DefaultForms.{IsDefault, AreDefault, AreDefaultFields, IsDefaultEnd, IsDefaultFile}
-use Rattle.cs_grammar.specs.Atom.{Atom, null, boolean, integer, text, top, bottom, bound, not_integer, not_text, not_null}
-use Rattle.cs_grammar.specs.Tree.{Test, present, truth, equals, compares, Condition, Tree, atom, named, reference, conjunction, disjunction, paren, struct, list, wide, marked, merged, shut, selected, Declarations, no_declaration, declared, embedded, conditional, Trees, none, more, Fields, no_field, field, End, closed, any, each, body, definitions, DefinitionTree, definition, FileTree, file}
+use Rattle.cs_grammar.specs.Atom.{Atom, null, boolean, integer, text, top, bottom, bound, not_integer, not_text, not_null, size}
+use Rattle.cs_grammar.specs.Tree.{Test, present, truth, equals, compares, Condition, Tree, atom, named, reference, conjunction, disjunction, paren, struct, list, wide, marked, merged, shut, selected, called, imported, Declarations, no_declaration, declared, embedded, conditional, Trees, none, more, Fields, no_field, field, End, closed, any, each, body, definitions, DefinitionTree, definition, FileTree, file}
 use Rattle.cs_grammar.specs.View.{Seen, field_seen, embedding_seen, trees_of, fields_of, declarations_of}
 use Rattle.cs_conditions.specs.Asked.{asked}
 use Rattle.cs_conditions.specs.Choice.{when, any_list, any_map, with_named_kinds, with_kinds, one_of, of_its_kind, other_kinds, has_value, other_than_null, another, other_than, is_null, value_where, made_in, choices, choice}
@@ -99,6 +99,7 @@ own_none (bound r z) k = tt
 own_none (not_integer z) k = tt
 own_none (not_text s) k = tt
 own_none not_null k = tt
+own_none (size c b z) k = tt
 
 other_none : (a : Atom) (k : Kinds) (o : ℕ) → has_condition (other_than a k o) ≡ false
 other_none a k o = elim (is_null a) as (λ b. has_condition (cond b (other_than_null k) (another a k o)) ≡ false) [
@@ -142,6 +143,8 @@ module _ (known : Knowledge) where
     none_left (wide (merged o ds opened)) = declarations_left ds ds
     none_left (wide (shut o e)) = none_left e
     none_left (wide (selected o s ls)) = refl
+    none_left (wide (called o s f z)) = refl
+    none_left (wide (imported o s)) = refl
 
     each_left : (es : Trees) → some_has (chosen_each known es) ≡ false
     each_left none = refl
@@ -192,6 +195,8 @@ module _ (known : Knowledge) where
     stays (wide (merged o ds opened)) h = ap (λ es. wide (merged o es opened)) (declarations_stay ds ds h)
     stays (wide (shut o e)) h = ap (λ d. wide (shut o d)) (stays e h)
     stays (wide (selected o s ls)) h = refl
+    stays (wide (called o s f z)) h = refl
+    stays (wide (imported o s)) h = refl
 
     each_stays : (es : Trees) → some_has es ≡ false → chosen_each known es ≡ es
     each_stays none h = refl
@@ -241,6 +246,8 @@ module _ (known : Knowledge) where
     faultless (wide (merged o ds opened)) h = declarations_faultless ds ds h
     faultless (wide (shut o e)) h = faultless e h
     faultless (wide (selected o s ls)) h = refl
+    faultless (wide (called o s f z)) h = refl
+    faultless (wide (imported o s)) h = refl
 
     each_faultless : (es : Trees) → some_has es ≡ false → flaws_each known es ≡ []
     each_faultless none h = refl

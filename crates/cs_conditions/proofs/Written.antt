@@ -1,8 +1,8 @@
 -- What can be written down with conditions can be written down without them.
 use Rattle.std.proofs.Common.{ℕ, Bool, true, false, cond, List, [], ◌∷◌, ◌++◌, Option, Some, None, map, not, refl, sym, subst}
 use Rattle.std.specs.List.{AllByRecursion}
-use Rattle.cs_grammar.specs.Atom.{Atom, null, boolean, integer, text, top, bottom, bound, not_integer, not_text, not_null}
-use Rattle.cs_grammar.specs.Tree.{Label, Test, present, truth, equals, compares, Condition, Tree, atom, named, reference, conjunction, disjunction, paren, struct, list, wide, marked, merged, shut, selected, Declarations, no_declaration, declared, embedded, conditional, Trees, none, more, Fields, no_field, field, End, closed, any, each, DefinitionTree, definition, FileTree, file}
+use Rattle.cs_grammar.specs.Atom.{Atom, null, boolean, integer, text, top, bottom, bound, not_integer, not_text, not_null, size}
+use Rattle.cs_grammar.specs.Tree.{Label, Test, present, truth, equals, compares, Condition, Tree, atom, named, reference, conjunction, disjunction, paren, struct, list, wide, marked, merged, shut, selected, called, imported, Declarations, no_declaration, declared, embedded, conditional, Trees, none, more, Fields, no_field, field, End, closed, any, each, DefinitionTree, definition, FileTree, file}
 use Rattle.cs_grammar.specs.View.{Seen, field_seen, embedding_seen, trees_of, fields_of, declarations_of}
 use Rattle.cs_grammar.specs.Written.{Place, by_itself, of_bar, of_amp, IsWrittenAtom, IsTextOrName, IsWrittenLabel, IsWrittenTest, IsWrittenCondition, AreTwo, IsWritten, AreWrittenDeclarations, AreWritten, AreWrittenFields, IsWrittenEnd, IsWrittenDefinition, IsWrittenFile}
 use Rattle.cs_conditions.specs.Asked.{Asked, asked}
@@ -29,6 +29,8 @@ relaxed (wide (marked o e)) h = relaxed e h
 relaxed (wide (merged o ds opened)) h = h
 relaxed (wide (shut o e)) h = h
 relaxed (wide (selected o s ls)) h = h
+relaxed (wide (called o s f z)) h = h
+relaxed (wide (imported o s)) h = h
 
 bars_written : (es : List Tree) → AllByRecursion (IsWritten of_bar) es → AreWritten of_bar (trees_of es)
 bars_written [] h = tt
@@ -52,6 +54,7 @@ own_written (bound r z) k h = tt
 own_written (not_integer z) k h = tt
 own_written (not_text s) k h = tt
 own_written not_null k h = tt
+own_written (size c b z) k h = tt
 
 another_written : (a : Atom) (k : Kinds) (o : ℕ) → IsWrittenAtom a → IsWritten by_itself (another a k o)
 another_written a k o h =
@@ -138,6 +141,8 @@ module _ (known : Knowledge) where
     written p (wide (merged o ds opened)) h = written_declarations ds ds h
     written p (wide (shut o e)) h = written by_itself e h
     written p (wide (selected o s ls)) h = h
+    written p (wide (called o s f z)) h = h
+    written p (wide (imported o s)) h = h
 
     written_each : (p : Place) (es : Trees) → AreWritten p es → AreWritten p (chosen_each known es)
     written_each p none h = tt

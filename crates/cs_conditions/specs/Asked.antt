@@ -3,7 +3,7 @@ use Rattle.std.specs.Prelude.{ℕ, Bool, true, false, ◌&&◌, ◌||◌, not, L
 use Rattle.std.specs.Str.{bytes_eq}
 use Rattle.cs_grammar.specs.declared.ast.FieldMark.{FieldMark}
 use Rattle.cs_grammar.specs.declared.ast.FieldMark.TheVariants.{Regular, Optional, Required, Every}
-use Rattle.cs_grammar.specs.Tree.{Label, Tree, atom, named, reference, conjunction, disjunction, paren, struct, list, wide, marked, merged, shut, selected, Declarations, no_declaration, declared, embedded, conditional, Trees, none, more, End, closed, any, each}
+use Rattle.cs_grammar.specs.Tree.{Label, Tree, atom, named, reference, conjunction, disjunction, paren, struct, list, wide, marked, merged, shut, selected, called, imported, Declarations, no_declaration, declared, embedded, conditional, Trees, none, more, End, closed, any, each}
 use Rattle.cs_conditions.specs.Defaults.{lead, default_by}
 use Rattle.cs_conditions.specs.Kinds.{all_kinds, meet, kinds}
 use Rattle.cs_conditions.specs.Known.{Knowledge}
@@ -24,6 +24,8 @@ abbrev mutual
   has_literal (wide (merged o ds opened)) = true
   has_literal (wide (shut o e)) = has_literal e
   has_literal (wide (selected o s ls)) = false
+  has_literal (wide (called o s f z)) = false
+  has_literal (wide (imported o s)) = false
 
   pub some_has_literal : Trees → Bool
   some_has_literal none = false
@@ -44,6 +46,8 @@ abbrev mutual
   is_plain (wide (merged o ds opened)) = false
   is_plain (wide (shut o e)) = is_plain e
   is_plain (wide (selected o s ls)) = true
+  is_plain (wide (called o s f z)) = true
+  is_plain (wide (imported o s)) = true
 
   pub are_plain : Trees → Bool
   are_plain none = true

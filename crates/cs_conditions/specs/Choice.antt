@@ -6,7 +6,7 @@ use Rattle.std.specs.Ordering.{int_eq}
 use Rattle.std.specs.Str.{bytes_eq}
 use Rattle.cs_grammar.specs.declared.ast.FieldMark.{FieldMark}
 use Rattle.cs_grammar.specs.declared.ast.FieldMark.TheVariants.{Regular, Optional, Required}
-use Rattle.cs_grammar.specs.Atom.{Atom, Relation, less, at_most, more, at_least, top, bottom, null, boolean, integer, text, bound, not_integer, not_text, not_null}
+use Rattle.cs_grammar.specs.Atom.{Atom, Relation, less, at_most, more, at_least, top, bottom, null, boolean, integer, text, bound, not_integer, not_text, not_null, size}
 use Rattle.cs_grammar.specs.Tree as T
 use Rattle.cs_grammar.specs.Tree.{Test, present, truth, equals, compares, Condition, Tree, atom, named, reference, conjunction, disjunction, paren, struct, list, wide, merged, no_field, any, Declarations}
 use Rattle.cs_grammar.specs.View.{Seen, field_seen, embedding_seen, trees_of, fields_of, declarations_of}
@@ -71,6 +71,7 @@ of_its_kind (bound r z) k = []
 of_its_kind (not_integer z) k = []
 of_its_kind (not_text s) k = []
 of_its_kind not_null k = []
+of_its_kind (size c b z) k = []
 
 -- the kinds without that of a literal
 abbrev pub other_kinds : Atom → Kinds → Kinds
@@ -84,6 +85,7 @@ other_kinds (bound r z) k = k
 other_kinds (not_integer z) k = k
 other_kinds (not_text s) k = k
 other_kinds not_null k = k
+other_kinds (size c b z) k = k
 
 -- there is another kind than null
 abbrev pub has_value : Kinds → Bool
@@ -100,6 +102,7 @@ is_null (bound r z) = false
 is_null (not_integer z) = false
 is_null (not_text s) = false
 is_null not_null = false
+is_null (size c b z) = false
 
 abbrev pub other_than_null : Kinds → Tree
 other_than_null k = if has_value k then atom not_null else atom bottom
@@ -140,6 +143,7 @@ literal_of_atom (bound r z) = no_literal
 literal_of_atom (not_integer z) = no_literal
 literal_of_atom (not_text s) = no_literal
 literal_of_atom not_null = no_literal
+literal_of_atom (size c b z) = no_literal
 
 -- parentheses aside
 abbrev pub literal_of : Tree → Literal
@@ -194,6 +198,7 @@ is_same (bound r z) l = false
 is_same (not_integer z) l = false
 is_same (not_text s) l = false
 is_same not_null l = false
+is_same (size c b z) l = false
 
 abbrev pub is_related : Relation → ℤ → ℤ → Bool
 is_related less n z = int_lt z n

@@ -1,6 +1,6 @@
 -- Expressions in which each literal under conditions is embedded as what it stands for.
 use Rattle.std.specs.Prelude.{map}
-use Rattle.cs_grammar.specs.Tree.{Tree, atom, named, reference, conjunction, disjunction, paren, struct, list, wide, marked, merged, shut, selected, Declarations, no_declaration, declared, embedded, conditional, Trees, none, more, Fields, no_field, field, End, closed, any, each, DefinitionTree, definition, FileTree, file, package_name, definitions, names}
+use Rattle.cs_grammar.specs.Tree.{Tree, atom, named, reference, conjunction, disjunction, paren, struct, list, wide, marked, merged, shut, selected, called, imported, Declarations, no_declaration, declared, embedded, conditional, Trees, none, more, Fields, no_field, field, End, closed, any, each, DefinitionTree, definition, FileTree, file, package_name, definitions, names}
 use Rattle.cs_conditions.specs.Choice.{choice}
 use Rattle.cs_conditions.specs.Known.{Knowledge}
 
@@ -19,6 +19,8 @@ abbrev mutual
   chosen known (wide (merged o ds opened)) = wide (merged o (chosen_declarations known ds ds) opened)
   chosen known (wide (shut o e)) = wide (shut o (chosen known e))
   chosen known (wide (selected o s ls)) = wide (selected o s ls)
+  chosen known (wide (called o s f z)) = wide (called o s f z)
+  chosen known (wide (imported o s)) = wide (imported o s)
 
   pub chosen_each : Knowledge → Trees → Trees
   chosen_each known none = none

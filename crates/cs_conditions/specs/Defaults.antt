@@ -2,7 +2,7 @@
 -- (own rule, as of `cs_defaults`).
 use Rattle.std.specs.Prelude.{ℕ, zero, suc, List, [], ◌∷◌, Option, Some, None}
 use Rattle.cs_grammar.specs.Bodies.{bodies}
-use Rattle.cs_grammar.specs.Tree.{Tree, atom, named, reference, conjunction, disjunction, paren, struct, list, wide, marked, merged, shut, selected, Trees, none, more, DefinitionTree}
+use Rattle.cs_grammar.specs.Tree.{Tree, atom, named, reference, conjunction, disjunction, paren, struct, list, wide, marked, merged, shut, selected, called, imported, Trees, none, more, DefinitionTree}
 
 -- how a value comes to a default: not at all, by its own mark, or by a definition
 pub data Lead : Type 0 where
@@ -16,6 +16,8 @@ or_behind (wide (marked o e)) behind = by_mark e
 or_behind (wide (merged o ds opened)) behind = behind
 or_behind (wide (shut o e)) behind = behind
 or_behind (wide (selected o s ls)) behind = behind
+or_behind (wide (called o s f z)) behind = behind
+or_behind (wide (imported o s)) behind = behind
 or_behind (atom a) behind = behind
 or_behind (named s o) behind = behind
 or_behind (reference s o) behind = behind
@@ -42,6 +44,8 @@ lead (wide (marked o e)) = nowhere
 lead (wide (merged o ds opened)) = nowhere
 lead (wide (shut o e)) = lead e
 lead (wide (selected o s ls)) = nowhere
+lead (wide (called o s f z)) = nowhere
+lead (wide (imported o s)) = nowhere
 
 -- a definition with one body leads where that one does, and every other one nowhere
 abbrev pub lead_of : List Tree → Lead

@@ -1,7 +1,7 @@
 -- Which conditions are at fault (own rules): one may ask for a field of the literal that it stands in, whose label is a name there.
 use Rattle.std.specs.Prelude.{ℕ, Bool, true, false, ◌&&◌, ◌||◌, not, List, [], ◌∷◌, ◌++◌, is_some, if◌then◌else◌}
 use Rattle.std.specs.Str.{bytes_eq}
-use Rattle.cs_grammar.specs.Tree.{Test, present, truth, equals, compares, Condition, Tree, atom, named, reference, conjunction, disjunction, paren, struct, list, wide, marked, merged, shut, selected, Declarations, no_declaration, declared, embedded, conditional, Trees, none, more, Fields, no_field, field, End, closed, any, each}
+use Rattle.cs_grammar.specs.Tree.{Test, present, truth, equals, compares, Condition, Tree, atom, named, reference, conjunction, disjunction, paren, struct, list, wide, marked, merged, shut, selected, called, imported, Declarations, no_declaration, declared, embedded, conditional, Trees, none, more, Fields, no_field, field, End, closed, any, each}
 use Rattle.cs_conditions.specs.Asked.{Asked, asked, is_of, is_plain}
 use Rattle.cs_conditions.specs.Choice.{is_null}
 use Rattle.cs_conditions.specs.Known.{Knowledge}
@@ -29,6 +29,8 @@ abbrev mutual
   declares with_default f (wide (merged o ds opened)) = declarations_declare with_default f ds
   declares with_default f (wide (shut o e)) = declares with_default f e
   declares with_default f (wide (selected o s ls)) = false
+  declares with_default f (wide (called o s g z)) = false
+  declares with_default f (wide (imported o s)) = false
 
   pub some_declares : Bool → List ℕ → Trees → Bool
   some_declares with_default f none = false
@@ -113,6 +115,8 @@ abbrev mutual
   flaws known (wide (merged o ds opened)) = flaws_declarations known ds ds
   flaws known (wide (shut o e)) = flaws known e
   flaws known (wide (selected o s ls)) = []
+  flaws known (wide (called o s f z)) = []
+  flaws known (wide (imported o s)) = []
 
   pub flaws_each : Knowledge → Trees → List Flaw
   flaws_each known none = []

@@ -1,7 +1,7 @@
 -- Whether a literal stands under a condition, at any depth.
 use Rattle.std.specs.Prelude.{Bool, true, false, ◌||◌, List}
 use Rattle.std.specs.List.{list_any}
-use Rattle.cs_grammar.specs.Tree.{Tree, atom, named, reference, conjunction, disjunction, paren, struct, list, wide, marked, merged, shut, selected, Declarations, no_declaration, declared, embedded, conditional, Trees, none, more, Fields, no_field, field, End, closed, any, each, body, FileTree, definitions}
+use Rattle.cs_grammar.specs.Tree.{Tree, atom, named, reference, conjunction, disjunction, paren, struct, list, wide, marked, merged, shut, selected, called, imported, Declarations, no_declaration, declared, embedded, conditional, Trees, none, more, Fields, no_field, field, End, closed, any, each, body, FileTree, definitions}
 
 abbrev mutual
   pub has_condition : Tree → Bool
@@ -17,6 +17,8 @@ abbrev mutual
   has_condition (wide (merged o ds opened)) = declarations_have ds
   has_condition (wide (shut o e)) = has_condition e
   has_condition (wide (selected o s ls)) = false
+  has_condition (wide (called o s f z)) = false
+  has_condition (wide (imported o s)) = false
 
   pub some_has : Trees → Bool
   some_has none = false

@@ -2,9 +2,11 @@
 -- may be too many, and never too few.
 use Rattle.std.specs.Prelude.{ℕ, zero, suc, true, false, ◌&&◌, ◌||◌, List, [], ◌∷◌, codes, if◌then◌else◌}
 use Rattle.std.specs.Str.{bytes_eq}
-use Rattle.cs_grammar.specs.Atom.{Atom, top, bottom, null, boolean, integer, text, bound, not_integer, not_text, not_null}
+use Rattle.cs_grammar.specs.Atom.{Atom, top, bottom, null, boolean, integer, text, bound, not_integer, not_text, not_null, size}
 use Rattle.cs_grammar.specs.Bodies.{bodies}
-use Rattle.cs_grammar.specs.Tree.{Tree, atom, named, reference, conjunction, disjunction, paren, struct, list, wide, marked, merged, shut, selected, Trees, none, more, DefinitionTree}
+use Rattle.cs_grammar.specs.declared.ast.Counted.{Counted}
+use Rattle.cs_grammar.specs.declared.ast.Counted.TheVariants.{Characters, Elements, Keys}
+use Rattle.cs_grammar.specs.Tree.{Tree, atom, named, reference, conjunction, disjunction, paren, struct, list, wide, marked, merged, shut, selected, called, imported, Trees, none, more, DefinitionTree}
 use Rattle.cs_conditions.specs.declared.kinds.Kinds.{Kinds}
 
 abbrev pub all_kinds : Kinds
@@ -57,6 +59,12 @@ join a b = record {
   map = a.map || b.map;
 }
 
+-- those that have what is counted
+abbrev pub kinds_counted : Counted → Kinds
+kinds_counted Characters = texts
+kinds_counted Elements = lists
+kinds_counted Keys = maps
+
 abbrev pub kinds_of_atom : Atom → Kinds
 kinds_of_atom top = all_kinds
 kinds_of_atom bottom = no_kind
@@ -68,6 +76,7 @@ kinds_of_atom (bound r z) = numbers
 kinds_of_atom (not_integer z) = numbers
 kinds_of_atom (not_text s) = texts
 kinds_of_atom not_null = values
+kinds_of_atom (size c b z) = kinds_counted c
 
 -- the predeclared names (CUE, predeclared identifiers), as those of `cs_resolve`
 abbrev pub predeclared : List (List ℕ × Kinds)
@@ -109,6 +118,8 @@ abbrev mutual
   kinds known (wide (merged o ds opened)) = maps
   kinds known (wide (shut o e)) = kinds known e
   kinds known (wide (selected o s ls)) = all_kinds
+  kinds known (wide (called o s f z)) = all_kinds
+  kinds known (wide (imported o s)) = all_kinds
 
   -- those of k that each operand has
   pub kinds_of_each : (List ℕ → Kinds) → Kinds → Trees → Kinds

@@ -10,7 +10,7 @@ ghost use Rattle.cs_conditions.specs.Checks.{TellsKnown, TellsAsked, chosen_fiel
 use crate::asked::AskedTable;
 use crate::choice::Choosing;
 use cs_grammar::{
-    Declaration, Definition, Expr, Field, File, ListEnd, Wide, atom, copied_names, copied_selectors,
+    Declaration, Definition, Expr, Field, File, ListEnd, Wide, atom, copied_form, copied_names,
 };
 use std::alloc::AllocError;
 
@@ -84,11 +84,8 @@ impl<'a> Choosing<'_, 'a> {
                 let value = Box::new(self.alloc, value)?;
                 Ok(Wide::Shut { at, value })
             }
-            Wide::Selected { at, name, labels } => {
-                let at = *at;
-                let name = name.clone()?;
-                let labels = copied_selectors(self.alloc, labels)?;
-                Ok(Wide::Selected { at, name, labels })
+            Wide::Selected { .. } | Wide::Called { .. } | Wide::Imported { .. } => {
+                copied_form(self.alloc, form)
             }
         }
     }

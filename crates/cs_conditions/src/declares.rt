@@ -36,7 +36,7 @@ pub(crate) fn declares(with_default: bool, label: &str, expr: &Expr) -> bool
         | Expr::Name { .. }
         | Expr::Reference { .. }
         | Expr::List { .. }
-        | Expr::Wide(Wide::Selected { .. }) => false,
+        | Expr::Wide(Wide::Selected { .. } | Wide::Called { .. } | Wide::Imported { .. }) => false,
     }
 }
 

@@ -165,7 +165,9 @@ impl<'a> Known<'a> {
             atom!()
             | Expr::Name { .. }
             | Expr::Reference { .. }
-            | Expr::Wide(Wide::Selected { .. }) => Ok(()),
+            | Expr::Wide(Wide::Selected { .. } | Wide::Called { .. } | Wide::Imported { .. }) => Ok(
+                (),
+            ),
         }
     }
 

@@ -43,8 +43,10 @@ fn has_condition(expr: &Expr) -> bool
         Expr::List { front, end } => some_has(front) || end_has(end),
         Expr::Wide(Wide::Marked { value, .. } | Wide::Shut { value, .. }) => has_condition(value),
         Expr::Wide(Wide::Merged { declarations, .. }) => declarations_have(declarations),
-        atom!() | Expr::Name { .. } | Expr::Reference { .. } | Expr::Wide(Wide::Selected { .. }) =>
-            false,
+        atom!()
+        | Expr::Name { .. }
+        | Expr::Reference { .. }
+        | Expr::Wide(Wide::Selected { .. } | Wide::Called { .. } | Wide::Imported { .. }) => false,
     }
 }
 

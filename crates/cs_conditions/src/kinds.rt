@@ -8,7 +8,7 @@ ghost use Rattle.cs_conditions.specs.Kinds.{kinds, kinds_of_each, kinds_of_any, 
 ghost use Rattle.cs_conditions.specs.Known.{kinds_known};
 ghost use Rattle.cs_conditions.specs.Checks.{TellsKinds, TellsKindsOf};
 
-use cs_grammar::{Definition, Expr, File, Wide};
+use cs_grammar::{Counted, Definition, Expr, File, Wide};
 use std::alloc::{AllocError, Global};
 use std::collections::BTreeMap;
 
@@ -151,6 +151,17 @@ fn values() -> Kinds
     kinds
 }
 
+/// Those that have what is counted.
+fn kinds_counted(counted: Counted) -> Kinds
+    ensures { result ≡ Spec.kinds_counted counted }
+{
+    match counted {
+        Counted::Characters => texts(),
+        Counted::Elements => lists(),
+        Counted::Keys => maps(),
+    }
+}
+
 /// What a predeclared name may admit (CUE, predeclared identifiers); any other one is at fault.
 fn kinds_of_name(name: &str) -> Kinds
     ensures { result ≡ kinds_of_name name.now }
@@ -252,13 +263,16 @@ impl<'a> KindTable<'a> {
         ensures { (known : List ℕ → Kinds) → TellsKinds self.now known → result ≡ kinds known (expr_view expr.now) }
     {
         match expr {
-            Expr::Top | Expr::Wide(Wide::Selected { .. }) => all_kinds(),
+            Expr::Top
+            | Expr::Wide(Wide::Selected { .. } | Wide::Called { .. } | Wide::Imported { .. }) =>
+                all_kinds(),
             Expr::Bottom => no_kind(),
             Expr::Null => nulls(),
             Expr::Bool(_) => truths(),
             Expr::Int(_) | Expr::Bound { .. } | Expr::NotInt(_) => numbers(),
             Expr::Text(_) | Expr::NotText(_) => texts(),
             Expr::NotNull => values(),
+            Expr::Size { counted, .. } => kinds_counted(*counted),
             Expr::Name { text, .. } => kinds_of_name(text),
             Expr::Reference { text, .. } => self.of_name(text),
             Expr::And(operands) => self.of_each(operands),

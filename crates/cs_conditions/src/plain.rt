@@ -19,7 +19,7 @@ pub(crate) fn has_literal(expr: &Expr) -> bool
         | Expr::Name { .. }
         | Expr::Reference { .. }
         | Expr::List { .. }
-        | Expr::Wide(Wide::Selected { .. }) => false,
+        | Expr::Wide(Wide::Selected { .. } | Wide::Called { .. } | Wide::Imported { .. }) => false,
     }
 }
 
@@ -46,7 +46,9 @@ pub(crate) fn is_plain(expr: &Expr) -> bool
         Expr::Paren(inside) => is_plain(inside),
         Expr::List { front, end } => are_plain(front) && is_plain_end(end),
         Expr::Wide(Wide::Marked { value, .. } | Wide::Shut { value, .. }) => is_plain(value),
-        atom!() | Expr::Name { .. } | Expr::Wide(Wide::Selected { .. }) => true,
+        atom!()
+        | Expr::Name { .. }
+        | Expr::Wide(Wide::Selected { .. } | Wide::Called { .. } | Wide::Imported { .. }) => true,
     }
 }
 

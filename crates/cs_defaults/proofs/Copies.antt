@@ -4,7 +4,7 @@ use Rattle.std.specs.List.{AllByRecursion}
 use Rattle.cs_grammar.specs.declared.ast.FieldMark.{FieldMark}
 use Rattle.cs_grammar.specs.declared.ast.FieldMark.TheVariants.{Regular, Optional, Required, Every}
 use Rattle.cs_grammar.specs.DefaultForms.{IsDefault, AreDefault, AreDefaultFields, IsDefaultEnd, IsDefaultFile}
-use Rattle.cs_grammar.specs.Tree.{Label, Tree, atom, named, reference, conjunction, disjunction, paren, struct, list, wide, marked, merged, shut, selected, Trees, none, more, Fields, no_field, field, End, closed, any, each, body, DefinitionTree, definition, FileTree, file}
+use Rattle.cs_grammar.specs.Tree.{Label, Tree, atom, named, reference, conjunction, disjunction, paren, struct, list, wide, marked, merged, shut, selected, called, imported, Trees, none, more, Fields, no_field, field, End, closed, any, each, body, DefinitionTree, definition, FileTree, file}
 use Rattle.cs_grammar.specs.Written.{Place, by_itself, of_bar, of_amp, IsWrittenLabel, AreTwo, IsWritten, AreWritten, AreWrittenFields, IsWrittenEnd, IsWrittenDefinition, IsWrittenFile}
 use Rattle.cs_defaults.specs.Leading.{leading, has_default}
 use Rattle.cs_defaults.specs.Unmarked.{unasked, optional_if, unmarked, unmarked_each, unmarked_fields, unmarked_end, unmarked_definition, unmarked_file}
@@ -24,6 +24,8 @@ module _ (has : List ℕ → Bool) where
     default (wide (merged o ds opened)) = tt
     default (wide (shut o e)) = default e
     default (wide (selected o s ls)) = tt
+    default (wide (called o s f z)) = tt
+    default (wide (imported o s)) = tt
 
     default_each : (es : Trees) → AreDefault (unmarked_each has es)
     default_each none = tt
@@ -76,6 +78,8 @@ module _ (has : List ℕ → Bool) where
     written p (wide (merged o ds opened)) h = tt
     written p (wide (shut o e)) h = written by_itself e h
     written p (wide (selected o s ls)) h = tt
+    written p (wide (called o s f z)) h = tt
+    written p (wide (imported o s)) h = tt
 
     written_each : (p : Place) (es : Trees) → AreWritten p es → AreWritten p (unmarked_each has es)
     written_each p none h = tt

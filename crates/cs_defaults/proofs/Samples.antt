@@ -1,9 +1,10 @@
 -- Samples, worked by the definitions: files with marks, and what they stand for or where they are at fault.
 use Rattle.std.proofs.Common.{◌≡◌, ℕ, true, false, List, [], ◌∷◌, pos, codes, None, refl}
 use Rattle.cs_grammar.specs.Atom as atoms
-use Rattle.cs_grammar.specs.Atom.{integer, text, not_text, bound, null}
+use Rattle.cs_grammar.specs.Atom.{integer, text, not_text, bound, null, size}
 use Rattle.cs_grammar.specs.Spells.{every_label}
 use Rattle.cs_grammar.specs.Tree.{Label, written_label, present, Tree, atom, named, reference, conjunction, disjunction, paren, struct, list, wide, marked, merged, shut, declared, embedded, conditional, no_declaration, none, more, Fields, no_field, field, closed, definition, FileTree, file}
+use Rattle.cs_grammar.specs.declared.ast.Counted.TheVariants.{Characters}
 use Rattle.cs_grammar.specs.declared.ast.FieldMark.{FieldMark}
 use Rattle.cs_grammar.specs.declared.ast.FieldMark.TheVariants.{Regular, Optional, Required, Every}
 use Rattle.cs_defaults.specs.Widened.{mark_faults, IsUnmarked}
@@ -91,6 +92,10 @@ second_mark = refl
 -- `{x: (*0 | int) & >0}`: the mark
 within_a_conjunction : mark_faults (only (braces (with (codes "x") Regular (conjunction (more (paren (or (star 9 (number 0)) int)) (more (atom (bound atoms.more (pos 0))) none))) no_field))) ≡ (0, 9) ∷ []
 within_a_conjunction = refl
+
+-- `{x: *strings.MinRunes(2) | null}`: the mark
+no_length : mark_faults (only (braces (with (codes "x") Regular (or (star 8 (atom (size Characters true (pos 2)))) (atom null)) no_field))) ≡ (0, 8) ∷ []
+no_length = refl
 
 -- `{x: *#B | null}`: the mark
 no_literal : mark_faults (only (braces (with (codes "x") Regular (or (star 8 (reference (codes "B") 9)) (atom null)) no_field))) ≡ (0, 8) ∷ []

@@ -4,7 +4,7 @@ use Rattle.std.proofs.lemmas.List.Sums.{sum_by-cons}
 use Rattle.std.specs.List.{flat_map}
 use Rattle.cs_grammar.specs.Height.{height, height_all, height_fields, height_end, height_definitions, height_names, file_height}
 use Rattle.cs_grammar.specs.Size.{nodes, nodes_all, nodes_fields, nodes_end, nodes_of_definitions, nodes_of_files}
-use Rattle.cs_grammar.specs.Tree.{Tree, atom, named, reference, conjunction, disjunction, paren, struct, list, wide, marked, merged, shut, selected, Trees, none, more, Fields, no_field, field, End, closed, any, each, body, definitions, DefinitionTree, definition, FileTree, file}
+use Rattle.cs_grammar.specs.Tree.{Tree, atom, named, reference, conjunction, disjunction, paren, struct, list, wide, marked, merged, shut, selected, called, imported, Trees, none, more, Fields, no_field, field, End, closed, any, each, body, definitions, DefinitionTree, definition, FileTree, file}
 use Rattle.cs_defaults.specs.Unmarked.{unmarked, unmarked_each, unmarked_fields, unmarked_end, unmarked_definition, unmarked_file}
 
 higher : (a b c d : ℕ) → a ≤ b → c ≤ d → max a c ≤ max b d
@@ -45,6 +45,8 @@ module _ (has : List ℕ → Bool) where
     no_higher (wide (merged o ds opened)) = omega arith
     no_higher (wide (shut o e)) = omega (arith, no_higher e)
     no_higher (wide (selected o s ls)) = omega arith
+    no_higher (wide (called o s f z)) = omega arith
+    no_higher (wide (imported o s)) = omega arith
 
     each_no_higher : (es : Trees) → height_all (unmarked_each has es) ≤ height_all es
     each_no_higher none = omega arith
@@ -82,6 +84,8 @@ module _ (has : List ℕ → Bool) where
     no_smaller (wide (merged o ds opened)) = omega arith
     no_smaller (wide (shut o e)) = one_node (unmarked has e)
     no_smaller (wide (selected o s ls)) = omega arith
+    no_smaller (wide (called o s f z)) = omega arith
+    no_smaller (wide (imported o s)) = omega arith
 
     each_no_smaller : (es : Trees) → nodes_all es ≤ nodes_all (unmarked_each has es)
     each_no_smaller none = omega arith

@@ -4,7 +4,7 @@ use Rattle.std.specs.Prelude.{ℕ, ◌&&◌, ◌||◌, not, Bool, true, false, L
 use Rattle.std.specs.Str.{bytes_eq}
 use Rattle.cs_grammar.specs.declared.ast.FieldMark.{FieldMark}
 use Rattle.cs_grammar.specs.declared.ast.FieldMark.TheVariants.{Regular, Optional, Required, Every}
-use Rattle.cs_grammar.specs.Tree.{Tree, atom, named, reference, conjunction, disjunction, paren, struct, list, wide, marked, merged, shut, selected, Trees, none, more, Fields, no_field, field, End, closed, any, each}
+use Rattle.cs_grammar.specs.Tree.{Tree, atom, named, reference, conjunction, disjunction, paren, struct, list, wide, marked, merged, shut, selected, called, imported, Trees, none, more, Fields, no_field, field, End, closed, any, each}
 use Rattle.cs_defaults.specs.Leading.{leading, place_of, has_default}
 
 -- whether the key of a declaration may be absent, where these definitions hand a default on
@@ -60,6 +60,8 @@ abbrev mutual
   clashes has (wide (merged o ds opened)) = []
   clashes has (wide (shut o e)) = clashes has e
   clashes has (wide (selected o s ls)) = []
+  clashes has (wide (called o s f z)) = []
+  clashes has (wide (imported o s)) = []
 
   pub clashes_each : (List ℕ → Bool) → Trees → List ℕ
   clashes_each has none = []

@@ -1,6 +1,6 @@
 -- Which values have a default (CUE, default values; that a definition hands its default on where it has one body alone is an own rule).
 use Rattle.std.specs.Prelude.{ℕ, zero, suc, Bool, true, false, List, [], ◌∷◌, if◌then◌else◌}
-use Rattle.cs_grammar.specs.Tree.{Tree, atom, named, reference, conjunction, disjunction, paren, struct, list, wide, marked, merged, shut, selected, Trees, none, more, DefinitionTree}
+use Rattle.cs_grammar.specs.Tree.{Tree, atom, named, reference, conjunction, disjunction, paren, struct, list, wide, marked, merged, shut, selected, called, imported, Trees, none, more, DefinitionTree}
 use Rattle.cs_grammar.specs.Bodies.{bodies}
 
 -- how a value comes to a default: not at all, by its own mark, or by a definition that it refers to, each with its place
@@ -15,6 +15,8 @@ or_behind (wide (marked o e)) behind = by_mark o
 or_behind (wide (merged o ds opened)) behind = behind
 or_behind (wide (shut o e)) behind = behind
 or_behind (wide (selected o s ls)) behind = behind
+or_behind (wide (called o s f z)) behind = behind
+or_behind (wide (imported o s)) behind = behind
 or_behind (atom a) behind = behind
 or_behind (named s o) behind = behind
 or_behind (reference s o) behind = behind
@@ -42,6 +44,8 @@ leading (wide (marked o e)) = nowhere
 leading (wide (merged o ds opened)) = nowhere
 leading (wide (shut o e)) = leading e
 leading (wide (selected o s ls)) = nowhere
+leading (wide (called o s f z)) = nowhere
+leading (wide (imported o s)) = nowhere
 
 -- a definition with one body leads where that one does, and every other one nowhere
 abbrev pub leading_of : List Tree → Leading

@@ -1,8 +1,8 @@
 -- Which marks stand where none may (CUE, default values; the places are an own rule): in a disjunction that is the whole value of a field,
 -- a definition, an element of a list or all keys, parentheses aside, one operand may be marked, and it is a literal.
 use Rattle.std.specs.Prelude.{ℕ, Bool, true, false, ◌&&◌, not, List, [], ◌∷◌, ◌++◌, if◌then◌else◌}
-use Rattle.cs_grammar.specs.Atom.{Atom, top, bottom, null, boolean, integer, text, bound, not_integer, not_text, not_null}
-use Rattle.cs_grammar.specs.Tree.{Tree, atom, named, reference, conjunction, disjunction, paren, struct, list, wide, marked, merged, shut, selected, Trees, none, more, Fields, no_field, field, End, closed, any, each}
+use Rattle.cs_grammar.specs.Atom.{Atom, top, bottom, null, boolean, integer, text, bound, not_integer, not_text, not_null, size}
+use Rattle.cs_grammar.specs.Tree.{Tree, atom, named, reference, conjunction, disjunction, paren, struct, list, wide, marked, merged, shut, selected, called, imported, Trees, none, more, Fields, no_field, field, End, closed, any, each}
 
 abbrev pub is_literal_atom : Atom → Bool
 is_literal_atom null = true
@@ -15,6 +15,7 @@ is_literal_atom (bound r z) = false
 is_literal_atom (not_integer z) = false
 is_literal_atom (not_text s) = false
 is_literal_atom not_null = false
+is_literal_atom (size c b z) = false
 
 abbrev pub is_no_field : Fields → Bool
 is_no_field no_field = true
@@ -55,6 +56,8 @@ is_marked (wide (marked o e)) = true
 is_marked (wide (merged o ds opened)) = false
 is_marked (wide (shut o e)) = false
 is_marked (wide (selected o s ls)) = false
+is_marked (wide (called o s f z)) = false
+is_marked (wide (imported o s)) = false
 
 -- a literal that is marked
 abbrev pub is_default : Tree → Bool
@@ -70,9 +73,11 @@ is_default (wide (marked o e)) = is_literal e
 is_default (wide (merged o ds opened)) = false
 is_default (wide (shut o e)) = false
 is_default (wide (selected o s ls)) = false
+is_default (wide (called o s f z)) = false
+is_default (wide (imported o s)) = false
 
 -- where the marks at fault are, in order of the text, in an expression that is a whole value or isn't; a literal with embeddings is one of them, and
--- so is a name with selectors, as files come here without these
+-- so are a name with selectors, a call and what is imported, as files come here without these
 abbrev mutual
   pub misplaced : Bool → Tree → List ℕ
   misplaced whole (atom a) = []
@@ -87,6 +92,8 @@ abbrev mutual
   misplaced whole (wide (merged o ds opened)) = o ∷ []
   misplaced whole (wide (shut o e)) = misplaced false e
   misplaced whole (wide (selected o s ls)) = o ∷ []
+  misplaced whole (wide (called o s f z)) = o ∷ []
+  misplaced whole (wide (imported o s)) = o ∷ []
 
   pub misplaced_each : Bool → Trees → List ℕ
   misplaced_each whole none = []

@@ -3,7 +3,7 @@
 use Rattle.std.specs.Prelude.{ℕ, Bool, true, false, List, map}
 use Rattle.cs_grammar.specs.declared.ast.FieldMark.{FieldMark}
 use Rattle.cs_grammar.specs.declared.ast.FieldMark.TheVariants.{Regular, Optional, Required, Every}
-use Rattle.cs_grammar.specs.Tree.{Label, Tree, atom, named, reference, conjunction, disjunction, paren, struct, list, wide, marked, merged, shut, selected, bottom, Trees, none, more, Fields, no_field, field, End, closed, any, each, DefinitionTree, definition, FileTree, file, package_name, definitions, names}
+use Rattle.cs_grammar.specs.Tree.{Label, Tree, atom, named, reference, conjunction, disjunction, paren, struct, list, wide, marked, merged, shut, selected, called, imported, bottom, Trees, none, more, Fields, no_field, field, End, closed, any, each, DefinitionTree, definition, FileTree, file, package_name, definitions, names}
 use Rattle.cs_defaults.specs.Leading.{leading, has_default}
 
 -- a label of which no condition is told
@@ -32,8 +32,10 @@ abbrev mutual
   -- never asked for: a literal with embeddings is at fault
   unmarked has (wide (merged o ds opened)) = atom bottom
   unmarked has (wide (shut o e)) = paren (unmarked has e)
-  -- nor is a name with selectors asked for: it is at fault
+  -- nor is a name with selectors, a call or what is imported asked for: they are at fault
   unmarked has (wide (selected o s ls)) = atom bottom
+  unmarked has (wide (called o s f z)) = atom bottom
+  unmarked has (wide (imported o s)) = atom bottom
 
   pub unmarked_each : (List ℕ → Bool) → Trees → Trees
   unmarked_each has none = none

@@ -125,7 +125,12 @@ impl Clashes<'_, '_> {
             atom!()
             | Expr::Name { .. }
             | Expr::Reference { .. }
-            | Expr::Wide(Wide::Merged { .. } | Wide::Selected { .. }) => Ok(()),
+            | Expr::Wide(
+                Wide::Merged { .. }
+                | Wide::Selected { .. }
+                | Wide::Called { .. }
+                | Wide::Imported { .. },
+            ) => Ok(()),
         }
     }
 

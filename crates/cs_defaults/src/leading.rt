@@ -42,9 +42,13 @@ pub(crate) fn leading(expr: &Expr) -> Lead<'_>
         | Expr::And(_)
         | Expr::Struct { .. }
         | Expr::List { .. }
-        | Expr::Wide(Wide::Marked { .. } | Wide::Merged { .. } | Wide::Selected { .. }) => {
-            Lead::Nowhere
-        }
+        | Expr::Wide(
+            Wide::Marked { .. }
+            | Wide::Merged { .. }
+            | Wide::Selected { .. }
+            | Wide::Called { .. }
+            | Wide::Imported { .. },
+        ) => { Lead::Nowhere }
     }
 }
 

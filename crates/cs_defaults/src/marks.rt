@@ -67,7 +67,13 @@ fn is_default(expr: &Expr) -> bool
         | Expr::Paren(_)
         | Expr::Struct { .. }
         | Expr::List { .. }
-        | Expr::Wide(Wide::Merged { .. } | Wide::Shut { .. } | Wide::Selected { .. }) => false,
+        | Expr::Wide(
+            Wide::Merged { .. }
+            | Wide::Shut { .. }
+            | Wide::Selected { .. }
+            | Wide::Called { .. }
+            | Wide::Imported { .. },
+        ) => false,
     }
 }
 
@@ -85,8 +91,13 @@ pub(crate) fn check_marks(expr: &Expr, is_whole: bool) -> Result<(), usize>
             check_each(front, true)?;
             check_end(end)
         }
-        Expr::Wide(Wide::Marked { at, .. } | Wide::Merged { at, .. } | Wide::Selected { at, .. }) =>
-            Err(*at),
+        Expr::Wide(
+            Wide::Marked { at, .. }
+            | Wide::Merged { at, .. }
+            | Wide::Selected { at, .. }
+            | Wide::Called { at, .. }
+            | Wide::Imported { at, .. },
+        ) => Err(*at),
         Expr::Wide(Wide::Shut { value, .. }) => check_marks(value, false),
         atom!() | Expr::Name { .. } | Expr::Reference { .. } => Ok(()),
     }

@@ -72,8 +72,11 @@ impl Unmarking<'_, '_> {
     {
         match form {
             Wide::Marked { value, .. } => self.unmarked(value),
-            // Never asked for: a literal with embeddings is at fault, and so is a name with selectors.
-            Wide::Merged { .. } | Wide::Selected { .. } => Ok(Expr::Bottom),
+            // Never asked for: a literal with embeddings is at fault, and so are a name with selectors, a call and what is imported.
+            Wide::Merged { .. }
+            | Wide::Selected { .. }
+            | Wide::Called { .. }
+            | Wide::Imported { .. } => Ok(Expr::Bottom),
             Wide::Shut { value, .. } => {
                 let value = self.unmarked(value)?;
                 Ok(Expr::Paren(Box::new(self.alloc, value)?))

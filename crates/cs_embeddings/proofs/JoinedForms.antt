@@ -1,11 +1,11 @@
 -- What each form of an expression stands for, from what its parts stand for.
-use Rattle.std.proofs.Common.{◌≡◌, ℕ, suc, ◌+◌, ◌≤◌, Bool, true, false, not, ◌&&◌, List, ◌++◌, Some, Result, sym, ap, ap₂, ◌∙◌, subst, arith}
+use Rattle.std.proofs.Common.{◌≡◌, ℕ, suc, ◌+◌, ◌≤◌, Bool, true, false, not, ◌&&◌, List, ◌++◌, Option, Some, Result, sym, ap, ap₂, ◌∙◌, subst, arith}
 use Rattle.std.proofs.lemmas.Bool.{and_parts, cond-true, cond-false}
 use Rattle.std.specs.List.{flat_map}
 use Rattle.cs_grammar.specs.Height.{height, height_all, height_end}
-use Rattle.cs_grammar.specs.Tree.{Tree, Trees, End, conjunction, disjunction, list, wide, marked, DefinitionTree}
+use Rattle.cs_grammar.specs.Tree.{Tree, Trees, End, conjunction, disjunction, paren, list, wide, marked, DefinitionTree}
 use Rattle.cs_embeddings.proofs.Marked.{well_behind, marks_joined, marks_high, marks_large, marks_clashes}
-use Rattle.cs_embeddings.proofs.Parts.{no_room_left, no_room_right, no_room_inside, made_inside}
+use Rattle.cs_embeddings.proofs.Parts.{no_room_left, no_room_right, no_room_inside, made_inside, made_below}
 use Rattle.cs_embeddings.specs.Alternatives.{at, most_steps}
 use Rattle.cs_embeddings.specs.Clashes.{clashes_with, clashes_each, clashes_end, clashes_of, clashes_value}
 use Rattle.cs_embeddings.specs.Embedded.{can_be_embedded, embeds_well, embed_well, end_embeds_well}
@@ -41,6 +41,23 @@ module _ (ds : List DefinitionTree) (n : ℕ) where
 
   abbrev pub IsMadeOf : Room → ℕ → ℕ → Tree → Tree → Type 0
   IsMadeOf room nodes rest x t = IsMade room.levels nodes rest (height (meant room t)) (size (meant room t)) x (meant room t) (found room t)
+
+  -- in parentheses
+
+  pub paren_made : (room below r : Room) → IsBelow room below → r ≡ record below { is_whole = true } → room.levels ≤ n → (u : Tree) (nodes rest : ℕ) (x y : Tree)
+      → y ≡ paren x → (r.levels ≤ n → IsMadeOf r nodes rest x u) → IsMadeOf room nodes rest y (paren u)
+  paren_made room below r goes whole deep u nodes rest x y is h =
+      let less : suc r.levels ≡ room.levels = ap (λ (q : Room). suc q.levels) whole ∙ goes.levels in
+      let place : r.place ≡ room.place = ap (λ (q : Room). q.place) whole ∙ goes.place in
+      let all : r.is_whole ≡ true = ap (λ (q : Room). q.is_whole) whole in
+      let J : Bool → Option ℕ → Tree = λ b p. joined_with ds (joined_value ds n) b p u in
+      let C : Option ℕ → List ℕ = λ p. clashes_with ds (clashes_value ds n) p u in
+      let b = r.is_whole in
+      let here = h (omega arith) in
+      let there = subst (λ p. IsMade r.levels nodes rest (height (J b p)) (size (J b p)) x (J b p) (C p)) place here in
+      let p = room.place in
+      let made = subst (λ w. IsMade r.levels nodes rest (height (J w p)) (size (J w p)) x (J w p) (C p)) all there in
+      made_below room.levels r.levels less nodes rest (height (J true p)) (size (J true p)) x (J true p) (C p) paren y is made
 
   -- many
 

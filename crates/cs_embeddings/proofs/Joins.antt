@@ -4,7 +4,7 @@ use Rattle.std.proofs.lemmas.Bool.{and_parts, both_ways, cond-true, cond-false}
 use Rattle.std.proofs.lemmas.List.{drop_more}
 use Rattle.std.specs.Borrow.{Bor}
 use Rattle.std.specs.List.{flat_map, list_all}
-use Rattle.cs_grammar.specs.Tree.{Tree, atom, named, reference, conjunction, disjunction, paren, struct, list, wide, marked, merged, shut, selected, Declarations, Trees, Fields, DefinitionTree}
+use Rattle.cs_grammar.specs.Tree.{Tree, atom, named, reference, conjunction, disjunction, paren, struct, list, wide, marked, merged, shut, selected, called, imported, Declarations, Trees, Fields, DefinitionTree}
 use Rattle.cs_grammar.specs.Bodies.{bodies}
 use Rattle.cs_grammar.specs.View.{expr_view, exprs_view, field_view, declaration_view, declarations_view, declarations_of, SeenDeclaration, field_seen, embedding_seen}
 use Rattle.cs_grammar.specs.declared.ast.Declaration as Declared
@@ -32,6 +32,8 @@ is_put_together (wide (marked o e)) = false
 is_put_together (wide (merged o cs b)) = true
 is_put_together (wide (shut o e)) = false
 is_put_together (wide (selected o s ls)) = false
+is_put_together (wide (called o s f z)) = false
+is_put_together (wide (imported o s)) = false
 
 module _ (ds : List DefinitionTree) where
   pub no_steps : (n : ℕ) (e : Tree) → n ≡ 0 → can_be_embedded ds n e ≡ true → ⊥
@@ -52,6 +54,8 @@ module _ (ds : List DefinitionTree) where
   by_form (suc n) (wide (marked o e)) h = refl
   by_form (suc n) (wide (shut o e)) h = refl
   by_form (suc n) (wide (selected o s ls)) h = refl
+  by_form (suc n) (wide (called o s f z)) h = refl
+  by_form (suc n) (wide (imported o s)) h = refl
   by_form (suc n) (wide (merged o cs b)) h = absurd (both_ways true h refl)
 
   pub no_form : (n : ℕ) (e : Tree) → is_put_together e ≡ false → can_be_embedded ds n e ≡ true → ⊥

@@ -3,7 +3,7 @@ use Rattle.std.proofs.Common.{rules, ◌≡◌, ℕ, suc, ◌/◌, ◌<◌, ◌�
 use Rattle.std.proofs.lemmas.List.{append-nil}
 use Rattle.std.specs.List.{flat_map}
 use Rattle.cs_grammar.specs.Height.{height}
-use Rattle.cs_grammar.specs.Tree.{DefinitionTree, Tree, atom, bottom, named, reference, conjunction, disjunction, paren, struct, list, wide, marked, merged, shut, selected}
+use Rattle.cs_grammar.specs.Tree.{DefinitionTree, Tree, atom, bottom, named, reference, conjunction, disjunction, paren, struct, list, wide, marked, merged, shut, selected, called, imported}
 use Rattle.cs_grammar.specs.View.{expr_view}
 use Rattle.cs_grammar.specs.declared.ast.Expr as Exprs
 use Rattle.cs_grammar.specs.declared.ast.Expr.{Expr}
@@ -34,6 +34,8 @@ some_node (wide (marked o e)) = some_node e
 some_node (wide (merged o cs b)) = omega arith
 some_node (wide (shut o e)) = some_node e
 some_node (wide (selected o s ls)) = omega arith
+some_node (wide (called o s f z)) = omega arith
+some_node (wide (imported o s)) = omega arith
 
 module _ (ds : List DefinitionTree) (value : Option ℕ → Tree → Tree) (o : ℕ) where
   fields_heavy : (bs : List Brought) → length bs ≤ size_fields (fields_of_brought ds value bs)

@@ -2,7 +2,7 @@
 use Rattle.std.proofs.Common.{◌≡◌, ℕ, zero, suc, ◌+◌, ◌-◌, ◌≤◌, Bool, true, false, List, [], ◌∷◌, refl, arith, subst}
 use Rattle.std.proofs.lemmas.Bool.{and_parts, and_from, both_ways}
 use Rattle.std.specs.List.{list_all}
-use Rattle.cs_grammar.specs.Tree.{Tree, atom, named, reference, conjunction, disjunction, paren, struct, list, wide, marked, merged, shut, selected, Declarations, no_declaration, declared, embedded, conditional, Trees, none, more, Fields, no_field, field, End, closed, any, each, DefinitionTree}
+use Rattle.cs_grammar.specs.Tree.{Tree, atom, named, reference, conjunction, disjunction, paren, struct, list, wide, marked, merged, shut, selected, called, imported, Declarations, no_declaration, declared, embedded, conditional, Trees, none, more, Fields, no_field, field, End, closed, any, each, DefinitionTree}
 use Rattle.cs_grammar.specs.Bodies.{bodies}
 use Rattle.cs_embeddings.specs.Embedded.{has_operand, all_embedded, embeds_well, embed_well, fields_embed_well, declarations_embed_well, end_embeds_well, can_be_embedded}
 
@@ -32,6 +32,8 @@ module _ (f g : Tree → Bool) (takes : (e : Tree) → f e ≡ true → g e ≡ 
     well_more (wide (merged o cs b)) h = declarations_well_more cs h
     well_more (wide (shut o e)) h = well_more e h
     well_more (wide (selected o s ls)) h = h
+    well_more (wide (called o s f z)) h = h
+    well_more (wide (imported o s)) h = h
 
     pub each_well_more : (es : Trees) → embed_well f es ≡ true → embed_well g es ≡ true
     each_well_more none h = h
@@ -70,6 +72,8 @@ module _ (ds : List DefinitionTree) where
   step_more (suc n) (wide (marked o e)) h = h
   step_more (suc n) (wide (shut o e)) h = h
   step_more (suc n) (wide (selected o s ls)) h = h
+  step_more (suc n) (wide (called o s f z)) h = h
+  step_more (suc n) (wide (imported o s)) h = h
   step_more (suc n) (paren e) h = step_more n e h
   step_more (suc n) (disjunction es) h =
       let p = and_parts (has_operand es) (all_embedded (can_be_embedded ds n) es) h in

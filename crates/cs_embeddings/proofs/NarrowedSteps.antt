@@ -10,7 +10,7 @@ use Rattle.std.specs.Map.{update}
 use Rattle.std.specs.Ordering.{nat_cmp}
 use Rattle.std.specs.Result.{IfOk, OnOk}
 use Rattle.std.specs.Str.{bytes_eq}
-use Rattle.cs_grammar.specs.Tree.{Tree, atom, named, reference, conjunction, disjunction, paren, struct, list, wide, marked, merged, shut, selected, DefinitionTree}
+use Rattle.cs_grammar.specs.Tree.{Tree, atom, named, reference, conjunction, disjunction, paren, struct, list, wide, marked, merged, shut, selected, called, imported, DefinitionTree}
 use Rattle.cs_grammar.specs.Bodies.{bodies}
 use Rattle.cs_grammar.specs.View.{SeenDeclaration, field_seen, embedding_seen, conditional_seen, declaration_view, declarations_view, declarations_of}
 use Rattle.cs_grammar.specs.declared.ast.Declaration.{Declaration}
@@ -87,6 +87,8 @@ declares_step ds s inner (wide (merged o cs b)) = has_declaration inner s cs
 declares_step ds s inner (wide (marked o e)) = false
 declares_step ds s inner (wide (shut o e)) = false
 declares_step ds s inner (wide (selected o t ls)) = false
+declares_step ds s inner (wide (called o t f z)) = false
+declares_step ds s inner (wide (imported o t)) = false
 declares_step ds s inner (paren e) = inner e
 declares_step ds s inner (disjunction es) = all_embedded inner es
 declares_step ds s inner (conjunction es) = some_declares inner es
@@ -115,6 +117,8 @@ module _ (ds : List DefinitionTree) where
   declares_one n s (wide (marked o e)) = refl
   declares_one n s (wide (shut o e)) = refl
   declares_one n s (wide (selected o t ls)) = refl
+  declares_one n s (wide (called o t f z)) = refl
+  declares_one n s (wide (imported o t)) = refl
   declares_one n s (paren e) = refl
   declares_one n s (disjunction es) = refl
   declares_one n s (conjunction es) = refl

@@ -2,7 +2,7 @@
 use Rattle.std.proofs.Common.{◌≡◌, ℕ, Bool, true, false, not, ◌||◌, cond, List, [], ◌∷◌, ◌++◌, map, Option, Some, None, is_some, refl, sym, ap, ap₂, ◌∙◌}
 use Rattle.std.proofs.lemmas.Bool.{and_parts, and_from, both_ways, cond_both, cond-false}
 use Rattle.std.specs.List.{flat_map, AllByRecursion}
-use Rattle.cs_grammar.specs.Tree.{Tree, atom, named, reference, conjunction, disjunction, paren, struct, list, wide, marked, merged, shut, selected, Trees, none, more, End, closed, any, each, DefinitionTree}
+use Rattle.cs_grammar.specs.Tree.{Tree, atom, named, reference, conjunction, disjunction, paren, struct, list, wide, marked, merged, shut, selected, called, imported, Trees, none, more, End, closed, any, each, DefinitionTree}
 use Rattle.cs_grammar.specs.View.{trees_of}
 use Rattle.cs_grammar.specs.Written.{Place, AreWritten, AreTwo}
 use Rattle.cs_embeddings.specs.Clashes.{clashes_with, clashes_each, clashes_end}
@@ -41,6 +41,8 @@ mutual
   plain_open (wide (merged o cs b)) h = cc
   plain_open (wide (shut o e)) h = plain_open e h
   plain_open (wide (selected o s ls)) h = refl
+  plain_open (wide (called o s f z)) h = refl
+  plain_open (wide (imported o s)) h = refl
 
   all_plain_open : (es : Trees) → hold es ≡ None → are_open es ≡ true
   all_plain_open none h = refl
@@ -85,6 +87,8 @@ module _ (ds : List DefinitionTree) where
       no_clash (wide (merged o cs b)) h = cc
       no_clash (wide (shut o e)) h = no_clash e h
       no_clash (wide (selected o s ls)) h = refl
+      no_clash (wide (called o s f z)) h = refl
+      no_clash (wide (imported o s)) h = refl
 
       no_clashes : (es : Trees) → hold es ≡ None → clashes_each ds inner p es ≡ []
       no_clashes none h = refl

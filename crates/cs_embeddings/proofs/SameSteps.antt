@@ -3,7 +3,7 @@ use Rattle.std.proofs.Common.{◌≡◌, ℕ, zero, suc, Bool, true, false, ◌&
 use Rattle.std.proofs.lemmas.Bool.{and_parts, both_ways, cond_both}
 use Rattle.std.specs.List.{list_all, list_any}
 use Rattle.cs_grammar.specs.declared.ast.FieldMark.{FieldMark}
-use Rattle.cs_grammar.specs.Tree.{Label, Tree, atom, named, reference, conjunction, disjunction, paren, struct, list, wide, marked, merged, shut, selected, Declarations, no_declaration, declared, embedded, conditional, Trees, none, more, Fields, no_field, field, DefinitionTree}
+use Rattle.cs_grammar.specs.Tree.{Label, Tree, atom, named, reference, conjunction, disjunction, paren, struct, list, wide, marked, merged, shut, selected, called, imported, Declarations, no_declaration, declared, embedded, conditional, Trees, none, more, Fields, no_field, field, DefinitionTree}
 use Rattle.cs_grammar.specs.Bodies.{bodies}
 use Rattle.cs_embeddings.specs.Embedded.{has_operand, all_embedded, embeds_well, declarations_embed_well, can_be_embedded}
 use Rattle.cs_embeddings.specs.Gathered.{is_every}
@@ -73,6 +73,8 @@ module _ (f g : List ℕ → Bool) (same : (s : List ℕ) → f s ≡ g s) where
     narrows_same (wide (merged o cs b)) = ap (λ c. not b && c) (declared_same cs)
     narrows_same (wide (shut o e)) = refl
     narrows_same (wide (selected o s ls)) = refl
+    narrows_same (wide (called o s f z)) = refl
+    narrows_same (wide (imported o s)) = refl
 
     each_same : (es : Trees) → each_narrows f es ≡ each_narrows g es
     each_same none = refl
@@ -117,6 +119,8 @@ module _ (ds : List DefinitionTree) where
   declares_same s (suc n) (suc m) (wide (marked o e)) h k = refl
   declares_same s (suc n) (suc m) (wide (shut o e)) h k = refl
   declares_same s (suc n) (suc m) (wide (selected o t ls)) h k = refl
+  declares_same s (suc n) (suc m) (wide (called o t f z)) h k = refl
+  declares_same s (suc n) (suc m) (wide (imported o t)) h k = refl
   declares_same s (suc n) (suc m) (paren e) h k = declares_same s n m e h k
   declares_same s (suc n) (suc m) (disjunction es) h k =
       let p = and_parts (has_operand es) (all_embedded (can_be_embedded ds n) es) h in

@@ -1,8 +1,9 @@
 -- Samples, worked by the definitions: files with embeddings, and what they stand for or why they are refused.
-use Rattle.std.proofs.Common.{◌≡◌, ℕ, true, false, List, [], ◌∷◌, codes, None, refl}
-use Rattle.cs_grammar.specs.Atom.{not_text}
+use Rattle.std.proofs.Common.{◌≡◌, ℕ, true, false, List, [], ◌∷◌, pos, codes, None, refl}
+use Rattle.cs_grammar.specs.Atom.{not_text, size}
 use Rattle.cs_grammar.specs.Spells.{every_label}
 use Rattle.cs_grammar.specs.Tree.{Label, written_label, present, Tree, atom, text, named, reference, conjunction, disjunction, paren, struct, wide, merged, Declarations, no_declaration, declared, embedded, conditional, none, more, Fields, no_field, field, DefinitionTree, definition, FileTree, file}
+use Rattle.cs_grammar.specs.declared.ast.Counted.TheVariants.{Characters, Keys}
 use Rattle.cs_grammar.specs.declared.ast.FieldMark.TheVariants.{Regular, Optional, Required, Every}
 use Rattle.cs_embeddings.specs.Alternatives.{alternatives}
 use Rattle.cs_embeddings.specs.Clashes.{clashes_value}
@@ -61,6 +62,13 @@ string o = named (codes "string") o
 -- the text "x"
 abbrev x : Tree
 x = atom (text (codes "x"))
+
+-- `strings.MinRunes(2)`, and `struct.MinFields(1)`
+abbrev long : Tree
+long = atom (size Characters true (pos 2))
+
+abbrev some_fields : Tree
+some_fields = atom (size Keys true (pos 1))
 
 -- `{name: int}` at that offset
 abbrev one : List ℕ → ℕ → Tree
@@ -216,6 +224,16 @@ asked_stays : let files = only (definition (codes "P") 0 (braces 4 (field (label
 unfolding can_be_embedded joins_well alternatives clashes_value joined_value
 asked_stays = record { flawless = refl; apart = refl; joined = refl }
 
+-- `#B: {a: strings.MinRunes(2)}` and `#P: {#B, b: int}` for `{a: strings.MinRunes(2), b: int}`: a length is brought as any value
+length_is_brought : IsJoined (only (definition (codes "B") 0 (braces 4 (with (codes "a") long no_field)) ∷ definition (codes "P") 20 (literal 24 (puts 25 (refers (codes "B")) (has (codes "b") (int 32) no_declaration))) ∷ [])) (only (definition (codes "B") 0 (braces 4 (with (codes "a") long no_field)) ∷ definition (codes "P") 20 (braces 24 (with (codes "a") long (with (codes "b") (int 32) no_field))) ∷ []))
+unfolding can_be_embedded joins_well alternatives clashes_value joined_value
+length_is_brought = record { flawless = refl; apart = refl; joined = refl }
+
+-- `#P: {a: int} & struct.MinFields(1)` for itself: a length is no literal
+length_of_a_literal_stays : let files = only (definition (codes "P") 0 (and (one (codes "a") 4) some_fields) ∷ []) in IsJoined files files
+unfolding can_be_embedded joins_well alternatives clashes_value joined_value
+length_of_a_literal_stays = record { flawless = refl; apart = refl; joined = refl }
+
 -- ---- why files are refused
 
 -- `#P: {a?: int, if a != _|_ {b: int}}`: the `if`, as files come here without these
@@ -232,6 +250,11 @@ embeds_itself = refl
 embeds_a_kind : flaws_of_files (only (definition (codes "B") 0 (int 4) ∷ definition (codes "P") 0 (literal 24 (puts 25 (refers (codes "B")) (has (codes "a") (int 32) no_declaration))) ∷ [])) ≡ (0, no_struct 25) ∷ []
 unfolding can_be_embedded joins_well
 embeds_a_kind = refl
+
+-- `#P: {struct.MinFields(1), a: int}`: what is embedded, as a length is no struct
+embeds_a_length : flaws_of_files (only (definition (codes "P") 0 (literal 4 (puts 5 (λ o. some_fields) (has (codes "a") (int 27) no_declaration))) ∷ [])) ≡ (0, no_struct 5) ∷ []
+unfolding can_be_embedded joins_well
+embeds_a_length = refl
 
 -- `#P: {#B, a: int}` without #B: its name
 embeds_nothing_declared : flaws_of_files (only (definition (codes "P") 0 (literal 24 (puts 25 (refers (codes "B")) (has (codes "a") (int 32) no_declaration))) ∷ [])) ≡ (0, unknown 25) ∷ []

@@ -10,7 +10,7 @@ use Rattle.std.specs.Str.{bytes_eq}
 use Rattle.std.proofs.lemmas.Bool.{both_ways}
 use Rattle.std.proofs.lemmas.Bool.Decides.{nat_tests}
 use Rattle.std.proofs.lemmas.Slice.Eq.{bytes_eq-Decides}
-use Rattle.cs_grammar.specs.Tree.{Tree, atom, named, reference, conjunction, disjunction, paren, struct, list, wide, marked, merged, shut, selected, DefinitionTree}
+use Rattle.cs_grammar.specs.Tree.{Tree, atom, named, reference, conjunction, disjunction, paren, struct, list, wide, marked, merged, shut, selected, called, imported, DefinitionTree}
 use Rattle.cs_grammar.specs.Bodies.{bodies}
 use Rattle.cs_embeddings.specs.Checks.{TellsLeast, TellsRounds, TellsSteps, takes_by}
 use Rattle.cs_embeddings.specs.Embedded.{has_operand, all_embedded, fields_embed_well, declarations_embed_well, can_be_embedded}
@@ -26,6 +26,8 @@ can_step ds inner (wide (merged o cs b)) = declarations_embed_well inner cs
 can_step ds inner (wide (marked o e)) = false
 can_step ds inner (wide (shut o e)) = false
 can_step ds inner (wide (selected o s ls)) = false
+can_step ds inner (wide (called o s f z)) = false
+can_step ds inner (wide (imported o s)) = false
 can_step ds inner (paren e) = inner e
 can_step ds inner (disjunction es) = has_operand es && all_embedded inner es
 can_step ds inner (conjunction es) = all_embedded inner es
@@ -42,6 +44,8 @@ module _ (ds : List DefinitionTree) where
   step n (wide (marked o e)) = refl
   step n (wide (shut o e)) = refl
   step n (wide (selected o s ls)) = refl
+  step n (wide (called o s f z)) = refl
+  step n (wide (imported o s)) = refl
   step n (paren e) = refl
   step n (disjunction es) = refl
   step n (reference s o) = refl

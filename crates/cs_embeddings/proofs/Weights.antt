@@ -4,7 +4,7 @@ use Rattle.std.proofs.Common.{◌≡◌, ℕ, zero, suc, ◌+◌, ◌≤◌, Boo
 use Rattle.std.proofs.lemmas.Bool.{and_parts, both_ways, cond_both}
 use Rattle.std.proofs.lemmas.List.{length_push}
 use Rattle.std.specs.List.{flat_map, list_all}
-use Rattle.cs_grammar.specs.Tree.{Tree, atom, named, reference, conjunction, disjunction, paren, struct, list, wide, marked, merged, shut, selected, Declarations, no_declaration, declared, embedded, conditional, Trees, none, more, Fields, no_field, field, DefinitionTree}
+use Rattle.cs_grammar.specs.Tree.{Tree, atom, named, reference, conjunction, disjunction, paren, struct, list, wide, marked, merged, shut, selected, called, imported, Declarations, no_declaration, declared, embedded, conditional, Trees, none, more, Fields, no_field, field, DefinitionTree}
 use Rattle.cs_grammar.specs.Bodies.{bodies}
 use Rattle.cs_embeddings.specs.Alternatives.{Origin, Alternative, with_declaration, with_fields, opened_if, meets, meet, embedded_at, referred_at, join_declarations, join_bodies, join_operands, join_all, join_definition, alternatives}
 use Rattle.cs_embeddings.specs.Embedded.{has_operand, all_embedded, embeds_well, declarations_embed_well, can_be_embedded}
@@ -122,6 +122,8 @@ module _ (ds : List DefinitionTree) where
   alternatives_grow (suc n) p (wide (marked o e)) h a = absurd (both_ways false refl h)
   alternatives_grow (suc n) p (wide (shut o e)) h a = absurd (both_ways false refl h)
   alternatives_grow (suc n) p (wide (selected o s ls)) h a = absurd (both_ways false refl h)
+  alternatives_grow (suc n) p (wide (called o s f z)) h a = absurd (both_ways false refl h)
+  alternatives_grow (suc n) p (wide (imported o s)) h a = absurd (both_ways false refl h)
   alternatives_grow (suc n) p (paren e) h a = alternatives_grow n p e h a
   alternatives_grow (suc n) p (disjunction es) h a =
       let w = and_parts (has_operand es) (all_embedded (can_be_embedded ds n) es) h in

@@ -3,7 +3,7 @@ use Rattle.std.proofs.Common.{◌≡◌, ℕ, zero, suc, ◌≤◌, Bool, true, 
 use Rattle.std.proofs.lemmas.Bool.{and_parts, both_ways, cond_both}
 use Rattle.std.specs.List.{flat_map, list_all, AllByRecursion}
 use Rattle.cs_grammar.specs.declared.ast.FieldMark.{FieldMark}
-use Rattle.cs_grammar.specs.Tree.{Label, Tree, atom, named, reference, conjunction, disjunction, paren, struct, list, wide, marked, merged, shut, selected, Declarations, no_declaration, declared, embedded, conditional, Trees, none, more, Fields, no_field, field, DefinitionTree}
+use Rattle.cs_grammar.specs.Tree.{Label, Tree, atom, named, reference, conjunction, disjunction, paren, struct, list, wide, marked, merged, shut, selected, called, imported, Declarations, no_declaration, declared, embedded, conditional, Trees, none, more, Fields, no_field, field, DefinitionTree}
 use Rattle.cs_grammar.specs.Bodies.{bodies}
 use Rattle.cs_embeddings.specs.Alternatives.{Origin, Alternative, nothing, with_declaration, with_fields, opened_if, meets, meet, itself, embedded_at, referred_at, join_declarations, join_bodies, join_operands, join_all, join_definition, alternatives, alternatives_of, most_steps}
 use Rattle.cs_embeddings.specs.Embedded.{has_operand, all_embedded, embeds_well, fields_embed_well, declarations_embed_well, can_be_embedded}
@@ -105,6 +105,8 @@ module _ (ds : List DefinitionTree) (most : ℕ) where
   well_alternatives (suc n) l p (wide (marked o e)) h a k = absurd (both_ways false refl h)
   well_alternatives (suc n) l p (wide (shut o e)) h a k = absurd (both_ways false refl h)
   well_alternatives (suc n) l p (wide (selected o s ls)) h a k = absurd (both_ways false refl h)
+  well_alternatives (suc n) l p (wide (called o s f z)) h a k = absurd (both_ways false refl h)
+  well_alternatives (suc n) l p (wide (imported o s)) h a k = absurd (both_ways false refl h)
   well_alternatives (suc n) l p (paren e) h a k = well_alternatives n (omega arith) p e h a k
   well_alternatives (suc n) l p (disjunction es) h a k =
       let w = and_parts (has_operand es) (all_embedded (can_be_embedded ds n) es) h in

@@ -6,7 +6,7 @@ use Rattle.std.specs.Str.{bytes_eq}
 use Rattle.cs_grammar.specs.declared.ast.FieldMark.{FieldMark}
 use Rattle.cs_grammar.specs.declared.ast.FieldMark.TheVariants.{Regular, Optional, Required, Every}
 use Rattle.cs_grammar.specs.Limits.{most_height}
-use Rattle.cs_grammar.specs.Tree.{Label, Tree, atom, named, reference, conjunction, disjunction, paren, struct, list, wide, marked, merged, shut, selected, Declarations, no_declaration, declared, embedded, conditional, Trees, none, more, Fields, no_field, field, End, closed, any, each, DefinitionTree, definition, defined_name, body, FileTree, file}
+use Rattle.cs_grammar.specs.Tree.{Label, Tree, atom, named, reference, conjunction, disjunction, paren, struct, list, wide, marked, merged, shut, selected, called, imported, Declarations, no_declaration, declared, embedded, conditional, Trees, none, more, Fields, no_field, field, End, closed, any, each, DefinitionTree, definition, defined_name, body, FileTree, file}
 use Rattle.cs_grammar.specs.Bodies.{bodies}
 use Rattle.cs_grammar.specs.Written.{Place, by_itself, of_bar, of_amp, IsWritten, AreWritten, AreWrittenFields, AreWrittenDeclarations, IsWrittenEnd, IsWrittenLabel, AreTwo, IsWrittenDefinition, IsWrittenFile}
 use Rattle.cs_embeddings.proofs.GatheredParts.{IsWrittenBrought, IsStanding, CanStand, gathered_standing, IsDefined, CanBeDefined, one_defined}
@@ -120,6 +120,8 @@ module _ (ds : List DefinitionTree) (all : AllByRecursion IsWrittenDefinition ds
   alternatives_written (suc n) p q (wide (marked o e)) h a k = tt
   alternatives_written (suc n) p q (wide (shut o e)) h a k = tt
   alternatives_written (suc n) p q (wide (selected o s ls)) h a k = tt
+  alternatives_written (suc n) p q (wide (called o s f z)) h a k = tt
+  alternatives_written (suc n) p q (wide (imported o s)) h a k = tt
   alternatives_written (suc n) p q (paren e) h a k = alternatives_written n p by_itself e h a k
   alternatives_written (suc n) p q (disjunction es) h a k = operands_written (alternatives ds n) (alternatives_written n) p of_bar es h.2 a k
   alternatives_written (suc n) p q (reference s o) h a k = definition_written (alternatives ds n) (alternatives_written n) s (referred_at p o) (bodies s ds)
@@ -199,6 +201,8 @@ module _ (ds : List DefinitionTree) (all : AllByRecursion IsWrittenDefinition ds
       written q whole fit p (wide (marked o e)) h = written q false (no_whole q) p e h
       written q whole fit p (wide (shut o e)) h = written by_itself true (λ t. refl) p e h
       written q whole fit p (wide (selected o s ls)) h = absurd h
+      written q whole fit p (wide (called o s f z)) h = absurd h
+      written q whole fit p (wide (imported o s)) h = absurd h
       written q whole fit p (wide (merged o cs b)) h = one_written q whole fit (at p o) (alternatives_of ds p cs b) (literal_written p cs b h)
 
       written_each : (q : Place) (whole : Bool) → (whole ≡ true → q ≡ by_itself) → (p : Option ℕ) (es : Trees) → AreWritten q es

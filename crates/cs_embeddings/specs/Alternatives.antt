@@ -5,7 +5,7 @@ use Rattle.std.specs.Prelude.{ℕ, zero, suc, Bool, true, false, ◌||◌, List,
 use Rattle.std.specs.List.{flat_map, list_any}
 use Rattle.std.specs.Str.{bytes_eq}
 use Rattle.cs_grammar.specs.declared.ast.FieldMark.{FieldMark}
-use Rattle.cs_grammar.specs.Tree.{Label, Tree, atom, named, reference, conjunction, disjunction, paren, struct, list, wide, marked, merged, shut, selected, Declarations, no_declaration, declared, embedded, conditional, Trees, none, more, Fields, no_field, field, DefinitionTree}
+use Rattle.cs_grammar.specs.Tree.{Label, Tree, atom, named, reference, conjunction, disjunction, paren, struct, list, wide, marked, merged, shut, selected, called, imported, Declarations, no_declaration, declared, embedded, conditional, Trees, none, more, Fields, no_field, field, DefinitionTree}
 use Rattle.cs_grammar.specs.Bodies.{bodies}
 
 -- where declarations come from: the place of the reference that brought them, and the offset of the embedding; none where the literal itself declares
@@ -102,6 +102,8 @@ alternatives ds (suc n) p (wide (merged o cs b)) a = join_declarations (alternat
 alternatives ds (suc n) p (wide (marked o e)) a = []
 alternatives ds (suc n) p (wide (shut o e)) a = []
 alternatives ds (suc n) p (wide (selected o s ls)) a = []
+alternatives ds (suc n) p (wide (called o s f z)) a = []
+alternatives ds (suc n) p (wide (imported o s)) a = []
 alternatives ds (suc n) p (paren e) a = alternatives ds n p e a
 alternatives ds (suc n) p (disjunction es) a = join_operands (alternatives ds n) p es a
 alternatives ds (suc n) p (conjunction es) a = join_all (alternatives ds n) p es (a ∷ [])

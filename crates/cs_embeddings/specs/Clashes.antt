@@ -4,7 +4,7 @@
 use Rattle.std.specs.Prelude.{ℕ, zero, suc, Bool, true, false, ◌&&◌, ◌||◌, not, List, [], ◌∷◌, ◌++◌, if◌then◌else◌, Option, Some, None, is_some, nat_eq}
 use Rattle.std.specs.List.{list_any, flat_map}
 use Rattle.std.specs.Str.{bytes_eq}
-use Rattle.cs_grammar.specs.Tree.{Tree, atom, named, reference, conjunction, disjunction, paren, struct, list, wide, marked, merged, shut, selected, Trees, none, more, End, closed, any, each, DefinitionTree}
+use Rattle.cs_grammar.specs.Tree.{Tree, atom, named, reference, conjunction, disjunction, paren, struct, list, wide, marked, merged, shut, selected, called, imported, Trees, none, more, End, closed, any, each, DefinitionTree}
 use Rattle.cs_grammar.specs.Referred.{referred}
 use Rattle.cs_embeddings.specs.Alternatives.{Brought, Alternative, at, alternatives_of}
 use Rattle.cs_embeddings.specs.Gathered.{is_every, is_asked_or_plain, gathered}
@@ -88,6 +88,8 @@ module _ (ds : List DefinitionTree) (value : Option ℕ → Tree → List ℕ) w
     clashes_with p (wide (merged o cs b)) = flat_map (clashes_of true) (alternatives_of ds p cs b)
     clashes_with p (wide (shut o e)) = clashes_with p e
     clashes_with p (wide (selected o s ls)) = []
+    clashes_with p (wide (called o s f z)) = []
+    clashes_with p (wide (imported o s)) = []
 
     pub clashes_each : Option ℕ → Trees → List ℕ
     clashes_each p none = []

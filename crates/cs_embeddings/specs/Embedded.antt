@@ -1,7 +1,7 @@
 -- Which expressions can be embedded (own rule): what literals are put together to, and neither a kind nor a definition that embeds itself.
 use Rattle.std.specs.Prelude.{ℕ, zero, suc, Bool, true, false, ◌&&◌, List}
 use Rattle.std.specs.List.{list_all}
-use Rattle.cs_grammar.specs.Tree.{Tree, atom, named, reference, conjunction, disjunction, paren, struct, list, wide, marked, merged, shut, selected, Declarations, no_declaration, declared, embedded, conditional, Trees, none, more, Fields, no_field, field, End, closed, any, each, DefinitionTree}
+use Rattle.cs_grammar.specs.Tree.{Tree, atom, named, reference, conjunction, disjunction, paren, struct, list, wide, marked, merged, shut, selected, called, imported, Declarations, no_declaration, declared, embedded, conditional, Trees, none, more, Fields, no_field, field, End, closed, any, each, DefinitionTree}
 use Rattle.cs_grammar.specs.Bodies.{bodies}
 
 -- whether there is one
@@ -30,6 +30,8 @@ module _ (inner : Tree → Bool) where
     embeds_well (wide (merged o cs b)) = declarations_embed_well cs
     embeds_well (wide (shut o e)) = embeds_well e
     embeds_well (wide (selected o s ls)) = true
+    embeds_well (wide (called o s f z)) = true
+    embeds_well (wide (imported o s)) = true
 
     pub embed_well : Trees → Bool
     embed_well none = true
@@ -60,6 +62,8 @@ can_be_embedded ds (suc n) (wide (merged o cs b)) = declarations_embed_well (can
 can_be_embedded ds (suc n) (wide (marked o e)) = false
 can_be_embedded ds (suc n) (wide (shut o e)) = false
 can_be_embedded ds (suc n) (wide (selected o s ls)) = false
+can_be_embedded ds (suc n) (wide (called o s f z)) = false
+can_be_embedded ds (suc n) (wide (imported o s)) = false
 can_be_embedded ds (suc n) (paren e) = can_be_embedded ds n e
 can_be_embedded ds (suc n) (disjunction es) = has_operand es && all_embedded (can_be_embedded ds n) es
 can_be_embedded ds (suc n) (conjunction es) = all_embedded (can_be_embedded ds n) es

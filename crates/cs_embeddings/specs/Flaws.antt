@@ -1,7 +1,7 @@
 -- What of the embeddings is at fault, in order of the text: a name that isn't declared, and an expression that can't be embedded, or joins what can't be;
 -- a literal under conditions is one of them, as files come here without these.
 use Rattle.std.specs.Prelude.{ℕ, Bool, true, false, ◌&&◌, List, [], ◌∷◌, ◌++◌, map, if◌then◌else◌}
-use Rattle.cs_grammar.specs.Tree.{Tree, atom, named, reference, conjunction, disjunction, paren, struct, list, wide, marked, merged, shut, selected, Declarations, no_declaration, declared, embedded, conditional, Trees, none, more, Fields, no_field, field, End, closed, any, each, DefinitionTree}
+use Rattle.cs_grammar.specs.Tree.{Tree, atom, named, reference, conjunction, disjunction, paren, struct, list, wide, marked, merged, shut, selected, called, imported, Declarations, no_declaration, declared, embedded, conditional, Trees, none, more, Fields, no_field, field, End, closed, any, each, DefinitionTree}
 use Rattle.cs_grammar.specs.Bodies.{bodies}
 use Rattle.cs_embeddings.specs.Alternatives.{most_steps}
 use Rattle.cs_embeddings.specs.Embedded.{can_be_embedded}
@@ -51,6 +51,8 @@ module _ (ds : List DefinitionTree) where
     flaws (wide (merged o cs b)) = flaws_declarations cs
     flaws (wide (shut o e)) = flaws e
     flaws (wide (selected o s ls)) = []
+    flaws (wide (called o s f z)) = []
+    flaws (wide (imported o s)) = []
 
     pub flaws_each : Trees → List Flaw
     flaws_each none = []

@@ -1,6 +1,6 @@
 -- Where the first struct literal or reference of an expression is, and which expressions are plain.
 use Rattle.std.specs.Prelude.{ℕ, Bool, not, if◌then◌else◌, Option, Some, None, is_some, unwrap_or}
-use Rattle.cs_grammar.specs.Tree.{Tree, atom, named, reference, conjunction, disjunction, paren, struct, list, wide, marked, merged, shut, selected, Trees, none, more, End, closed, any, each}
+use Rattle.cs_grammar.specs.Tree.{Tree, atom, named, reference, conjunction, disjunction, paren, struct, list, wide, marked, merged, shut, selected, called, imported, Trees, none, more, End, closed, any, each}
 
 -- where the first struct literal or reference of an expression is, at any depth; a value without one is plain
 abbrev pub or_else : Option ℕ → Option ℕ → Option ℕ
@@ -21,6 +21,8 @@ abbrev mutual
   holds (wide (merged o cs b)) = Some o
   holds (wide (shut o e)) = holds e
   holds (wide (selected o s ls)) = None
+  holds (wide (called o s f z)) = None
+  holds (wide (imported o s)) = None
 
   pub hold : Trees → Option ℕ
   hold none = None

@@ -4,7 +4,7 @@
 use Rattle.std.specs.Prelude.{ℕ, zero, suc, Bool, true, false, List, [], ◌∷◌, if◌then◌else◌, Option, Some, None}
 use Rattle.cs_grammar.specs.declared.ast.FieldMark.{FieldMark}
 use Rattle.cs_grammar.specs.declared.ast.FieldMark.TheVariants.{Regular, Optional, Required, Every}
-use Rattle.cs_grammar.specs.Tree.{Tree, atom, bottom, named, reference, conjunction, disjunction, paren, struct, list, wide, marked, merged, shut, selected, Trees, none, more, Fields, no_field, field, End, closed, any, each, DefinitionTree}
+use Rattle.cs_grammar.specs.Tree.{Tree, atom, bottom, named, reference, conjunction, disjunction, paren, struct, list, wide, marked, merged, shut, selected, called, imported, Trees, none, more, Fields, no_field, field, End, closed, any, each, DefinitionTree}
 use Rattle.cs_embeddings.specs.Alternatives.{Brought, Alternative, nothing, with_fields, opened_if, at, itself, alternatives_of}
 use Rattle.cs_embeddings.specs.Gathered.{gathered}
 use Rattle.cs_embeddings.specs.Held.{is_plain, holding, first_place}
@@ -74,6 +74,8 @@ module _ (ds : List DefinitionTree) (value : Option ℕ → Tree → Tree) where
     -- what is in a definition is closed without it
     joined_with whole p (wide (shut o e)) = paren (joined_with true p e)
     joined_with whole p (wide (selected o s ls)) = wide (selected (at p o) s ls)
+    joined_with whole p (wide (called o s f z)) = wide (called o s f z)
+    joined_with whole p (wide (imported o s)) = wide (imported o s)
 
     pub joined_each : Bool → Option ℕ → Trees → Trees
     joined_each whole p none = none

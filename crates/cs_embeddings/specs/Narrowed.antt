@@ -4,7 +4,7 @@ use Rattle.std.specs.Prelude.{ℕ, zero, suc, Bool, true, false, ◌&&◌, ◌||
 use Rattle.std.specs.List.{list_all, list_any}
 use Rattle.std.specs.Str.{bytes_eq}
 use Rattle.cs_grammar.specs.declared.ast.FieldMark.{FieldMark}
-use Rattle.cs_grammar.specs.Tree.{Label, Tree, atom, named, reference, conjunction, disjunction, paren, struct, list, wide, marked, merged, shut, selected, Declarations, no_declaration, declared, embedded, conditional, Trees, none, more, Fields, no_field, field, DefinitionTree}
+use Rattle.cs_grammar.specs.Tree.{Label, Tree, atom, named, reference, conjunction, disjunction, paren, struct, list, wide, marked, merged, shut, selected, called, imported, Declarations, no_declaration, declared, embedded, conditional, Trees, none, more, Fields, no_field, field, DefinitionTree}
 use Rattle.cs_grammar.specs.Bodies.{bodies}
 use Rattle.cs_embeddings.specs.Embedded.{all_embedded}
 use Rattle.cs_embeddings.specs.Gathered.{is_every}
@@ -42,6 +42,8 @@ declares ds (suc n) s (wide (merged o cs b)) = has_declaration (declares ds n s)
 declares ds (suc n) s (wide (marked o e)) = false
 declares ds (suc n) s (wide (shut o e)) = false
 declares ds (suc n) s (wide (selected o t ls)) = false
+declares ds (suc n) s (wide (called o t f z)) = false
+declares ds (suc n) s (wide (imported o t)) = false
 declares ds (suc n) s (paren e) = declares ds n s e
 declares ds (suc n) s (disjunction es) = all_embedded (declares ds n s) es
 declares ds (suc n) s (conjunction es) = some_declares (declares ds n s) es
@@ -73,6 +75,8 @@ module _ (has : List ℕ → Bool) where
     narrows (wide (merged o cs b)) = not b && declarations_narrow cs
     narrows (wide (shut o e)) = false
     narrows (wide (selected o s ls)) = false
+    narrows (wide (called o s f z)) = false
+    narrows (wide (imported o s)) = false
 
     pub each_narrows : Trees → Bool
     each_narrows none = true

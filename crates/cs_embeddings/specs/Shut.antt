@@ -1,6 +1,6 @@
 -- What is closed before anything is joined to it (own rule, from CUE, definitions and closed structs), and which literals need no joining.
 use Rattle.std.specs.Prelude.{Bool, true, false, ◌&&◌, ◌||◌}
-use Rattle.cs_grammar.specs.Tree.{Tree, atom, named, reference, conjunction, disjunction, paren, struct, list, wide, marked, merged, shut, selected, Declarations, no_declaration, declared, embedded, conditional, Trees, none, more, Fields, no_field, field, End, closed, any, each}
+use Rattle.cs_grammar.specs.Tree.{Tree, atom, named, reference, conjunction, disjunction, paren, struct, list, wide, marked, merged, shut, selected, called, imported, Declarations, no_declaration, declared, embedded, conditional, Trees, none, more, Fields, no_field, field, End, closed, any, each}
 
 -- a reference and `close(..)` are shut, and what holds one; `deep` says whether the values that a literal declares are looked at too. Those of a literal that is
 -- embedded are, since what is joined beside it would open them
@@ -18,6 +18,8 @@ abbrev mutual
   is_shut deep (wide (merged o cs b)) = declarations_shut deep cs
   is_shut deep (wide (shut o e)) = true
   is_shut deep (wide (selected o s ls)) = false
+  is_shut deep (wide (called o s f z)) = false
+  is_shut deep (wide (imported o s)) = false
 
   pub some_shut : Bool → Trees → Bool
   some_shut deep none = false
@@ -54,6 +56,8 @@ abbrev mutual
   is_open (wide (merged o cs b)) = false
   is_open (wide (shut o e)) = is_open e
   is_open (wide (selected o s ls)) = true
+  is_open (wide (called o s f z)) = true
+  is_open (wide (imported o s)) = true
 
   pub are_open : Trees → Bool
   are_open none = true

@@ -1,7 +1,7 @@
 -- The nodes of expressions without embeddings (own rule): each expression is one, and a mark, a parenthesis or `close` is none.
 use Rattle.std.specs.Prelude.{ℕ, ◌+◌, List, sum_by}
 use Rattle.std.specs.List.{flat_map}
-use Rattle.cs_grammar.specs.Tree.{Tree, atom, named, reference, conjunction, disjunction, paren, struct, list, wide, marked, merged, shut, selected, Trees, none, more, Fields, no_field, field, End, closed, any, each, DefinitionTree, body, FileTree, definitions}
+use Rattle.cs_grammar.specs.Tree.{Tree, atom, named, reference, conjunction, disjunction, paren, struct, list, wide, marked, merged, shut, selected, called, imported, Trees, none, more, Fields, no_field, field, End, closed, any, each, DefinitionTree, body, FileTree, definitions}
 
 abbrev mutual
   pub size : Tree → ℕ
@@ -17,6 +17,8 @@ abbrev mutual
   size (wide (merged o cs b)) = 1
   size (wide (shut o e)) = size e
   size (wide (selected o s ls)) = 1
+  size (wide (called o s f z)) = 1
+  size (wide (imported o s)) = 1
 
   pub sizes : Trees → ℕ
   sizes none = 0

@@ -111,7 +111,13 @@ impl<'b, 'a> Embeddable<'b, 'a> {
             atom!()
             | Expr::Name { .. }
             | Expr::List { .. }
-            | Expr::Wide(Wide::Marked { .. } | Wide::Shut { .. } | Wide::Selected { .. }) => false,
+            | Expr::Wide(
+                Wide::Marked { .. }
+                | Wide::Shut { .. }
+                | Wide::Selected { .. }
+                | Wide::Called { .. }
+                | Wide::Imported { .. },
+            ) => false,
         }
     }
 
@@ -190,7 +196,8 @@ impl<'b, 'a> Embeddable<'b, 'a> {
             atom!()
             | Expr::Name { .. }
             | Expr::Reference { .. }
-            | Expr::Wide(Wide::Selected { .. }) => true,
+            | Expr::Wide(Wide::Selected { .. } | Wide::Called { .. } | Wide::Imported { .. }) =>
+                true,
         }
     }
 

@@ -63,7 +63,9 @@ impl<'a> Flaws<'_, '_, 'a> {
             atom!()
             | Expr::Name { .. }
             | Expr::Reference { .. }
-            | Expr::Wide(Wide::Selected { .. }) => Ok(()),
+            | Expr::Wide(Wide::Selected { .. } | Wide::Called { .. } | Wide::Imported { .. }) => Ok(
+                (),
+            ),
         }
     }
 

@@ -24,7 +24,9 @@ pub(crate) fn holds(expr: &Expr) -> Option<usize>
         Expr::Wide(Wide::Marked { value, .. }) => holds(value),
         Expr::Wide(Wide::Merged { at, .. }) => Some(*at),
         Expr::Wide(Wide::Shut { value, .. }) => holds(value),
-        atom!() | Expr::Name { .. } | Expr::Wide(Wide::Selected { .. }) => None,
+        atom!()
+        | Expr::Name { .. }
+        | Expr::Wide(Wide::Selected { .. } | Wide::Called { .. } | Wide::Imported { .. }) => None,
     }
 }
 

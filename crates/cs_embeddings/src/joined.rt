@@ -1,7 +1,7 @@
 // Expressions without embeddings.
 ghost use Rattle.std.specs.Prelude.{◌≡◌, ℕ, ◌≤◌, true, false, List, [], Some, IfOk};
 ghost use Rattle.std.specs.List.{AllByRecursion, flat_map};
-ghost use Rattle.cs_grammar.specs.Height.{height, height_all, height_end};
+ghost use Rattle.cs_grammar.specs.Height.{height, height_all, height_end, height_wide};
 ghost use Rattle.cs_grammar.specs.Tree as Tree;
 ghost use Rattle.cs_grammar.specs.Tree.{DefinitionTree, disjunction, list, wide};
 ghost use Rattle.cs_grammar.specs.View.{expr_view, exprs_view, field_view, end_view, wide_view, declarations_view, trees_of};
@@ -28,7 +28,7 @@ use crate::gathered::{Declared, Gathered, declared_of, gather};
 use crate::held::{Operand, first_place, holding, standing};
 use crate::joining::Joining;
 use cs_grammar::{
-    Declaration, Expr, Field, FieldMark, ListEnd, Site, Wide, atom, copied_selectors,
+    Declaration, Expr, Field, FieldMark, ListEnd, Site, Wide, atom, copied_form, copied_selectors,
 };
 use std::alloc::{AllocError, Global};
 
@@ -260,7 +260,17 @@ impl<'b, 'a> Joiner<'b, 'a> {
                 let labels = copied_selectors(self.alloc, labels)?;
                 self.leaf(Expr::Wide(Wide::Selected { at, name, labels }), room, nodes)
             }
+            Wide::Called { .. } | Wide::Imported { .. } => self.kept(form, room, nodes),
         }
+    }
+
+    /// A call or what is imported, which stays as it is: files come without them.
+    fn kept(self, form: &Wide, room: Room, nodes: &mut usize) -> Result<Expr, EmbeddingFault>
+        ensures { height_wide (wide_view form.now) ≡ 1 → size (wide (wide_view form.now)) ≡ 1
+            → Makes result self.entry.file room.levels nodes.old nodes.new (wide (wide_view form.now)) [] }
+    {
+        let kept = copied_form(self.alloc, form)?;
+        self.leaf(Expr::Wide(kept), room, nodes)
     }
 
     /// The marks of an expression before another one.

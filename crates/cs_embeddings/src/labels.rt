@@ -105,7 +105,13 @@ impl<'a> Labels<'_, 'a> {
             atom!()
             | Expr::Name { .. }
             | Expr::List { .. }
-            | Expr::Wide(Wide::Marked { .. } | Wide::Shut { .. } | Wide::Selected { .. }) => Ok(()),
+            | Expr::Wide(
+                Wide::Marked { .. }
+                | Wide::Shut { .. }
+                | Wide::Selected { .. }
+                | Wide::Called { .. }
+                | Wide::Imported { .. },
+            ) => Ok(()),
         }
     }
 

@@ -83,7 +83,13 @@ impl Base<'_, '_> {
             | Expr::Name { .. }
             | Expr::Reference { .. }
             | Expr::List { .. }
-            | Expr::Wide(Wide::Marked { .. } | Wide::Shut { .. } | Wide::Selected { .. }) => false,
+            | Expr::Wide(
+                Wide::Marked { .. }
+                | Wide::Shut { .. }
+                | Wide::Selected { .. }
+                | Wide::Called { .. }
+                | Wide::Imported { .. },
+            ) => false,
         }
     }
 

@@ -19,7 +19,9 @@ pub(crate) fn is_shut(deep: bool, expr: &Expr) -> bool
         Expr::List { front, end } => deep && (some_shut(deep, front) || end_shut(deep, end)),
         Expr::Wide(Wide::Marked { value, .. }) => is_shut(deep, value),
         Expr::Wide(Wide::Merged { declarations, .. }) => declarations_shut(deep, declarations),
-        atom!() | Expr::Name { .. } | Expr::Wide(Wide::Selected { .. }) => false,
+        atom!()
+        | Expr::Name { .. }
+        | Expr::Wide(Wide::Selected { .. } | Wide::Called { .. } | Wide::Imported { .. }) => false,
     }
 }
 
@@ -88,8 +90,12 @@ fn is_open(expr: &Expr) -> bool
         Expr::Wide(Wide::Marked { value, .. }) => is_open(value),
         Expr::Wide(Wide::Merged { .. }) => false,
         Expr::Wide(Wide::Shut { value, .. }) => is_open(value),
-        atom!() | Expr::Name { .. } | Expr::Reference { .. } | Expr::Wide(Wide::Selected { .. }) =>
-            { true }
+        atom!()
+        | Expr::Name { .. }
+        | Expr::Reference { .. }
+        | Expr::Wide(Wide::Selected { .. } | Wide::Called { .. } | Wide::Imported { .. }) => {
+            true
+        }
     }
 }
 

@@ -9,12 +9,14 @@ use Rattle.cs_profile.specs.Keywords.{reference_start, text_after}
 use Rattle.cs_profile.specs.Shapes.{form_at, taken_at, has_form, names_definition}
 use Rattle.cs_profile.specs.declared.keyword.Form.{Form}
 use Rattle.cs_profile.specs.declared.keyword.Form.TheVariants as form
+use Rattle.cs_profile.specs.declared.keyword.Vocabulary.{Vocabulary}
 use Rattle.cs_profile.specs.declared.keyword.Vocabulary.TheVariants as vocabularies
 use Rattle.cs_profile.specs.Places.{at_key, at_index}
 use Rattle.cs_profile.specs.Profile.{Fault, Visit, keyword_at, first, within, fault_of, form_fault, shape_fault, visits, member_visits, list_visits, element_visits, map_visits, named_visits, IsSchema}
 use Rattle.cs_profile.specs.Values.{keyword_visits, value_visits}
 use Rattle.cs_profile.proofs.Faultless.{parted, or_else_none}
 use Rattle.cs_profile.proofs.Taken.{taken_form}
+use Rattle.cs_profile.proofs.Vocabularies.{wide_schema}
 use Rattle.cs_schema.proofs.Named.{after_start}
 use Rattle.cs_describe.specs.Plain.{as_schema, plain_by, schema_without, members_without, list_without, elements_without, map_without, named_without, values_without, is_default, without_defaults}
 use Rattle.cs_describe.proofs.StillBare.{still_bare}
@@ -49,7 +51,7 @@ reference_back (object ms) h = refl
 -- ---- schemas, and what holds schemas: where the walk meets no fault
 
 abbrev fault : Visit → Option Fault
-fault = fault_of vocabularies.Default
+fault = fault_of vocabularies.Wide
 
 abbrev Free : List Visit → Type 0
 Free vs = first fault vs ≡ None
@@ -59,10 +61,10 @@ has_shape place k true h = refl
 has_shape place k false h = cc
 
 -- what is taken has its form
-of_form : (root : Bool) (place k : List ℕ) (v : Document) (t : Option Form) → taken_at vocabularies.Default root k ≡ t → form_fault place k v t ≡ None
+of_form : (root : Bool) (place k : List ℕ) (v : Document) (t : Option Form) → taken_at vocabularies.Wide root k ≡ t → form_fault place k v t ≡ None
     → form_fault place k v (form_at root k) ≡ None
 of_form root place k v None e h = cc
-of_form root place k v (Some r) e h = subst (λ o. form_fault place k v o ≡ None) (sym (taken_form vocabularies.Default root k r e)) h
+of_form root place k v (Some r) e h = subst (λ o. form_fault place k v o ≡ None) (sym (taken_form vocabularies.Wide root k r e)) h
 
 -- without defaults: a schema, what holds schemas, and the value of a keyword by its form
 abbrev bare : Document → Document
@@ -112,7 +114,7 @@ one_back place k v ms false e h itself elements members rest =
     let x = bare_value (form_at false k) v in
     let parts = parted fault (keyword_visits false place k x) (member_visits false place (bare_members false ms)) h in
     let here = or_else_none (fault (keyword_at false place k x)) (first fault (within (form_at false k) (value_visits (at_key place k) x))) parts.0 in
-    ap₂ (member k) (value_back (form_at false k) place k v (of_form false place k x (taken_at vocabularies.Default false k) refl here.0) itself elements members here.1) (rest parts.1)
+    ap₂ (member k) (value_back (form_at false k) place k v (of_form false place k x (taken_at vocabularies.Wide false k) refl here.0) itself elements members here.1) (rest parts.1)
 
 mutual
   schema_back : (place : List ℕ) (d : Document) → Free (visits false place (bare d)) → moved to_definition (moved to_component d) ≡ d
@@ -197,7 +199,7 @@ found_back : (ms : Members) → Free (member_visits true [] (bare_members true m
 found_back no_members h = refl
 found_back (member k v ms) h = part_back k v ms (is_default k) refl h (λ g. found_back ms g)
 
-pub definitions_back : (d : Document) → IsSchema vocabularies.Default (without_defaults d) → moved_named to_definition (moved_named to_component (definitions_in d)) ≡ definitions_in d
+pub definitions_back : (d : Document) → IsSchema vocabularies.Wide (without_defaults d) → moved_named to_definition (moved_named to_component (definitions_in d)) ≡ definitions_in d
 definitions_back (object ms) is = found_back ms is.shaped
 definitions_back null is = refl
 definitions_back (boolean b) is = refl
@@ -205,7 +207,7 @@ definitions_back (integer z) is = refl
 definitions_back (text s) is = refl
 definitions_back (list ds) is = refl
 
--- so are those of a schema of the profile, which has no defaults
-pub asked_back : (t : Bool) (d : Document) → IsSchema vocabularies.Default (if t then without_defaults d else d) → moved_named to_definition (moved_named to_component (definitions_in d)) ≡ definitions_in d
-asked_back true d is = definitions_back d is
-asked_back false d is = definitions_back d (still_bare vocabularies.Default d is)
+-- so are those of a schema of the profile, which has no defaults, whichever keywords are taken
+pub asked_back : (taken : Vocabulary) (t : Bool) (d : Document) → IsSchema taken (if t then without_defaults d else d) → moved_named to_definition (moved_named to_component (definitions_in d)) ≡ definitions_in d
+asked_back taken true d is = definitions_back d (wide_schema taken (without_defaults d) is)
+asked_back taken false d is = definitions_back d (still_bare vocabularies.Wide d (wide_schema taken d is))

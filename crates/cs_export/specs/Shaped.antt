@@ -7,7 +7,7 @@ use Rattle.cs_json.specs.Texts.{Reads, text_of}
 use Rattle.cs_package.specs.Environment.{Environment, bodies}
 use Rattle.cs_instance.specs.Instance.{Rule, definition, IsInstance}
 use Rattle.cs_instance.specs.Instance as instance
-use Rattle.cs_profile.specs.declared.keyword.Vocabulary.TheVariants as vocabularies
+use Rattle.cs_profile.specs.declared.keyword.Vocabulary.{Vocabulary}
 use Rattle.cs_schema.specs.Profile.{IsSchema}
 use Rattle.cs_schema.specs.Root.{reference_to}
 use Rattle.cs_schema.specs.SchemaDocument.{SchemaValue, document_of}
@@ -22,16 +22,17 @@ use Rattle.cs_export.specs.declared.layout.Layout.{Layout}
 use Rattle.cs_export.specs.Components.{to_component, to_definition, moved_named, definitions_in, components_of}
 use Rattle.cs_tool.specs.Accepted.{IsAccepted, DeclaresRoot}
 use Rattle.cs_tool.specs.Headline.{IsExport}
+use Rattle.cs_tool.specs.Vocabularies.{exported_vocabulary}
 
 -- the text is read as the document, if that nests no deeper than what `serde_json` reads
 abbrev pub IsTextOf : Document → List ℕ → Type 0
 IsTextOf d text = depth d ≤ max_depth → Reads text d
 
--- the document is the schema: without notes they are the same, it is a schema of the default profile once its defaults are left out, both validate the
--- same documents, and so does each schema by their definitions
-pub record IsSameSchema (has_defaults : Bool) (schema document : Document) : Type 0 where
+-- the document is the schema: without notes they are the same, it is a schema with only keywords that are taken once its defaults are left out, both
+-- validate the same documents, and so does each schema by their definitions
+pub record IsSameSchema (taken : Vocabulary) (has_defaults : Bool) (schema document : Document) : Type 0 where
   pub plain : plain document ≡ plain schema
-  pub profile : IsSchema vocabularies.Default (if has_defaults then without_defaults document else document)
+  pub profile : IsSchema taken (if has_defaults then without_defaults document else document)
   pub validity : SameValidity schema document
   pub definitions : SameDefinitions schema document
 
@@ -52,9 +53,9 @@ asked_for layout d = if layout.is_openapi then components_of d else d
 -- the text is the schema as it is asked for. Where descriptions aren't asked for, it is the very schema; with them it nests a level
 -- deeper at most, and with defaults ten. Its components are its definitions but for where references point: with these put back, they are the
 -- definitions again. And where nothing is asked for, the text is the compact one
-pub record IsShaped (layout : Layout) (schema : Document) (text : List ℕ) : Type 0 where
+pub record IsShaped (taken : Vocabulary) (layout : Layout) (schema : Document) (text : List ℕ) : Type 0 where
   pub document : Document
-  pub same_schema : IsSameSchema layout.has_defaults schema document
+  pub same_schema : IsSameSchema taken layout.has_defaults schema document
   pub nested : depth document ≤ deeper layout.has_defaults (depth schema)
   pub same : layout.is_described ≡ false → document ≡ schema
   pub put_back : moved_named to_definition (moved_named to_component (definitions_in document)) ≡ definitions_in document
@@ -73,7 +74,7 @@ pub record IsRootSchema (p : Profile) (sources : List (List ℕ)) (root : List �
   pub translated : IsTranslation environment name (document_of schema)
   pub one_instance : instance.OneMeaning environment
   pub one_validity : validity.OneMeaning (document_of schema)
-  pub shaped : IsShaped layout (document_of schema) text
+  pub shaped : IsShaped (exported_vocabulary p environment) layout (document_of schema) text
   pub read : Reads text (asked_for layout shaped.document)
   pub bare : IsBare layout → IsExport p sources root text
   pub admits : (V : Document → Document → Bool) (I : Rule → Document → Bool) → IsValidity shaped.document V → IsInstance environment I
@@ -88,7 +89,7 @@ pub record ArePackageSchemas (p : Profile) (sources : List (List ℕ)) (layout :
   pub compiled : CompilesAll environment schema
   pub one_instance : instance.OneMeaning environment
   pub one_validity : validity.OneMeaning (document_of schema)
-  pub shaped : IsShaped layout (document_of schema) text
+  pub shaped : IsShaped (exported_vocabulary p environment) layout (document_of schema) text
   pub read : Reads text (asked_for layout shaped.document)
   pub admits : (V : Document → Document → Bool) (I : Rule → Document → Bool) → IsValidity shaped.document V → IsInstance environment I
       → (n : List ℕ) → IsSome (bodies environment n) → (x : Document) → IsDocument x → V (reference_to n) x ≡ I (definition n) x

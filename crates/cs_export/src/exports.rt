@@ -13,7 +13,7 @@ use crate::layout::Layout;
 use crate::shaped::{Comments, notes_if, shaped_text};
 use cs_compile::{compile, compile_all};
 use cs_guard::Guarded;
-use cs_tool::{Fault, Profile, accepted_package, read_root};
+use cs_tool::{Fault, Profile, accepted_package, default_sources_have_no_lengths, read_root};
 use std::alloc::Global;
 
 /// The text of the schema of the root definition, as it is asked for, without a newline. The root is named with its `#`.
@@ -99,6 +99,7 @@ fn exported_root(
     ensures refused { IfErr result (λ e. ExportRefusal profile (bytes_in sources.now) root.now e) }
     ensures only { IsReady profile (bytes_in sources.now) root.now → IsOkUnless result Fault.OutOfMemory }
 {
+    default_sources_have_no_lengths(); // for the proof: in the default profile the schema has no keyword of lengths
     let package = read_root(alloc, profile, sources, root)?;
     let schema = compile(alloc, &package, root)?;
     cs_instance::one_meaning(&package); // for the proof: there is one instance relation
@@ -120,6 +121,7 @@ fn exported_all(
     ensures only { (E : Environment)
         → IsAccepted profile (bytes_in sources.now) E → IsOkUnless result Fault.OutOfMemory }
 {
+    default_sources_have_no_lengths(); // for the proof: in the default profile the schemas have no keyword of lengths
     let package = accepted_package(alloc, profile, sources)?;
     let schema = compile_all(alloc, &package)?;
     cs_instance::one_meaning(&package); // for the proof: there is one instance relation

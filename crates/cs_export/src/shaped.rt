@@ -3,7 +3,7 @@ ghost use Rattle.std.specs.Prelude.{◌≡◌, ◌≤◌, suc, false, None, IfOk
 ghost use Rattle.cs_json.specs.Texts.{text_of as compact_text};
 ghost use Rattle.cs_document.specs.Document.{depth};
 ghost use Rattle.cs_document.specs.View.{doc_view};
-ghost use Rattle.cs_profile.specs.declared.keyword.Vocabulary.TheVariants as vocabularies;
+ghost use Rattle.cs_profile.specs.declared.keyword.Vocabulary.{Vocabulary};
 ghost use Rattle.cs_schema.specs.Profile.{IsSchema};
 ghost use Rattle.cs_schema.specs.SchemaDocument.{document_of};
 ghost use Rattle.cs_schema.specs.Trim.{trim};
@@ -41,16 +41,16 @@ pub(crate) fn notes_if(
     Ok(Some(notes_of(alloc, profile, sources)?))
 }
 
-/// The text of a schema of the default profile, without a newline, with these comments.
+/// The text of a schema, without a newline, with these comments: it has no more keywords than the schema.
 pub(crate) fn shaped_text(
     alloc: Global,
     schema: &SchemaDoc,
     notes: &Comments,
     layout: Layout,
 ) -> Result<Vec<u8>, Fault>
-    requires notes { layout.is_described ≡ false → notes.now ≡ None }
-    requires profile { IsSchema vocabularies.Default (document_of schema.now) }
-    ensures shaped { IfOk result (λ text. IsShaped layout (document_of schema.now) text.items) }
+    requires { layout.is_described ≡ false → notes.now ≡ None }
+    ensures shaped { (taken : Vocabulary) → IsSchema taken (document_of schema.now)
+        → IfOk result (λ text. IsShaped taken layout (document_of schema.now) text.items) }
     ensures trimmed { trim (document_of schema.now) ≡ document_of schema.now }
     ensures memory { IsOkUnless result Fault.OutOfMemory }
 {
@@ -63,8 +63,8 @@ pub(crate) fn shaped_text(
 
 /// A schema with these notes.
 fn described_if(alloc: Global, doc: Doc, notes: &Comments, has_defaults: bool) -> Result<Doc, Fault>
-    ensures schema { IfOk result (λ d. IsSchema vocabularies.Default (doc_view doc) → OneMeaning (doc_view doc)
-        → IsSameSchema has_defaults (doc_view doc) (doc_view d)) }
+    ensures schema { IfOk result (λ d. (taken : Vocabulary) → IsSchema taken (doc_view doc) → OneMeaning (doc_view doc)
+        → IsSameSchema taken has_defaults (doc_view doc) (doc_view d)) }
     ensures same { notes.now ≡ None → IfOk result (λ d. d ≡ doc) }
     ensures nested { IfOk result (λ d. depth (doc_view d) ≤ deeper has_defaults (depth (doc_view doc))) }
     ensures memory { IsOkUnless result Fault.OutOfMemory }
@@ -82,8 +82,8 @@ fn noted(
     notes: &BTreeMap<String, Notes>,
     has_defaults: bool,
 ) -> Result<Doc, Fault>
-    ensures schema { IfOk result (λ d. IsSchema vocabularies.Default (doc_view doc)
-        → IsSameSchema has_defaults (doc_view doc) (doc_view d)) }
+    ensures schema { IfOk result (λ d. (taken : Vocabulary) → IsSchema taken (doc_view doc)
+        → IsSameSchema taken has_defaults (doc_view doc) (doc_view d)) }
     ensures nested { IfOk result (λ d. depth (doc_view d) ≤ deeper has_defaults (depth (doc_view doc))) }
     ensures memory { IsOkUnless result Fault.OutOfMemory }
 {

@@ -188,10 +188,10 @@ fn put_field_reference(text: &mut String, said: &str, near: Near<'_, '_>) -> Wri
         let line = position_of(source.named.text, label.here().start).line;
         put_filled(text, " (line {})", &[Buffer::new().format(line)])?;
     }
-    text.push_str(if KINDS.contains(&name) {
-        ", which hides this kind: put its label in double quotes"
-    } else {
-        ": give its value a definition and name it in both"
+    text.push_str(match name {
+        _ if KINDS.contains(&name) => ", which hides this kind: put its label in double quotes",
+        _ if near.begins_call() => ", which hides the package: put its label in double quotes",
+        _ => ": give its value a definition and name it in both",
     })
 }
 

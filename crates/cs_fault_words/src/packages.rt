@@ -89,7 +89,7 @@ impl<'a> Told<'a> {
             }
             put_grouped(text, nodes, &[" nodes of expressions, and 50,000 may be"])?;
         } else {
-            // No definitions are counted where what is meant has too many nodes.
+            // No definitions are counted where what the sources stand for isn't made.
             text.push_str("what the sources stand for has more than 50,000 nodes of expressions")?;
         }
         text.push_str(": split the package by roots")

@@ -2,8 +2,8 @@
 use crate::advice::put_advice;
 use crate::lines::put_filled;
 use cs_forms::{
-    Form, Found, form_closed, form_left_out_in, form_of_field, form_out_of_place, form_stuck,
-    form_unknown,
+    Form, Found, form_closed, form_left_out_in, form_of_field, form_of_integer, form_out_of_place,
+    form_stuck, form_unknown,
 };
 use cs_grammar::Profile;
 use cs_meanings::explanation;
@@ -157,7 +157,7 @@ impl<'a> Told<'a> {
             (Fault::TooHigh { .. }, _) => return self.tell_too_high(source),
             (Fault::PackageName { .. }, _) => return self.tell_clause(source, declared.sources),
             (Fault::NoToken { offset, .. }, Some(near)) => form_stuck(near, *offset),
-            (Fault::IntegerRange { .. }, Some(near)) => Found::at(near, Form::LargeInteger),
+            (Fault::IntegerRange { .. }, Some(near)) => form_of_integer(near),
             (Fault::Syntax { .. }, Some(near)) => form_out_of_place(near),
             (Fault::LeftOut { .. }, Some(near)) => form_left_out_in(near, declared)?,
             (Fault::UnknownName { .. }, Some(near)) => form_unknown(near, declared),

@@ -1,7 +1,7 @@
 // Forms of CUE that are refused, and the words for them: what programs call them, and what people are told.
 use cs_sources::Near;
 
-/// A form that is refused: one of CUE that the profile leaves out, or a mistake. `FORMS` has the words for each.
+/// A form that is refused: one of CUE that the profile leaves out, or a mistake. the table below has the words for each.
 #[derive(Clone, Copy)]
 pub enum Form {
     // No token begins (3).
@@ -45,10 +45,24 @@ pub enum Form {
     DefaultInside,
     /// `import "net"`.
     Import,
+    /// `import "strings"`, in the default profile. For programs it is the same form, as is the next one.
+    LengthImport,
+    /// `import "net"`, in the wide profile.
+    OtherImport,
+    /// `import "strings"` behind a declaration, in the wide profile.
+    LateImport,
     /// `net.FQDN`.
     PackageValue,
-    /// `strings.MaxRunes(63)`.
+    /// `strings.MinRunes` that isn't called, in the wide profile. For programs it is the same form.
+    OtherValue,
+    /// `strings.ToUpper("a")`.
     PackageCall,
+    /// `strings.MaxRunes(63)`, in the default profile. For programs it is the same form, as is the next one.
+    LengthCall,
+    /// `strings.ToUpper("a")`, in the wide profile.
+    OtherCall,
+    /// `strings.MaxRunes(-1)`, `strings.MaxRunes("a")`, in the wide profile.
+    Argument,
     /// `#Q.a`, `x.y`.
     Selector,
     /// `#Q.a` where `#Q` isn't one struct without embeddings, in the wide profile. For programs it is the same form.
@@ -149,10 +163,16 @@ pub enum Form {
     UnknownName,
     /// `#A` without a declaration.
     UnknownDefinition,
-    /// `_x` without a declaration, in the wide profile, as the next three. For programs it is the same form as another name.
+    /// `_x` without a declaration, in the wide profile, as the next one. For programs it is the same form as another name.
     UnknownHidden,
-    /// `#Q.a` where nothing declares `a` in `#Q`, in the wide profile.
+    /// `#Q.a` where nothing declares `a` in `#Q`.
     UnknownField,
+    /// `strings.MaxRunes(63)` without an import, in the wide profile, as the next four.
+    UnknownPackage,
+    /// `import "strings"` where nothing names `strings`.
+    UnusedImport,
+    /// `import "strings"` beside another declaration of `strings`.
+    ImportedTwice,
     /// `let x = y` where nothing names `x`.
     UnusedLet,
     /// `let x = y` beside another declaration of `x`.
@@ -241,94 +261,122 @@ type Sayings = &'static [(&'static [&'static str], &'static str)];
 
 /// What programs call each form, and what is said of it, in their order: a `{}` stands for what its place tells. A form without a row is
 /// refused by the prover.
-const FORMS: [(&str, &str); 86] = rows! {
-    "byte-order-mark" => "a byte order mark: save the file as UTF-8 without it",
-    "float" => "floats are left out: scale it (percent, milliseconds)",
-    "number-spelling" => "`{}`: {}",
-    "attribute" => "attributes are left out: take it out",
-    "broken-attribute" => "an attribute is `@`, a name and what is in parentheses, as `@go(A)`, with balanced brackets and texts in double quotes on one line",
-    "interpolation" => "interpolation is left out: write each text out",
-    "bytes" => "texts in single quotes are bytes, which JSON doesn't have: write a text in double quotes",
-    "multi-line-text" => "texts over several lines are left out: write it on one line, with \\n for a new line",
-    "raw-text" => "raw texts are left out: write it in double quotes, with \\ before each \" and \\",
-    "escape" => "a text may have the escapes \\a \\b \\f \\n \\r \\t \\v \\/ \\\\ \\\" \\uHHHH \\UHHHHHHHH alone, and no surrogates",
-    "unclosed-text" => "this text doesn't end on its line",
-    "stray-character" => "no token begins with this character",
-    "default-mark" => "default marks are left out",
-    "misplaced-default" => "a default is an alternative of a whole value, as in `x: *1 | int`: take the mark out, or move it there",
-    "second-default" => "a value has one default, and an alternative before this one is marked: take one of the marks out",
-    "default-value" => "a default is null, a truth value, an integer, a text, an empty struct or a list of these: take the mark out",
-    "excluded-default" => "another declaration of `{}` that may be absent, as `{}?`, `[string]` or a default, could exclude this one: write `{}?` here",
-    "excluded-default" => "a default in `{}` is out of place, or another declaration could exclude it",
-    "import" => "imports are left out; remove it and write what it gives by hand (`net.FQDN`, `time.Time`: `string`)",
-    "package-value" => "`{}`: packages are left out{}",
-    "package-call" => "`{}`: calls of packages are left out{}",
-    "selector" => "`{}`: what `.` selects is left out; give the field's value a definition and name it in both places",
-    "selector" => "`{}`: `.` selects from a definition that is one struct, with no alternatives, embeddings or `if`, and no hidden label: define the field's value, and name it in both places",
-    "index" => "what brackets select is left out; give the element's value a definition and name it",
-    "close" => "drop `close`: structs of definitions are closed already",
-    "call" => "`{}`: calls are left out",
-    "regular-expression" => "regular expressions are left out; `string` is what remains",
-    "pattern" => "of patterns only `[string]: T` is taken",
-    "alias-label" => "of patterns only `[string]: T` is taken, without an alias",
-    "alias" => "aliases are left out; give the value a definition and name it",
-    "dynamic-label" => "labels in parentheses are left out; write each field out, or `[string]: T`",
-    "limit" => "the limit of `{}` has to be a literal",
-    "limit-kind" => "the limit of `{}` has to be {}",
-    "if" => "`if`: comprehensions are left out; say the cases as alternatives: `{mode: \"prod\", tls: {..}} | {mode: \"dev\"}`",
-    "if" => "`if` stands in a struct, and a struct behind its conditions, as `{mode: string, if mode == \"prod\" {tls: bool}}`",
-    "condition" => "an `if` asks a field of its struct before a struct: `if f == 1 {..}`, `!=`, `<`, `if f {..}`, `if !f {..}`, `if f != _|_ {..}`, or several: `if f if g {..}`",
-    "undeclared-field" => "this struct itself has no label `{}` without quotes, and an `if` asks about such a field: declare it here, or put the `if` where it is",
-    "declared-again" => "under a condition on `{}` it is declared again, which it may not be with a default, a struct or a reference: declare it outside of the `if`",
-    "struct-beside" => "where this isn't met `{}` may be any struct, which would open the one that its value has: give that struct a definition and name it",
-    "for" => "`for`: comprehensions are left out; write the fields out, or `[string]: T`",
-    "let" => "`let` is left out",
-    "let" => "`let` stands in a struct or at the top of a file, and binds a name that doesn't begin with `_`, as `let n = int & >0`",
-    "embedded-definition" => "an embedded definition: write its fields out, or `{} & {{}, ...}` with `...` in `{}` too",
-    "embedded-struct" => "an embedded struct: put {} into each alternative",
-    "embedded-value" => "a field has to begin here: values that are embedded in a struct are left out",
-    "nested-definition" => "a definition stands at the top of a file: move it there",
-    "hidden-name" => "hidden fields are left out: give the value a definition and name it: `#{}`",
-    "marked-name" => "a name that begins with `#` or `_` is none of the data, so it has no mark: take the `{}` out",
-    "arithmetic" => "arithmetic is left out; write the result, as 3600 for `60 * 60`",
-    "comparison" => "`{}`: {}",
-    "top-level-field" => "a field at the top of a file: a root is a definition",
-    "top-level-value" => "only definitions stand at the top of a file: `#NAME: ..`",
-    "typed-ellipsis" => "`...T` is for lists; in a struct write `[string]: T` for the value under every key, or `...` alone",
-    "early-ellipsis" => "`...` comes last: nothing may follow it",
-    "late-package" => "`package` stands at the head of a file",
-    "digit-label" => "a label that begins with a digit stands in double quotes",
-    "negation" => "negation is left out: `!=` excludes a literal",
-    "missing-colon" => "a label needs `:` and a value; values that are embedded in a struct are left out",
-    "missing-comma" => "a comma, a new line or an operator is missing here",
-    "new-line-in-list" => "a new line doesn't part elements of a list: put a comma behind each",
-    "missing-value" => "a value is missing here",
-    "broken-line" => "the line before ended the value: put the operator at its end",
-    "unclosed" => "this bracket isn't closed, or what is inside doesn't end before another one closes",
-    "stray-bracket" => "no bracket is open that this closes",
-    "misplaced" => "this is out of place",
-    "large-integer" => "`{}`: integers are from -9223372036854775808 to 9223372036854775807",
-    "unknown-kind" => "`{}`: {}",
-    "unknown-name" => "`{}` isn't declared",
-    "unknown-definition" => "`{}` isn't declared; give the file that declares it too",
-    "unknown-name" => "`{}` isn't declared, neither in a struct around nor at the top of a file",
-    "unknown-field" => "`{}`: no field or definition of that name is declared there",
-    "unused-let" => "nothing names `{}`, which `let` binds: take it out, or name it",
-    "bound-twice" => "`{}`, which `let` binds, is declared beside it once more: give one of the two another name",
-    "field-reference" => "`{}` is a field",
-    "absent-field" => "`{}` may be absent: declare it in this struct without `?`, or ask first whether it is there, as `if {} != _|_ if {} ..`",
-    "marked-field" => "`{}` may be absent: a field with `?` or `!` can't be selected; give its value a definition and name it in both places",
-    "not-opened" => "this struct is joined with others: end each of them with `...`, or write all fields into one",
-    "not-opened" => "`--profile wide` puts these structs together; without it end each of them with `...`, or write all fields into one",
-    "closed-operand" => "a struct can't be put together with what a definition closed: embed what `&` joins in one struct, as `{{}, ..}`, or end each of them with `...`",
-    "redeclared-name" => "another struct declares `{}` too, and these files join structs, which could change what it means: give one of the two another name",
-    "held-name" => "`{}` is no definition, so these files could join what it holds with other structs: begin its name with `#`, or embed it and nothing else",
-    "held-name" => "`{}` is no definition, and these files join structs: another struct declares it too, or they could join what it holds: begin its name with `_#`",
-    "embedded-no-struct" => "`{}` can't be embedded: only struct literals can, alternatives of them, and definitions of these; give it a label, or write out its keys{}",
-    "embedded-itself" => "`{}` embeds itself, which never ends: give it a label in its place, or write out the keys that are meant{}",
-    "embedded-twice" => "embedding joins two values of `{}` that hold a struct or a reference, and one would open the other: write all of its keys in one place{}",
-    "embedded-twice" => "embedding joins the values of `[string]` and `{}`, which hold a struct or a reference each, and one would open the other: leave one of the two out{}",
-};
+macro_rules! forms {
+    ($picked:ident) => {
+        $picked! {
+            "byte-order-mark" => "a byte order mark: save the file as UTF-8 without it",
+            "float" => "floats are left out: scale it (percent, milliseconds)",
+            "number-spelling" => "`{}`: {}",
+            "attribute" => "attributes are left out: take it out",
+            "broken-attribute" => "an attribute is `@`, a name and what is in parentheses, as `@go(A)`, with balanced brackets and texts in double quotes on one line",
+            "interpolation" => "interpolation is left out: write each text out",
+            "bytes" => "texts in single quotes are bytes, which JSON doesn't have: write a text in double quotes",
+            "multi-line-text" => "texts over several lines are left out: write it on one line, with \\n for a new line",
+            "raw-text" => "raw texts are left out: write it in double quotes, with \\ before each \" and \\",
+            "escape" => "a text may have the escapes \\a \\b \\f \\n \\r \\t \\v \\/ \\\\ \\\" \\uHHHH \\UHHHHHHHH alone, and no surrogates",
+            "unclosed-text" => "this text doesn't end on its line",
+            "stray-character" => "no token begins with this character",
+            "default-mark" => "default marks are left out",
+            "misplaced-default" => "a default is an alternative of a whole value, as in `x: *1 | int`: take the mark out, or move it there",
+            "second-default" => "a value has one default, and an alternative before this one is marked: take one of the marks out",
+            "default-value" => "a default is null, a truth value, an integer, a text, an empty struct or a list of these: take the mark out",
+            "excluded-default" => "another declaration of `{}` that may be absent, as `{}?`, `[string]` or a default, could exclude this one: write `{}?` here",
+            "excluded-default" => "a default in `{}` is out of place, or another declaration could exclude it",
+            "import" => "imports are left out; remove it and write what it gives by hand (`net.FQDN`, `time.Time`: `string`)",
+            "import" => "`--profile wide` takes imports of `strings`, `list` and `struct`; without it imports are left out: remove it",
+            "import" => "imports of `strings`, `list` and `struct` alone are taken; remove it and write what it gives by hand (`net.FQDN`, `time.Time`: `string`)",
+            "late-import" => "imports stand at the head of a file, behind `package`, as `import \"strings\"`",
+            "package-value" => "`{}`: packages are left out{}",
+            "package-value" => "`{}`: {}",
+            "package-call" => "`{}`: calls of packages are left out{}",
+            "package-call" => "`{}`: `--profile wide` takes this call; without it calls of packages are left out{}",
+            "package-call" => "`{}`: {}",
+            "argument" => "`{}` is called with one integer that is written out, from 0 on",
+            "selector" => "`{}`: what `.` selects is left out; give the field's value a definition and name it in both places",
+            "selector" => "`{}`: `.` selects from a definition that is one struct, with no alternatives, embeddings or `if`, and no hidden label: define the field's value, and name it in both places",
+            "index" => "what brackets select is left out; give the element's value a definition and name it",
+            "close" => "drop `close`: structs of definitions are closed already",
+            "call" => "`{}`: calls are left out",
+            "regular-expression" => "regular expressions are left out; `string` is what remains",
+            "pattern" => "of patterns only `[string]: T` is taken",
+            "alias-label" => "of patterns only `[string]: T` is taken, without an alias",
+            "alias" => "aliases are left out; give the value a definition and name it",
+            "dynamic-label" => "labels in parentheses are left out; write each field out, or `[string]: T`",
+            "limit" => "the limit of `{}` has to be a literal",
+            "limit-kind" => "the limit of `{}` has to be {}",
+            "if" => "`if`: comprehensions are left out; say the cases as alternatives: `{mode: \"prod\", tls: {..}} | {mode: \"dev\"}`",
+            "if" => "`if` stands in a struct, and a struct behind its conditions, as `{mode: string, if mode == \"prod\" {tls: bool}}`",
+            "condition" => "an `if` asks a field of its struct before a struct: `if f == 1 {..}`, `!=`, `<`, `if f {..}`, `if !f {..}`, `if f != _|_ {..}`, or several: `if f if g {..}`",
+            "undeclared-field" => "this struct itself has no label `{}` without quotes, and an `if` asks about such a field: declare it here, or put the `if` where it is",
+            "declared-again" => "under a condition on `{}` it is declared again, which it may not be with a default, a struct or a reference: declare it outside of the `if`",
+            "struct-beside" => "where this isn't met `{}` may be any struct, which would open the one that its value has: give that struct a definition and name it",
+            "for" => "`for`: comprehensions are left out; write the fields out, or `[string]: T`",
+            "let" => "`let` is left out",
+            "let" => "`let` stands in a struct or at the top of a file, and binds a name that doesn't begin with `_`, as `let n = int & >0`",
+            "embedded-definition" => "an embedded definition: write its fields out, or `{} & {{}, ...}` with `...` in `{}` too",
+            "embedded-struct" => "an embedded struct: put {} into each alternative",
+            "embedded-value" => "a field has to begin here: values that are embedded in a struct are left out",
+            "nested-definition" => "a definition stands at the top of a file: move it there",
+            "hidden-name" => "hidden fields are left out: give the value a definition and name it: `#{}`",
+            "marked-name" => "a name that begins with `#` or `_` is none of the data, so it has no mark: take the `{}` out",
+            "arithmetic" => "arithmetic is left out; write the result, as 3600 for `60 * 60`",
+            "comparison" => "`{}`: {}",
+            "top-level-field" => "a field at the top of a file: a root is a definition",
+            "top-level-value" => "only definitions stand at the top of a file: `#NAME: ..`",
+            "typed-ellipsis" => "`...T` is for lists; in a struct write `[string]: T` for the value under every key, or `...` alone",
+            "early-ellipsis" => "`...` comes last: nothing may follow it",
+            "late-package" => "`package` stands at the head of a file",
+            "digit-label" => "a label that begins with a digit stands in double quotes",
+            "negation" => "negation is left out: `!=` excludes a literal",
+            "missing-colon" => "a label needs `:` and a value; values that are embedded in a struct are left out",
+            "missing-comma" => "a comma, a new line or an operator is missing here",
+            "new-line-in-list" => "a new line doesn't part elements of a list: put a comma behind each",
+            "missing-value" => "a value is missing here",
+            "broken-line" => "the line before ended the value: put the operator at its end",
+            "unclosed" => "this bracket isn't closed, or what is inside doesn't end before another one closes",
+            "stray-bracket" => "no bracket is open that this closes",
+            "misplaced" => "this is out of place",
+            "large-integer" => "`{}`: integers are from -9223372036854775808 to 9223372036854775807",
+            "unknown-kind" => "`{}`: {}",
+            "unknown-name" => "`{}` isn't declared",
+            "unknown-definition" => "`{}` isn't declared; give the file that declares it too",
+            "unknown-name" => "`{}` isn't declared, neither in a struct around nor at the top of a file",
+            "unknown-field" => "`{}`: no field or definition of that name is declared there",
+            "unknown-package" => "`{}`: its package isn't imported; write `import \"{}\"` at the head of the file",
+            "unused-import" => "`{}` is imported and not used: take the import out, or call a function of it",
+            "imported-twice" => "`{}`, which is imported, is declared once more: give the import another name, as `import s \"strings\"`",
+            "unused-let" => "nothing names `{}`, which `let` binds: take it out, or name it",
+            "bound-twice" => "`{}`, which `let` binds, is declared beside it once more: give one of the two another name",
+            "field-reference" => "`{}` is a field",
+            "absent-field" => "`{}` may be absent: declare it in this struct without `?`, or ask first whether it is there, as `if {} != _|_ if {} ..`",
+            "marked-field" => "`{}` may be absent: a field with `?` or `!` can't be selected; give its value a definition and name it in both places",
+            "not-opened" => "this struct is joined with others: end each of them with `...`, or write all fields into one",
+            "not-opened" => "`--profile wide` puts these structs together; without it end each of them with `...`, or write all fields into one",
+            "closed-operand" => "a struct can't be put together with what a definition closed: embed what `&` joins in one struct, as `{{}, ..}`, or end each of them with `...`",
+            "redeclared-name" => "another struct declares `{}` too, and these files join structs, which could change what it means: give one of the two another name",
+            "held-name" => "`{}` is no definition, so these files could join what it holds with other structs: begin its name with `#`, or embed it and nothing else",
+            "held-name" => "`{}` is no definition, and these files join structs: another struct declares it too, or they could join what it holds: begin its name with `_#`",
+            "embedded-no-struct" => "`{}` can't be embedded: only struct literals can, alternatives of them, and definitions of these; give it a label, or write out its keys{}",
+            "embedded-itself" => "`{}` embeds itself, which never ends: give it a label in its place, or write out the keys that are meant{}",
+            "embedded-twice" => "embedding joins two values of `{}` that hold a struct or a reference, and one would open the other: write all of its keys in one place{}",
+            "embedded-twice" => "embedding joins the values of `[string]` and `{}`, which hold a struct or a reference each, and one would open the other: leave one of the two out{}",
+        }
+    };
+}
+
+macro_rules! names {
+    ($($name:literal => $said:literal,)*) => { [$($name),*] };
+}
+
+macro_rules! sayings {
+    ($($name:literal => $said:literal,)*) => { [$($said),*] };
+}
+
+/// The names in the table. The prover gives up on a table of so many pairs.
+const NAMES: [&str; 96] = forms!(names);
+
+/// What is said there.
+const SAID: [&str; 96] = forms!(sayings);
 
 /// What is said of how a source spells a form: of packages by their names with the point behind, of conditions and comparisons, and of kinds of CUE
 /// that the profile leaves out. What is said of a package goes on with another sentence.
@@ -357,6 +405,13 @@ const MEANT: Sayings = &rows! {
     &["nil", "None", "undefined"] => "null",
 };
 
+/// The packages of the functions that the wide profile takes.
+const PATHS: Sayings = &rows! {
+    &["MinRunes", "MaxRunes"] => "strings",
+    &["MinItems", "MaxItems"] => "list",
+    &["MinFields", "MaxFields"] => "struct",
+};
+
 /// What a table has for a name.
 fn said_in(rows: Sayings, name: &str) -> Option<&'static str> {
     let (_, said) = rows.iter().find(|(names, _)| names.contains(&name))?;
@@ -365,17 +420,22 @@ fn said_in(rows: Sayings, name: &str) -> Option<&'static str> {
 
 /// The name of a form for programs. It stays as it is, whatever the words for people become.
 pub fn form_name(form: Form) -> &'static str {
-    FORMS[form as usize].0
+    NAMES[form as usize]
 }
 
 /// What is said of a form: a `{}` stands for what its place tells.
 pub fn said_of_form(form: Form) -> &'static str {
-    FORMS[form as usize].1
+    SAID[form as usize]
 }
 
 /// The kind of CUE that may have been meant by a name of another language.
 pub fn kind_meant(name: &str) -> Option<&'static str> {
     said_in(MEANT, name)
+}
+
+/// The path of the package that has a function, of those that the wide profile takes; none of another function.
+pub(crate) fn path_of(function: &str) -> Option<&'static str> {
+    said_in(PATHS, function)
 }
 
 /// What is said of how a source spells a form, for those of which that tells more; nothing for the others.
@@ -390,7 +450,14 @@ pub fn said_of_shown(form: Form, shown: &str) -> &'static str {
         | Form::EmbeddedTwice
         | Form::EmbeddedBesideEvery
             if shown.contains('&') => return "; what `&` joins is embedded one by one",
-        Form::PackageValue | Form::PackageCall => "; `string` is what remains of their formats",
+        Form::UnknownPackage => {
+            return path_of(shown.split('.').last().unwrap_or("")).unwrap_or("");
+        }
+        Form::OtherValue | Form::OtherCall =>
+            return "of packages the calls `strings.MinRunes(n)`, `strings.MaxRunes(n)`, `list.MinItems(n)`, `list.MaxItems(n)`, `struct.MinFields(n)` and `struct.MaxFields(n)` alone are taken; write what it gives by hand",
+        Form::PackageValue | Form::PackageCall | Form::LengthCall => {
+            "; `string` is what remains of their formats"
+        }
         Form::Comparison =>
             "comparisons are left out: a limit is joined by `&`, and fields can't be compared",
         Form::UnknownKind => "",

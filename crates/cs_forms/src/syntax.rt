@@ -1,6 +1,6 @@
-// Forms by the tokens at a place: where none begins (3), at one that is out of place (4) or left out (5), of names that aren't declared (9) or name
-// fields (10), and of the conditions of an `if` in the wide profile (4, 5).
-use crate::forms::{Form, Found, said_of_shown};
+// Forms by the tokens at a place: where none begins (3), at one that is out of place (4) or left out (5), of integers out of their range (6), of names that
+// aren't declared (9) or name fields (10), and of the conditions of an `if` in the wide profile (4, 5).
+use crate::forms::{Form, Found, path_of, said_of_shown};
 use cs_grammar::{Profile, Sort, Token};
 use cs_sources::Separator::Comma;
 use cs_sources::{
@@ -13,6 +13,9 @@ const PACKAGES: [&str; 18] = [
     "base64", "bool", "csv", "hex", "json", "list", "math", "bits", "net", "path", "regexp",
     "strconv", "strings", "struct", "template", "time", "uuid", "yaml",
 ];
+
+/// The paths of those of them of which functions are called in the wide profile.
+const LENGTH_PATHS: [&str; 3] = ["\"strings\"", "\"list\"", "\"struct\""];
 
 /// What the default profile leaves out by its token alone.
 const LEFT_OUT: [(&[&str], Form); 7] = [
@@ -93,11 +96,22 @@ fn text_at(bytes: &[u8]) -> (Form, usize) {
     (opened, bytes.len())
 }
 
-/// The form of a name that isn't declared, or has no field that `.` selects from it; or of a `let` whose name nothing names, or another one has.
+/// The form at an integer that is out of its range: as an argument it may be below 0.
+pub fn form_of_integer<'s, 'a>(near: Near<'s, 'a>) -> Found<'s, 'a> {
+    let below = form_of_argument(near).filter(|_| near.here().text == "-");
+    below.unwrap_or(Found::at(near, Form::LargeInteger))
+}
+
+/// The form of a name that isn't declared, or has no field that `.` selects from it; or of a `let` or an import whose name nothing names, or another one
+/// has.
 pub fn form_unknown<'s, 'a>(near: Near<'s, 'a>, declared: &Declared<'_, 'a>) -> Found<'s, 'a> {
     let name = near.here();
     let form = match (near.selector(), name.sort) {
         _ if near.begins_let() => return form_of_let(near),
+        _ if near.imported().is_some() => return form_of_imported(near, declared),
+        (Some(selector), _) if near.begins_call() => {
+            return Found::between(Form::UnknownPackage, near, selector.to);
+        }
         (Some(selector), _) if is_declared(name.text, declared) => {
             return Found::between(Form::UnknownField, near, selector.to);
         }
@@ -132,6 +146,27 @@ fn form_of_let<'s, 'a>(near: Near<'s, 'a>) -> Found<'s, 'a> {
     Found::between(form, near, near.place.saturating_add(2)).showing(name)
 }
 
+/// The form of an import at fault: another declaration of its file, or a name of any file, may have its name.
+fn form_of_imported<'s, 'a>(near: Near<'s, 'a>, declared: &Declared<'_, 'a>) -> Found<'s, 'a> {
+    let name = near.imported().unwrap_or("");
+    let is_twice = declared.sources.iter().any(|source| {
+        let is_own = source.file == near.source.file;
+        source.whole().any(|token| {
+            let is_other = is_own && token.place != near.place;
+            let may_be = token.inside() == Inside::File && (is_own || !token.begins_let());
+            let is_name = may_be && token.declares_name();
+            is_name && token.name_declared().here().text == name
+                || is_other && token.imported() == Some(name)
+        })
+    });
+    let form = if is_twice {
+        Form::ImportedTwice
+    } else {
+        Form::UnusedImport
+    };
+    Found::at(near, form).showing(name)
+}
+
 /// The form at a name with a selector behind it; none at another token.
 pub(crate) fn form_of_selected<'s, 'a>(near: Near<'s, 'a>) -> Option<Found<'s, 'a>> {
     let selector = near.selector()?;
@@ -147,10 +182,17 @@ pub(crate) fn form_left_out<'s, 'a>(near: Near<'s, 'a>) -> Found<'s, 'a> {
     let here = near.here();
     let form = match (form_of_token(here.text), near.inside()) {
         _ if here.text == "." => return form_of_dot(near),
+        _ if here.sort == Sort::Name && near.before(1).text == "." => {
+            let place = near.place.saturating_sub(1);
+            return form_of_dot(Near { place, ..near });
+        }
+        _ if near.imported().is_some() => form_of_import(near),
+        (Some(Form::Import), _) => form_of_import(near),
         (Some(Form::Alias), Inside::Label) => Form::AliasLabel,
         (Some(Form::RegularExpression), Inside::Label) => Form::Pattern,
         (Some(form), _) => form,
         _ if here.sort == Sort::Hidden => Form::HiddenName,
+        _ if here.sort == Sort::Name && is_package(near, here.text) => Form::OtherValue,
         _ if here.sort == Sort::Name => Form::Misplaced,
         _ if here.text == "*" && !ends_value(near.before(1)) => Form::DefaultMark,
         _ => Form::Arithmetic,
@@ -164,15 +206,56 @@ fn form_of_token(text: &str) -> Option<Form> {
     Some(listed.1)
 }
 
+/// The form of an import that is left out: in the wide profile it is of another package, or out of place.
+fn form_of_import(near: Near<'_, '_>) -> Form {
+    let part = near.part();
+    let is_taken = part.any(|token| LENGTH_PATHS.contains(&token.here().text));
+    let is_other = part.any(|token| {
+        let here = token.here();
+        here.sort == Sort::Text && !LENGTH_PATHS.contains(&here.text)
+    });
+    match near.source.profile {
+        Profile::Default if is_taken && !is_other => Form::LengthImport,
+        Profile::Default => Form::Import,
+        Profile::Wide if is_other => Form::OtherImport,
+        Profile::Wide => Form::LateImport,
+    }
+}
+
+/// Whether a name is that of a package, in the wide profile.
+fn is_package(near: Near<'_, '_>, name: &str) -> bool {
+    near.source.profile == Profile::Wide && near.source.imports(name)
+}
+
+/// The form of a call of a package by its function: in the wide profile of one that isn't taken, or of a name that is no package.
+fn form_of_call(near: Near<'_, '_>, package: &str, function: &str) -> Form {
+    let is_length = path_of(function).is_some();
+    match near.source.profile {
+        Profile::Default if is_length => Form::LengthCall,
+        Profile::Default => Form::PackageCall,
+        Profile::Wide if is_length && !is_package(near, package) => Form::UnknownPackage,
+        Profile::Wide => Form::OtherCall,
+    }
+}
+
+/// The form of what a package gives that isn't called.
+fn form_of_given(near: Near<'_, '_>) -> Form {
+    match near.source.profile {
+        Profile::Default => Form::PackageValue,
+        Profile::Wide => Form::OtherValue,
+    }
+}
+
 fn form_of_dot<'s, 'a>(near: Near<'s, 'a>) -> Found<'s, 'a> {
     let (before, behind) = (near.before(1), near.behind(1));
     let form = match before.sort {
         _ if !ends_value(before) => return Found::at(near, Form::Float),
         _ if behind.sort != Sort::Name => return Found::at(near, Form::Selector),
-        Sort::Name if near.behind(2).text == "(" => Form::PackageCall,
-        Sort::Name if PACKAGES.contains(&before.text) => Form::PackageValue,
+        Sort::Name if near.behind(2).text == "(" => form_of_call(near, before.text, behind.text),
+        Sort::Name if PACKAGES.contains(&before.text) => form_of_given(near),
+        Sort::Name if is_package(near, before.text) => form_of_given(near),
         // What packages give begins with a capital letter.
-        Sort::Name if matches!(behind.text.as_bytes(), [b'A'..=b'Z', ..]) => Form::PackageValue,
+        Sort::Name if matches!(behind.text.as_bytes(), [b'A'..=b'Z', ..]) => form_of_given(near),
         _ => Form::Selector,
     };
     let place = near.place.saturating_sub(1);
@@ -181,7 +264,8 @@ fn form_of_dot<'s, 'a>(near: Near<'s, 'a>) -> Found<'s, 'a> {
 
 /// The form at a token that is out of place, though the profile has it elsewhere.
 pub fn form_out_of_place<'s, 'a>(near: Near<'s, 'a>) -> Found<'s, 'a> {
-    let other = form_in_condition(near, Form::Condition).or(after_word(near));
+    let in_condition = form_in_condition(near, Form::Condition);
+    let other = in_condition.or(form_of_argument(near)).or(after_word(near));
     match (other, near.inside()) {
         (Some(found), _) => found,
         (None, Inside::Label) if near.behind(1).text == "=" => Found::at(near, Form::AliasLabel),
@@ -190,6 +274,15 @@ pub fn form_out_of_place<'s, 'a>(near: Near<'s, 'a>) -> Found<'s, 'a> {
         _ if ends_value(near.before(1)) => behind_value(near),
         _ => behind_mark(near),
     }
+}
+
+/// The form of what a function of a package is called with, in the wide profile; none elsewhere.
+fn form_of_argument<'s, 'a>(near: Near<'s, 'a>) -> Option<Found<'s, 'a>> {
+    let call = near
+        .call()
+        .filter(|call| call.source.profile == Profile::Wide)?;
+    let called = Found::between(Form::Argument, call, call.place.saturating_add(3));
+    Some(Found::at(near, Form::Argument).showing(called.shown))
 }
 
 /// The form after a word that begins a clause, or of a value after the mark of a limit, or after its sign.
@@ -246,11 +339,6 @@ fn behind_value<'s, 'a>(near: Near<'s, 'a>) -> Found<'s, 'a> {
     match (here.text, first.here().text.as_bytes()) {
         ("?" | "!", _) if is_name && near.source.profile == Profile::Wide => {
             Found::at(near, Form::MarkedName)
-        }
-        // In the wide profile a call of a package is a name with a selector up to here.
-        ("(", _) if near.before(2).text == "." => {
-            let place = near.place.saturating_sub(2);
-            form_of_dot(Near { place, ..near })
         }
         ("(", _) if before.text == "close" => Found::before(near, Form::Close),
         ("(", _) if before.sort == Sort::Name => Found::before(near, Form::Call),

@@ -1,10 +1,10 @@
 -- Files with and without `[string]: T`, worked by the definitions of labels. A wrong expectation stops the check here.
-use Rattle.std.proofs.Common.{true, false, List, [], ◌∷◌, None, codes}
+use Rattle.std.proofs.Common.{true, false, pos, List, [], ◌∷◌, None, codes}
 use Rattle.std.specs.List.{AllByRecursion}
 use Rattle.cs_grammar.specs.declared.ast.FieldMark.TheVariants.{Regular, Optional, Required, Every}
 use Rattle.cs_grammar.specs.Labels.{HasLabel, IsLabelled, IsLabelledFile}
 use Rattle.cs_grammar.specs.Spells.{every_label}
-use Rattle.cs_grammar.specs.Tree.{Label, Tree, atom, top, named, reference, conjunction, disjunction, paren, struct, list, wide, marked, merged, shut, no_declaration, declared, embedded, none, more, no_field, field, closed, any, each, definition, file}
+use Rattle.cs_grammar.specs.Tree.{Label, Tree, atom, top, named, reference, conjunction, disjunction, paren, struct, list, wide, marked, merged, shut, selected, called, imported, no_declaration, declared, embedded, none, more, no_field, field, closed, any, each, definition, file}
 
 abbrev a : Label
 a = record { text = codes "a"; quotes = false; asked = false; scoped = None }
@@ -61,6 +61,12 @@ wide_with_labels : AllByRecursion IsLabelled (around_wide one_label)
 wide_with_labels =
     let one : IsLabelled one_label = (tt, tt, tt) in
     (one, ((tt, one, (tt, tt)), ((one, (tt, tt, tt)), (one, tt))))
+
+-- `s.a`, `s.a(1)`, and what `import "s"` declares
+without_parts_in_the_wide : AllByRecursion IsLabelled
+    (wide (selected 4 (codes "s") (record { text = codes "a"; quotes = false; at = 6 } ∷ [])) ∷ wide (called 4 (codes "s") (record { text = codes "a"; quotes = false; at = 6 }) (pos 1))
+    ∷ wide (imported 4 (codes "s")) ∷ [])
+without_parts_in_the_wide = (tt, (tt, (tt, tt)))
 
 wide_every_keys : AllByRecursion (λ e. IsLabelled e → ⊥) (around_wide every_key)
 wide_every_keys = (λ h. h.0, (λ h. h.1.0, (λ h. h.0.0, (λ h. h.0, tt))))

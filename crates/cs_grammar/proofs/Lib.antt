@@ -11,4 +11,5 @@ pub mod Samples
 pub mod CutSamples
 mod AttributeSamples
 mod LabelSamples
+mod LengthSamples
 mod TreeSamples

@@ -3,7 +3,7 @@ use Rattle.std.proofs.Common.{ℕ, ◌≤◌, ℤ, Bool, List, ◌∷◌, length
 use Rattle.cs_grammar.specs.Atom.{Atom}
 use Rattle.cs_grammar.specs.Tree.{Label, Selector, Test, Condition, Tree, Trees, Fields, Declarations, End, DefinitionTree, NameTree}
 use Rattle.cs_grammar.specs.Words.{Word, Words}
-use Rattle.cs_grammar.specs.Spells.{Comma, explicit, inserted, ClosesParen, paren_here, paren_after, ClosesList, list_here, list_after, ClosesStruct, struct_here, struct_after, SpellsNumber, positive, negative, SpellsBound, limit_is, other_number, other_text, other_null, SpellsScalar, scalar_name, scalar_number, scalar_text, SpellsTest, is_true, equal_to, unequal_to, is_absent, is_present, related, SpellsCondition, asked_is, denied_is, SpellsConditions, last_condition, next_condition, SpellsName, hashed, underscored, SpellsBase, name_base, field_base, SpellsSelector, by_name, by_label, by_text, SpellsSelectors, last_selector, next_selector, SpellsLabel, bare_label, quoted_label, SpellsMark, regular, optional, required, SpellsOpening, unopened, opened, SpellsValue, long, short, SpellsField, labelled, every_key, SpellsExpr, one_branch, disjunction_is, SpellsBars, no_bar, a_bar, SpellsBranch, unmarked, marked_is, SpellsConj, one_operand, conjunction_is, SpellsAmps, no_amp, an_amp, SpellsOperand, top_is, bottom_is, reference_is, name_is, number_is, text_is, bound_is, paren_is, struct_is, list_is, call_paren_is, shut_is, local_is, selected_is, wide_struct_is, SpellsWideStruct, no_declarations, wide_dots_alone, some_declarations, SpellsDeclarations, a_field, an_embedding, a_name, a_let, a_conditional, SpellsMore, no_more, next_declaration, SpellsStruct, no_fields, dots_alone, fields, SpellsFields, no_more_fields, next_field, SpellsList, no_elements, rest_alone, elements, SpellsElements, no_more_elements, next_element, SpellsEnd, closed_is, rest_is, SpellsRest, any_is, each_is, SpellsDefinition, defined, SpellsDefinitions, no_definition, next_definition, SpellsFileName, field_name, local_name, bound_name, SpellsWideFile, no_line, definition_line, name_line, SpellsPackage, no_clause, clause}
+use Rattle.cs_grammar.specs.Spells.{Comma, explicit, inserted, ClosesParen, paren_here, paren_after, ClosesList, list_here, list_after, ClosesStruct, struct_here, struct_after, SpellsNumber, positive, negative, SpellsBound, limit_is, other_number, other_text, other_null, SpellsScalar, scalar_name, scalar_number, scalar_text, SpellsTest, is_true, equal_to, unequal_to, is_absent, is_present, related, SpellsCondition, asked_is, denied_is, SpellsConditions, last_condition, next_condition, SpellsName, hashed, underscored, SpellsBase, name_base, field_base, SpellsSelector, by_name, by_label, by_text, SpellsSelectors, last_selector, next_selector, SpellsLabel, bare_label, quoted_label, SpellsMark, regular, optional, required, SpellsOpening, unopened, opened, SpellsValue, long, short, SpellsField, labelled, every_key, SpellsExpr, one_branch, disjunction_is, SpellsBars, no_bar, a_bar, SpellsBranch, unmarked, marked_is, SpellsConj, one_operand, conjunction_is, SpellsAmps, no_amp, an_amp, SpellsOperand, top_is, bottom_is, reference_is, name_is, number_is, text_is, bound_is, paren_is, struct_is, list_is, call_paren_is, shut_is, local_is, selected_is, called_is, SpellsArgument, argument_is, wide_struct_is, SpellsWideStruct, no_declarations, wide_dots_alone, some_declarations, SpellsDeclarations, a_field, an_embedding, a_name, a_let, a_conditional, SpellsMore, no_more, next_declaration, SpellsStruct, no_fields, dots_alone, fields, SpellsFields, no_more_fields, next_field, SpellsList, no_elements, rest_alone, elements, SpellsElements, no_more_elements, next_element, SpellsEnd, closed_is, rest_is, SpellsRest, any_is, each_is, SpellsDefinition, defined, SpellsDefinitions, no_definition, next_definition, SpellsFileName, field_name, local_name, bound_name, SpellsImportSpec, path_alone, named_path, SpellsImportSpecs, no_spec, last_spec, next_spec, SpellsImport, one_import, some_imports, SpellsImports, no_import, next_import, SpellsWideFile, no_line, definition_line, name_line, SpellsPackage, no_clause, clause}
 use Rattle.cs_grammar.specs.declared.ast.FieldMark.{FieldMark}
 
 -- the last of some words, from one on
@@ -96,6 +96,9 @@ pub of_selectors : {ls : List Selector} {ts r : Words} → SpellsSelectors ls ts
 of_selectors (last_selector l) = of_selector l
 of_selectors (next_selector l ls) = then (of_selector l) (of_selectors ls)
 
+pub of_argument : {z : ℤ} {ts r : Words} → SpellsArgument z ts r → IsRest r ts
+of_argument (argument_is f c) = behind (behind (of_paren c))
+
 mutual
   pub of_value : {e : Tree} {ts r : Words} → SpellsValue e ts r → IsRest r ts
   of_value (long e) = of_expr e
@@ -140,6 +143,7 @@ mutual
   of_operand (shut_is s e c) = behind (behind (then (of_expr e) (of_paren c)))
   of_operand local_is = behind whole
   of_operand (selected_is o b l) = then (of_base b) (of_selectors l)
+  of_operand (called_is h a) = behind (behind (behind (of_argument a)))
   of_operand (wide_struct_is e s) = behind (of_wide_struct s)
 
   pub of_wide_struct : {ds : Declarations} {b : Bool} {ts r : Words} → SpellsWideStruct ds b ts r → IsRest r ts
@@ -200,6 +204,23 @@ pub of_wide_file : {ds : List DefinitionTree} {ns : List NameTree} {ts r : Words
 of_wide_file no_line = whole
 of_wide_file (definition_line d c ls) = then (of_definition d) (then (of_comma c) (of_wide_file ls))
 of_wide_file (name_line n c ls) = then (of_file_name n) (then (of_comma c) (of_wide_file ls))
+
+pub of_import_spec : {o : ℕ} {n : NameTree} {ts r : Words} → SpellsImportSpec o n ts r → IsRest r ts
+of_import_spec path_alone = behind whole
+of_import_spec named_path = behind (behind whole)
+
+pub of_import_specs : {ns : List NameTree} {ts r : Words} → SpellsImportSpecs ns ts r → IsRest r ts
+of_import_specs no_spec = behind whole
+of_import_specs (last_spec o s) = then (of_import_spec s) (behind whole)
+of_import_specs (next_spec o s c ns) = then (of_import_spec s) (then (of_comma c) (of_import_specs ns))
+
+pub of_import : {ns : List NameTree} {ts r : Words} → SpellsImport ns ts r → IsRest r ts
+of_import (one_import e s) = behind (of_import_spec s)
+of_import (some_imports e ns) = behind (behind (of_import_specs ns))
+
+pub of_imports : {ns : List NameTree} {ts r : Words} → SpellsImports ns ts r → IsRest r ts
+of_imports no_import = whole
+of_imports (next_import e n c ns) = then (of_import n) (then (of_comma c) (of_imports ns))
 
 pub of_package : {c : Option (List ℕ)} {ts r : Words} → SpellsPackage c ts r → IsRest r ts
 of_package no_clause = whole

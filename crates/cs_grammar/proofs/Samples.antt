@@ -14,7 +14,7 @@ use Rattle.cs_grammar.specs.TextParts.{TextParts, ends, plain, escape, four, eig
 use Rattle.cs_grammar.specs.Words as W
 use Rattle.cs_grammar.specs.Tree as T
 use Rattle.cs_grammar.specs.declared.ast.FieldMark.TheVariants.{Regular}
-use Rattle.cs_grammar.specs.Spells.{is_reserved, literal_of, is_null, is_package, is_string, is_close, is_let, with_hash, start_at, fields_alone, literal, SpellsNumber, positive, negative}
+use Rattle.cs_grammar.specs.Spells.{is_reserved, literal_of, is_null, is_package, is_string, is_close, is_let, is_import, with_hash, start_at, fields_alone, literal, SpellsNumber, positive, negative}
 use Rattle.std.proofs.lemmas.Int.{ints}
 use Prim.Native.String.{String}
 
@@ -248,6 +248,9 @@ strings = refl
 
 lets : parts (λ t. is_let (codes t)) ("let" ∷ []) ("le" ∷ "lets" ∷ "Let" ∷ "" ∷ []) ≡ true
 lets = refl
+
+imports : parts (λ t. is_import (codes t)) ("import" ∷ []) ("impor" ∷ "imports" ∷ "Import" ∷ "" ∷ []) ≡ true
+imports = refl
 
 -- as it is written
 with_hashes : map (λ t. with_hash (bare_name (codes t))) ("#A" ∷ "#_" ∷ []) ≡ map codes ("#A" ∷ "#_" ∷ [])

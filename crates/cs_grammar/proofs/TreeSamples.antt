@@ -1,6 +1,7 @@
 -- Samples, worked by the definitions: how high trees are, how many nodes they have, and the limits.
 use Rattle.std.proofs.Common.{◌≡◌, ℕ, Bool, zero, suc, pos, List, [], ◌∷◌, map, true, false, None, refl, codes}
 use Rattle.std.specs.Prelude.{replicate}
+use Rattle.cs_grammar.specs.declared.ast.Counted.TheVariants.{Elements}
 use Rattle.cs_grammar.specs.declared.ast.FieldMark.TheVariants.{Regular, Optional}
 use Rattle.cs_grammar.specs.Atom as atoms
 use Rattle.cs_grammar.specs.Height.{height, file_height}
@@ -43,7 +44,8 @@ kept (suc n) e = T.paren (kept n e)
 abbrev leaves : List Tree
 leaves =
     T.atom T.top ∷ T.atom T.bottom ∷ T.atom T.null ∷ T.atom (T.boolean true) ∷ one ∷ T.atom (T.text (codes "a")) ∷ T.named (codes "int") 4
-    ∷ T.reference (codes "A") 4 ∷ T.atom (T.bound atoms.less (pos 1)) ∷ T.atom (T.not_integer (pos 1)) ∷ T.atom (T.not_text (codes "a")) ∷ T.atom T.not_null ∷ []
+    ∷ T.reference (codes "A") 4 ∷ T.atom (T.bound atoms.less (pos 1)) ∷ T.atom (T.not_integer (pos 1)) ∷ T.atom (T.not_text (codes "a")) ∷ T.atom T.not_null
+    ∷ T.atom (T.size Elements false (pos 1)) ∷ []
 
 abbrev star : Tree → Tree
 star e = T.wide (T.marked 4 e)
@@ -66,7 +68,7 @@ value e = record { name = codes "a"; is_bound = false; at = 0; value = e }
 
 -- ---- heights
 
-without_parts : map height leaves ≡ replicate 12 1
+without_parts : map height leaves ≡ replicate 13 1
 without_parts = refl
 
 -- `1 & (1)`, `(1) | 1`, `(1)` and `((1))`
@@ -101,6 +103,10 @@ calls = refl
 selectors : map height (selected (codes "a") (by_label (codes "b") false ∷ []) ∷ kept 1 (selected (codes "_a") (by_label (codes "b") false ∷ by_label (codes "c") true ∷ [])) ∷ []) ≡ 1 ∷ 2 ∷ []
 selectors = refl
 
+-- `s.f(1)`, and what `import "s"` declares
+packages : map height (T.wide (T.called 4 (codes "s") (by_label (codes "f") false) (pos 1)) ∷ T.wide (T.imported 4 (codes "s")) ∷ []) ≡ 1 ∷ 1 ∷ []
+packages = refl
+
 -- a file without definitions, one whose second body is the highest, and others whose other names are higher or lower
 files : map file_height (file None [] [] ∷ file None (body one ∷ body (kept 2 one) ∷ body one ∷ []) [] ∷ file None (body one ∷ []) (value one ∷ value (kept 3 one) ∷ []) ∷ file None (body (kept 1 one) ∷ []) (value one ∷ []) ∷ file None [] (value one ∷ []) ∷ []) ≡ 0 ∷ 3 ∷ 4 ∷ 2 ∷ 1 ∷ []
 files = refl
@@ -110,7 +116,7 @@ at_the_limit = refl
 
 -- ---- nodes
 
-nodes_of_leaves : map nodes leaves ≡ replicate 12 1
+nodes_of_leaves : map nodes leaves ≡ replicate 13 1
 nodes_of_leaves = refl
 
 -- `1 & 1`, `1 | 1`, `((1))`, `{}`, `{a?: 1}`, `{a?: 1, a?: (1)}`, `[]`, `[...]`, `[1, 1]`, `[1, ...]` and `[1, ...1]`: a parenthesis is none, and nor is

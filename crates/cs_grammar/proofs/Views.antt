@@ -1,5 +1,5 @@
 -- Expressions, fields and words as the grammar sees them, form by form.
-use Rattle.std.proofs.Common.{◌≡◌, ℕ, Bool, List, map, refl, ap, rules, string_bytes, Box, Global, String, Vec}
+use Rattle.std.proofs.Common.{◌≡◌, ℕ, ℤ, Bool, List, map, refl, ap, rules, string_bytes, Box, Global, String, Vec}
 use Rattle.cs_grammar.specs.Tree as T
 use Rattle.cs_grammar.specs.View.{expr_view, exprs_view, fields_view, field_view, end_view, wide_view, declaration_view, declarations_view, field_seen, embedding_seen, conditional_seen, condition_view, selector_view}
 use Rattle.cs_grammar.specs.TokenWords.{word_of}
@@ -63,6 +63,12 @@ view-Selected at s v = search (rules, Exprs.the_lemmas)
 
 pub view-Marked : (at : ℕ) (b : Box Expr Global) → wide_view (Wides.Marked at b) ≡ T.marked at (expr_view b.value)
 view-Marked at b = search (rules, Exprs.the_lemmas)
+
+pub view-Called : (at : ℕ) (s : String Global) (f : Selector) (n : ℤ) → wide_view (Wides.Called at s f n) ≡ T.called at (string_bytes s) (selector_view f) n
+view-Called at s f n = search (rules, Exprs.the_lemmas)
+
+pub view-Imported : (at : ℕ) (s : String Global) → wide_view (Wides.Imported at s) ≡ T.imported at (string_bytes s)
+view-Imported at s = search (rules, Exprs.the_lemmas)
 
 -- ---- ends of lists
 

@@ -1,5 +1,6 @@
 -- Atoms: expressions without parts that name nothing (CUE language specification, "Values", "Literals" and "Bounds").
 use Rattle.std.specs.Prelude.{ℕ, ℤ, Bool, List}
+use Rattle.cs_grammar.specs.declared.ast.Counted.{Counted}
 
 -- the relations of `<n`, `<=n`, `>n`, `>=n`
 pub data Relation : Type 0 where
@@ -18,3 +19,6 @@ pub data Atom : Type 0 where
   not_integer : ℤ → Atom
   not_text : List ℕ → Atom
   not_null : Atom
+  -- that so many of these are there, at least where it is true, and else at most (CUE, packages `strings`, `list` and `struct`): what a call of a
+  -- package stands for, which no source spells by itself
+  size : Counted → Bool → ℤ → Atom

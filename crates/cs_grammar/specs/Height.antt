@@ -1,6 +1,6 @@
 -- How high a tree is (own rule): 1 for an expression without parts, and else one more than the greatest height of its parts.
 use Rattle.std.specs.Prelude.{ℕ, suc, ◌+◌, max, List, [], ◌∷◌, length}
-use Rattle.cs_grammar.specs.Tree.{Tree, atom, named, reference, conjunction, disjunction, paren, struct, list, wide, Wide, marked, merged, shut, selected, Declarations, no_declaration, declared, embedded, conditional, Trees, none, more, Fields, no_field, field, End, closed, any, each, DefinitionTree, body, NameTree, FileTree, definitions, names}
+use Rattle.cs_grammar.specs.Tree.{Tree, atom, named, reference, conjunction, disjunction, paren, struct, list, wide, Wide, marked, merged, shut, selected, called, imported, Declarations, no_declaration, declared, embedded, conditional, Trees, none, more, Fields, no_field, field, End, closed, any, each, DefinitionTree, body, NameTree, FileTree, definitions, names}
 
 abbrev mutual
   pub height : Tree → ℕ
@@ -20,6 +20,8 @@ abbrev mutual
   height_wide (merged o ds b) = suc (height_declarations ds)
   height_wide (shut o e) = suc (height e)
   height_wide (selected o s ls) = 1
+  height_wide (called o s f z) = 1
+  height_wide (imported o s) = 1
 
   -- the greatest height; 0 of none
   pub height_all : Trees → ℕ

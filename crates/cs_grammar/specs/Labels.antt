@@ -3,7 +3,7 @@
 use Rattle.std.specs.List.{AllByRecursion}
 use Rattle.cs_grammar.specs.declared.ast.FieldMark.{FieldMark}
 use Rattle.cs_grammar.specs.declared.ast.FieldMark.TheVariants.{Regular, Optional, Required, Every}
-use Rattle.cs_grammar.specs.Tree.{Tree, atom, named, reference, conjunction, disjunction, paren, struct, list, wide, Wide, marked, merged, shut, selected, Declarations, no_declaration, declared, embedded, conditional, Trees, none, more, Fields, no_field, field, End, closed, any, each, body, FileTree, definitions}
+use Rattle.cs_grammar.specs.Tree.{Tree, atom, named, reference, conjunction, disjunction, paren, struct, list, wide, Wide, marked, merged, shut, selected, called, imported, Declarations, no_declaration, declared, embedded, conditional, Trees, none, more, Fields, no_field, field, End, closed, any, each, body, FileTree, definitions}
 
 -- the mark of a field with a label
 abbrev pub HasLabel : FieldMark → Type 0
@@ -30,6 +30,8 @@ abbrev mutual
   IsLabelledWide (merged o ds b) = AreLabelledDeclarations ds
   IsLabelledWide (shut o e) = IsLabelled e
   IsLabelledWide (selected o s ls) = Unit {0}
+  IsLabelledWide (called o s f z) = Unit {0}
+  IsLabelledWide (imported o s) = Unit {0}
 
   pub AreLabelledDeclarations : Declarations → Type 0
   AreLabelledDeclarations no_declaration = Unit {0}

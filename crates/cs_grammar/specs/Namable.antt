@@ -1,14 +1,15 @@
 -- Trees that a source of the wide profile spells: those that can be written down (`IsWritten`), and those with names that a file or a literal declares
--- beside its definitions and fields (CUE, definitions and hidden fields, let clauses), and with selectors (CUE, selectors).
+-- beside its definitions and fields (CUE, definitions and hidden fields, let clauses, import declarations), with selectors (CUE, selectors), and with calls
+-- of packages (CUE, calls).
 use Rattle.std.specs.Prelude.{◌≡◌, ◌⊎◌, ℕ, List, false, true, Bool, Option, Some, None}
 use Rattle.std.specs.List.{AllByRecursion}
 use Rattle.cs_grammar.specs.declared.ast.FieldMark.{FieldMark}
 use Rattle.cs_grammar.specs.declared.ast.FieldMark.TheVariants.{Regular, Optional, Required, Every}
 use Rattle.cs_grammar.specs.declared.token.Sort.TheVariants as sorts
 use Rattle.cs_grammar.specs.Spelling.{sort_of}
-use Rattle.cs_grammar.specs.Spells.{is_reserved, literal_of, every_label}
-use Rattle.cs_grammar.specs.Written.{Place, by_itself, of_bar, of_amp, IsName, IsDefinitionName, IsWrittenAtom, IsTextOrName, IsWrittenCondition, AreTwo, TakesBars, TakesAmps, IsWrittenClause}
-use Rattle.cs_grammar.specs.Tree.{Label, Selector, Tree, atom, named, reference, conjunction, disjunction, paren, struct, list, wide, Wide, marked, merged, shut, selected, Declarations, no_declaration, declared, embedded, conditional, Trees, none, more, Fields, no_field, field, End, closed, any, each, DefinitionTree, definition, NameTree, FileTree, file}
+use Rattle.cs_grammar.specs.Spells.{is_reserved, is_function, literal_of, every_label}
+use Rattle.cs_grammar.specs.Written.{Place, by_itself, of_bar, of_amp, IsName, IsDefinitionName, IsLength, IsWrittenAtom, IsTextOrName, IsWrittenCondition, AreTwo, TakesBars, TakesAmps, IsWrittenClause}
+use Rattle.cs_grammar.specs.Tree.{Label, Selector, Tree, atom, named, reference, conjunction, disjunction, paren, struct, list, wide, Wide, marked, merged, shut, selected, called, imported, Declarations, no_declaration, declared, embedded, conditional, Trees, none, more, Fields, no_field, field, End, closed, any, each, DefinitionTree, definition, NameTree, FileTree, file}
 
 -- ---- names, as they are written
 
@@ -40,6 +41,10 @@ IsNamableLabel l (Every o) = l ≡ every_label
 abbrev pub IsNamableSelector : Selector → Type 0
 IsNamableSelector l = l.quotes ≡ false → IsName l.text ⊎ IsScopeName l.text
 
+-- the function of a package
+abbrev pub IsFunction : Selector → Type 0
+IsFunction l = (l.quotes ≡ false) × (is_function l.text ≡ true)
+
 -- ---- expressions
 
 abbrev mutual
@@ -59,6 +64,9 @@ abbrev mutual
   IsNamableWide p (merged o ds b) = AreNamableDeclarations ds
   IsNamableWide p (shut o e) = IsNamable by_itself e
   IsNamableWide p (selected o s ls) = (IsOperandName s ⊎ IsScopeName s) × AllByRecursion IsNamableSelector ls
+  IsNamableWide p (called o s f z) = IsOperandName s × IsFunction f × IsLength z
+  -- it is the value of a name of a file, and of nothing else
+  IsNamableWide p (imported o s) = ⊥
 
   pub AreNamableDeclarations : Declarations → Type 0
   AreNamableDeclarations no_declaration = Unit {0}
@@ -89,8 +97,12 @@ abbrev pub IsFileName : Bool → List ℕ → Type 0
 IsFileName true s = IsName s
 IsFileName false s = IsName s ⊎ IsHiddenName s
 
+-- what an import declares has the name that is written, or else the path of the package
+abbrev pub IsImportName : NameTree → Type 0
+IsImportName n = (o : ℕ) × (path : List ℕ) × (n.value ≡ wide (imported o path)) × (n.is_bound ≡ true) × (IsName n.name ⊎ (n.name ≡ path))
+
 abbrev pub IsNamableName : NameTree → Type 0
-IsNamableName n = IsFileName n.is_bound n.name × IsNamable by_itself n.value
+IsNamableName n = (IsFileName n.is_bound n.name × IsNamable by_itself n.value) ⊎ IsImportName n
 
 abbrev pub IsNamableFile : FileTree → Type 0
 IsNamableFile (file c ds ns) = IsWrittenClause c × AllByRecursion IsNamableDefinition ds × AllByRecursion IsNamableName ns

@@ -1,5 +1,5 @@
 -- The grammar: which words spell a tree (CUE, source file organization, operands and expressions). `SpellsX t ts r`: the words ts begin with a spelling of t as an X, and r is what follows it.
-use Rattle.std.specs.Prelude.{◌≡◌, ℕ, ℤ, pos, neg_ℤ, List, [], ◌∷◌, Option, Some, None, Bool, true, false, if◌then◌else◌, codes, FitsSigned}
+use Rattle.std.specs.Prelude.{◌≡◌, ℕ, ℤ, pos, neg_ℤ, List, [], ◌∷◌, ◌++◌, Option, Some, None, Bool, true, false, if◌then◌else◌, codes, FitsSigned}
 use Rattle.std.specs.Int.{w64}
 use Rattle.std.specs.Option.{option_map, unwrap_or}
 use Rattle.std.specs.Str.{bytes_eq}
@@ -8,7 +8,7 @@ use Rattle.cs_grammar.specs.declared.ast.FieldMark.{FieldMark}
 use Rattle.cs_grammar.specs.declared.ast.FieldMark.TheVariants.{Regular, Optional, Required, Every}
 use Rattle.cs_grammar.specs.Atom.{Atom, Relation, top, bottom, null, boolean, integer, text, bound, not_integer, not_text, not_null}
 use Rattle.cs_grammar.specs.Words.{Words, start, name, definition_name, top_mark, bottom_mark, numeral, quoted, open_struct, open_wide, close_struct, open_list, close_list, open_paren, open_call, close_paren, comma, nl, colon, question, bang, amp, bar, dots, relation, unequal, minus, star, equal, local, dot, assign, finish, wide_finish}
-use Rattle.cs_grammar.specs.Tree.{Label, written_label, scoped_label, Selector, Test, present, truth, equals, compares, Condition, Tree, atom, named, reference, conjunction, disjunction, paren, struct, list, wide, marked, merged, shut, selected, Declarations, no_declaration, declared, embedded, conditional, Trees, none, more, Fields, no_field, field, End, closed, any, each, DefinitionTree, definition, NameTree, FileTree, file}
+use Rattle.cs_grammar.specs.Tree.{Label, written_label, scoped_label, Selector, Test, present, truth, equals, compares, Condition, Tree, atom, named, reference, conjunction, disjunction, paren, struct, list, wide, marked, merged, shut, selected, called, imported, Declarations, no_declaration, declared, embedded, conditional, Trees, none, more, Fields, no_field, field, End, closed, any, each, DefinitionTree, definition, NameTree, FileTree, file}
 
 -- the names that are no operands
 abbrev pub reserved_names : List (List ℕ)
@@ -42,6 +42,17 @@ literal_of s =
 -- the name that begins a let clause
 abbrev pub is_let : List ℕ → Bool
 is_let s = bytes_eq s (codes "let")
+
+-- the name that begins an import
+abbrev pub is_import : List ℕ → Bool
+is_import s = bytes_eq s (codes "import")
+
+-- the functions of packages that are taken (CUE, packages `strings`, `list` and `struct`)
+abbrev pub function_names : List (List ℕ)
+function_names = codes "MinRunes" ∷ codes "MaxRunes" ∷ codes "MinItems" ∷ codes "MaxItems" ∷ codes "MinFields" ∷ codes "MaxFields" ∷ []
+
+abbrev pub is_function : List ℕ → Bool
+is_function s = list_any (bytes_eq s) function_names
 
 -- the name of a definition as it is written, with its `#` (35)
 abbrev pub with_hash : List ℕ → List ℕ
@@ -163,6 +174,14 @@ pub data SpellsSelectors : List Selector → Words → Words → Type 0 where
   last_selector : {l : Selector} {ts r : Words} → SpellsSelector l ts r → SpellsSelectors (l ∷ []) ts r
   next_selector : {l : Selector} {ls : List Selector} {ts us r : Words} → SpellsSelector l ts us → SpellsSelectors ls us r → SpellsSelectors (l ∷ ls) ts r
 
+-- the name of a package, and that of a function that is taken
+abbrev pub IsCallOf : List ℕ → List ℕ → Type 0
+IsCallOf s f = IsFieldName s × (is_function f ≡ true)
+
+-- Argument = `(` integer [ nl ] `)`, of 64 signed bits and without a `-`
+pub data SpellsArgument : ℤ → Words → Words → Type 0 where
+  argument_is : {n p q : ℕ} {ts r : Words} → FitsSigned w64 (pos n) → ClosesParen ts r → SpellsArgument (pos n) (open_call p ∷ numeral n q ∷ ts) r
+
 -- ---- literals of the wide profile
 
 -- a struct literal
@@ -172,6 +191,8 @@ is_braced (wide (merged o ds b)) = true
 is_braced (wide (marked o e)) = false
 is_braced (wide (shut o e)) = false
 is_braced (wide (selected o s ls)) = false
+is_braced (wide (called o s f z)) = false
+is_braced (wide (imported o s)) = false
 is_braced (atom a) = false
 is_braced (named s o) = false
 is_braced (reference s o) = false
@@ -233,7 +254,7 @@ mutual
     no_amp : {r : Words} → SpellsAmps none r r
     an_amp : {p : ℕ} {e : Tree} {es : Trees} {ts us r : Words} → SpellsOperand e ts us → SpellsAmps es us r → SpellsAmps (more e es) (amp p ∷ ts) r
 
-  -- Operand = `_`, `_|_`, definition-name, name other than `for`, `if`, `let`, Number, text, Bound, `(` Expr [ nl ] `)`, Struct, List, and in the wide profile `close` `(` Expr [ nl ] `)`, a name that begins with `_`, and a name with selectors; the names `null`, `true`, `false` are literals
+  -- Operand = `_`, `_|_`, definition-name, name other than `for`, `if`, `let`, Number, text, Bound, `(` Expr [ nl ] `)`, Struct, List, and in the wide profile `close` `(` Expr [ nl ] `)`, a name that begins with `_`, a name with selectors, and name `.` name Argument, the call of a function that is taken; the names `null`, `true`, `false` are literals
   pub data SpellsOperand : Tree → Words → Words → Type 0 where
     top_is : {p : ℕ} {r : Words} → SpellsOperand (atom top) (top_mark p ∷ r) r
     bottom_is : {p : ℕ} {r : Words} → SpellsOperand (atom bottom) (bottom_mark p ∷ r) r
@@ -249,6 +270,7 @@ mutual
     shut_is : {s : List ℕ} {o p : ℕ} {e : Tree} {ts us r : Words} → is_close s ≡ true → SpellsExpr e ts us → ClosesParen us r → SpellsOperand (wide (shut o e)) (name s o ∷ open_call p ∷ ts) r
     local_is : {s : List ℕ} {p : ℕ} {r : Words} → SpellsOperand (named s p) (local s p ∷ r) r
     selected_is : {s : List ℕ} {o : ℕ} {ls : List Selector} {ts us r : Words} → o ≡ start_at ts → SpellsBase s ts us → SpellsSelectors ls us r → SpellsOperand (wide (selected o s ls)) ts r
+    called_is : {s f : List ℕ} {o p q : ℕ} {z : ℤ} {ts r : Words} → IsCallOf s f → SpellsArgument z ts r → SpellsOperand (wide (called o s (record { text = f; quotes = false; at = q }) z)) (name s o ∷ dot p ∷ name f q ∷ ts) r
     wide_struct_is : {p : ℕ} {ds : Declarations} {b : Bool} {e : Tree} {ts r : Words} → e ≡ literal p ds b → SpellsWideStruct ds b ts r → SpellsOperand e (open_wide p ∷ ts) r
 
   -- what is behind `{`: `}`; `...` [ comma ] `}`; or Field { comma Field } [ comma `...` ] [ comma ] `}`
@@ -326,12 +348,39 @@ pub data SpellsWideFile : List DefinitionTree → List NameTree → Words → Wo
   definition_line : {d : DefinitionTree} {ds : List DefinitionTree} {ns : List NameTree} {ts us vs r : Words} → SpellsDefinition d ts us → Comma us vs → SpellsWideFile ds ns vs r → SpellsWideFile (d ∷ ds) ns ts r
   name_line : {n : NameTree} {ds : List DefinitionTree} {ns : List NameTree} {ts us vs r : Words} → SpellsFileName n ts us → Comma us vs → SpellsWideFile ds ns vs r → SpellsWideFile ds (n ∷ ns) ts r
 
+-- ---- imports of the wide profile (CUE, import declarations)
+
+-- a name that an import declares, and where; the path of its package, and where that is
+abbrev pub import_name : List ℕ → ℕ → List ℕ → ℕ → NameTree
+import_name s o path p = record { name = s; is_bound = true; at = o; value = wide (imported p path) }
+
+-- ImportSpec = [ name ] text, declared at an offset; where no name is written, the text is the name
+pub data SpellsImportSpec : ℕ → NameTree → Words → Words → Type 0 where
+  path_alone : {s : List ℕ} {o p : ℕ} {r : Words} → SpellsImportSpec o (import_name s o s p) (quoted s p ∷ r) r
+  named_path : {s path : List ℕ} {o p q : ℕ} {r : Words} → SpellsImportSpec o (import_name s o path p) (name s q ∷ quoted path p ∷ r) r
+
+-- { ImportSpec comma } `)`, where each is declared at its first word, and the last comma may be left out
+pub data SpellsImportSpecs : List NameTree → Words → Words → Type 0 where
+  no_spec : {p : ℕ} {r : Words} → SpellsImportSpecs [] (close_paren p ∷ r) r
+  last_spec : {n : NameTree} {o p : ℕ} {ts r : Words} → o ≡ start_at ts → SpellsImportSpec o n ts (close_paren p ∷ r) → SpellsImportSpecs (n ∷ []) ts r
+  next_spec : {n : NameTree} {ns : List NameTree} {o : ℕ} {ts us vs r : Words} → o ≡ start_at ts → SpellsImportSpec o n ts us → Comma us vs → SpellsImportSpecs ns vs r → SpellsImportSpecs (n ∷ ns) ts r
+
+-- ImportDecl = `import` ImportSpec, which is declared at `import`, or `import` `(` { ImportSpec comma } `)`
+pub data SpellsImport : List NameTree → Words → Words → Type 0 where
+  one_import : {t : List ℕ} {n : NameTree} {o : ℕ} {ts r : Words} → is_import t ≡ true → SpellsImportSpec o n ts r → SpellsImport (n ∷ []) (name t o ∷ ts) r
+  some_imports : {t : List ℕ} {ns : List NameTree} {o p : ℕ} {ts r : Words} → is_import t ≡ true → SpellsImportSpecs ns ts r → SpellsImport ns (name t o ∷ open_call p ∷ ts) r
+
+-- { ImportDecl comma }
+pub data SpellsImports : List NameTree → Words → Words → Type 0 where
+  no_import : {r : Words} → SpellsImports [] r r
+  next_import : {ks ns ms : List NameTree} {ts us vs r : Words} → ks ≡ ns ++ ms → SpellsImport ns ts us → Comma us vs → SpellsImports ms vs r → SpellsImports ks ts r
+
 -- [ `package` name comma ]
 pub data SpellsPackage : Option (List ℕ) → Words → Words → Type 0 where
   no_clause : {r : Words} → SpellsPackage None r r
   clause : {t s : List ℕ} {p q : ℕ} {ts r : Words} → is_package t ≡ true → Comma ts r → SpellsPackage (Some s) (name t p ∷ name s q ∷ ts) r
 
--- File = [ `package` name comma ] { Definition comma } end, and in the wide profile also with other names
+-- File = [ `package` name comma ] { Definition comma } end, and in the wide profile also with other names, and with imports before all of them
 pub data SpellsFile : FileTree → Words → Type 0 where
   spelled : {c : Option (List ℕ)} {ds : List DefinitionTree} {p : ℕ} {ts us : Words} → SpellsPackage c ts us → SpellsDefinitions ds us (finish p ∷ []) → SpellsFile (file c ds []) ts
-  wide_spelled : {c : Option (List ℕ)} {ds : List DefinitionTree} {ns : List NameTree} {p : ℕ} {ts us : Words} → SpellsPackage c ts us → SpellsWideFile ds ns us (wide_finish p ∷ []) → SpellsFile (file c ds ns) ts
+  wide_spelled : {c : Option (List ℕ)} {ds : List DefinitionTree} {ks ms ns : List NameTree} {p : ℕ} {ts us vs : Words} → ns ≡ ms ++ ks → SpellsPackage c ts us → SpellsImports ms us vs → SpellsWideFile ds ks vs (wide_finish p ∷ []) → SpellsFile (file c ds ns) ts

@@ -1,6 +1,7 @@
 -- The tokens as a profile takes them: in the wide one `*` (CUE, default values), `==` (CUE, comprehensions), `.` (CUE, selectors) and `=` (CUE, let
 -- clauses) are marks of the grammar, and no longer left out, `{` opens a literal that may have embeddings (CUE, structs: embedding), `(` may stand
--- behind `close` (CUE, builtin functions: close), and names that begin with `_` are read (CUE, identifiers), also by what a file declares.
+-- behind `close` (CUE, builtin functions: close), a function of a package (CUE, calls) and `import` (CUE, import declarations), and names that begin with
+-- `_` are read (CUE, identifiers), also by what a file declares.
 use Rattle.std.specs.Prelude.{ℕ, List, [], ◌∷◌, map, if◌then◌else◌, codes}
 use Rattle.std.specs.List.{list_any}
 use Rattle.std.specs.Str.{bytes_eq}

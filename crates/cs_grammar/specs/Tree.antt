@@ -2,7 +2,7 @@
 use Rattle.std.specs.Prelude.{ℕ, ℤ, Bool, false, List, Option, Some, None}
 use Rattle.cs_grammar.specs.declared.ast.FieldMark.{FieldMark}
 use Rattle.cs_grammar.specs.Atom.{Atom, Relation}
-pub use Rattle.cs_grammar.specs.Atom.{top, bottom, null, boolean, integer, text, bound, not_integer, not_text, not_null}
+pub use Rattle.cs_grammar.specs.Atom.{top, bottom, null, boolean, integer, text, bound, not_integer, not_text, not_null, size}
 
 -- a label of a struct literal, whether it is in quotes, and whether a condition asks for its field, which then is no author's; and where it is
 -- declared, if it is a name of the literal's scope and no field of the data (CUE, definitions and hidden fields, let clauses): a name that begins with
@@ -55,12 +55,16 @@ mutual
     wide : Wide → Tree
 
   -- `*e`, where the mark is, and e; a struct literal with embeddings, where it is, its declarations, and whether it is opened; `close(e)`,
-  -- where `close` is, and e; and a name, as it is written, where it is, and the selectors behind it, one or more
+  -- where `close` is, and e; a name, as it is written, where it is, and the selectors behind it, one or more; a call of a function of a package:
+  -- where it is, the name of the package, the function, and its argument; and the value of a name that an import declares: where the path of the
+  -- package is, and the path
   pub data Wide : Type 0 where
     marked : ℕ → Tree → Wide
     merged : ℕ → Declarations → Bool → Wide
     shut : ℕ → Tree → Wide
     selected : ℕ → List ℕ → List Selector → Wide
+    called : ℕ → List ℕ → Selector → ℤ → Wide
+    imported : ℕ → List ℕ → Wide
 
   -- the declarations of a literal with embeddings: fields, expressions that are embedded, with where they are, and literals under conditions,
   -- with where the first `if` is
@@ -88,7 +92,8 @@ mutual
 pub data DefinitionTree : Type 0 where
   definition : List ℕ → ℕ → Tree → DefinitionTree
 
--- a name that a file declares and that is no definition: as it is written, whether `let` binds it, where it is declared, and its value
+-- a name that a file declares and that is no definition: as it is written, whether it is bound for this file alone, by `let` or an import, where it is
+-- declared, and its value
 pub record NameTree : Type 0 where
   pub name : List ℕ
   pub is_bound : Bool

@@ -107,6 +107,7 @@ expr_step (Expr-F.Bound r n) = T.atom (T.bound (relation_of r) n)
 expr_step (Expr-F.NotInt n) = T.atom (T.not_integer n)
 expr_step (Expr-F.NotText s) = T.atom (T.not_text (string_bytes s))
 expr_step Expr-F.NotNull = T.atom T.not_null
+expr_step (Expr-F.Size c b n) = T.atom (T.size c b n)
 expr_step (Expr-F.And v) = T.conjunction (trees_of v.items)
 expr_step (Expr-F.Or v) = T.disjunction (trees_of v.items)
 expr_step (Expr-F.Paren b) = T.paren b.value
@@ -131,6 +132,8 @@ wide_step (Wide-F.Marked o b) = T.marked o b.value
 wide_step (Wide-F.Merged o v opened) = T.merged o (declarations_of v.items) opened
 wide_step (Wide-F.Shut o b) = T.shut o b.value
 wide_step (Wide-F.Selected o s v) = T.selected o (string_bytes s) (map selector_view v.items)
+wide_step (Wide-F.Called o s f n) = T.called o (string_bytes s) (selector_view f) n
+wide_step (Wide-F.Imported o s) = T.imported o (string_bytes s)
 
 abbrev pub declaration_step : Declaration-F SeenDeclaration Tree End Wide Seen → SeenDeclaration
 declaration_step (Declaration-F.Field f) = field_seen f

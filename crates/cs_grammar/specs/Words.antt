@@ -21,7 +21,7 @@ pub data Word : Type 0 where
   open_list : ℕ → Word
   close_list : ℕ → Word
   open_paren : ℕ → Word
-  -- `(` in the wide profile, where it may stand behind `close`
+  -- `(` in the wide profile, where it may stand behind `close`, a function of a package and `import`
   open_call : ℕ → Word
   close_paren : ℕ → Word
   -- `,` and the inserted comma

@@ -1,14 +1,14 @@
 -- Trees that can be written down: a name is a name, a number has 64 signed bits, and an operand of `&` or `|` needs no parenthesis that isn't in the tree (CUE, identifiers, numeric literals, operands and expressions).
-use Rattle.std.specs.Prelude.{◌≡◌, ℕ, List, [], ◌∷◌, false, Option, Some, None, FitsSigned}
+use Rattle.std.specs.Prelude.{◌≡◌, ℕ, ℤ, pos, negsuc, List, [], ◌∷◌, false, Option, Some, None, FitsSigned}
 use Rattle.std.specs.Int.{w64}
 use Rattle.std.specs.List.{AllByRecursion}
 use Rattle.cs_grammar.specs.declared.ast.FieldMark.{FieldMark}
 use Rattle.cs_grammar.specs.declared.ast.FieldMark.TheVariants.{Regular, Optional, Required, Every}
 use Rattle.cs_grammar.specs.declared.token.Sort.TheVariants as sorts
 use Rattle.cs_grammar.specs.Spelling.{sort_of}
-use Rattle.cs_grammar.specs.Atom.{Atom, top, bottom, null, boolean, integer, text, bound, not_integer, not_text, not_null}
+use Rattle.cs_grammar.specs.Atom.{Atom, top, bottom, null, boolean, integer, text, bound, not_integer, not_text, not_null, size}
 use Rattle.cs_grammar.specs.Spells.{is_reserved, literal_of, every_label}
-use Rattle.cs_grammar.specs.Tree.{Label, Test, present, truth, equals, compares, Condition, Tree, atom, named, reference, conjunction, disjunction, paren, struct, list, wide, Wide, marked, merged, shut, selected, Declarations, no_declaration, declared, embedded, conditional, Trees, none, more, Fields, no_field, field, End, closed, any, each, DefinitionTree, definition, FileTree, file}
+use Rattle.cs_grammar.specs.Tree.{Label, Test, present, truth, equals, compares, Condition, Tree, atom, named, reference, conjunction, disjunction, paren, struct, list, wide, Wide, marked, merged, shut, selected, called, imported, Declarations, no_declaration, declared, embedded, conditional, Trees, none, more, Fields, no_field, field, End, closed, any, each, DefinitionTree, definition, FileTree, file}
 
 -- where an expression stands: by itself, as an operand of `|`, or as an operand of `&`
 pub data Place : Type 0 where
@@ -21,6 +21,11 @@ IsName s = sort_of s ≡ Some sorts.Name
 abbrev pub IsDefinitionName : List ℕ → Type 0
 IsDefinitionName s = sort_of (35 ∷ s) ≡ Some sorts.Definition
 
+-- what a length is: 0 to 2^63 - 1
+abbrev pub IsLength : ℤ → Type 0
+IsLength (pos n) = FitsSigned w64 (pos n)
+IsLength (negsuc n) = ⊥
+
 abbrev pub IsWrittenAtom : Atom → Type 0
 IsWrittenAtom (integer z) = FitsSigned w64 z
 IsWrittenAtom (bound r z) = FitsSigned w64 z
@@ -32,6 +37,8 @@ IsWrittenAtom (boolean b) = Unit {0}
 IsWrittenAtom (text s) = Unit {0}
 IsWrittenAtom (not_text s) = Unit {0}
 IsWrittenAtom not_null = Unit {0}
+-- a call of a package spells it
+IsWrittenAtom (size c b z) = IsLength z
 
 -- `[string]` is a label of its own; another is a text or a name, which is a field
 abbrev pub IsTextOrName : Label → Type 0
@@ -85,8 +92,10 @@ abbrev mutual
   IsWrittenWide p (marked o e) = IsWritten p e
   IsWrittenWide p (merged o ds b) = AreWrittenDeclarations ds
   IsWrittenWide p (shut o e) = IsWritten by_itself e
-  -- it isn't printed: selectors are put away before
+  -- these aren't printed: selectors, calls and imports are put away before
   IsWrittenWide p (selected o s ls) = ⊥
+  IsWrittenWide p (called o s f z) = ⊥
+  IsWrittenWide p (imported o s) = ⊥
 
   pub AreWrittenDeclarations : Declarations → Type 0
   AreWrittenDeclarations no_declaration = Unit {0}

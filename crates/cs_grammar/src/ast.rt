@@ -25,14 +25,14 @@ impl Drop for File {
     }
 }
 
-/// A name that a file of the wide profile declares and that is no definition: a hidden definition `_#n`, a field `n` or `_n`, or `n` of `let n = e` (CUE,
-/// let clauses).
+/// A name that a file of the wide profile declares and that is no definition: a hidden definition `_#n`, a field `n` or `_n`, `n` of `let n = e` (CUE,
+/// let clauses), or that of a package (CUE, import declarations).
 pub struct Name {
-    /// As it is written, with `_` or `_#`.
+    /// As it is written, with `_` or `_#`; the path of a package whose import writes no name.
     pub label: String,
-    /// Whether `let` binds it, for its own file alone.
+    /// Whether `let` or an import binds it, for its own file alone.
     pub is_bound: bool,
-    /// The offset of the name, or of its `let`.
+    /// The offset of the name, or of its `let` or `import`; among imports in parentheses that of its own first token.
     pub at: usize,
     pub value: Expr,
 }
@@ -98,6 +98,12 @@ pub enum Expr {
     NotText(String),
     /// `!=null`.
     NotNull,
+    /// At least so many, or at most: what a call of a package stands for, as `strings.MinRunes(n)`. No source spells it by itself.
+    Size {
+        counted: Counted,
+        is_least: bool,
+        limit: i64,
+    },
     /// Two or more operands joined by `&`.
     And(Vec<Expr>),
     /// Two or more operands joined by `|`.
@@ -133,7 +139,12 @@ impl Drop for Expr {
             }
             | Expr::NotInt(_)
             | Expr::NotText(_)
-            | Expr::NotNull => {}
+            | Expr::NotNull
+            | Expr::Size {
+                counted: _,
+                is_least: _,
+                limit: _,
+            } => {}
             Expr::Name { text: _, at: _ } => {}
             Expr::Reference { text: _, at: _ } => {}
             Expr::And(_) => {}
@@ -177,6 +188,18 @@ pub enum Wide {
         name: String,
         labels: Vec<Selector>,
     },
+    /// `n.F(k)`: a function of a package (CUE, calls): the name of the package as it is written, its offset, and the argument, which is at least 0.
+    Called {
+        at: usize,
+        name: String,
+        function: Selector,
+        limit: i64,
+    },
+    /// What the name that an import declares stands for (CUE, import declarations): the path of the package, and its offset.
+    Imported {
+        at: usize,
+        path: String,
+    },
 }
 
 impl Drop for Wide {
@@ -195,6 +218,13 @@ impl Drop for Wide {
                 name: _,
                 labels: _,
             } => {}
+            Wide::Called {
+                at: _,
+                name: _,
+                function: _,
+                limit: _,
+            } => {}
+            Wide::Imported { at: _, path: _ } => {}
         }
     }
 }
@@ -419,7 +449,7 @@ macro_rules! literal {
     };
 }
 
-/// The forms of bounds (CUE, bounds), as a pattern: `<n` and its like, and what `!=` leaves out.
+/// The forms of bounds (CUE, bounds), as a pattern: `<n` and its like, what `!=` leaves out, and those of lengths, which bound a count.
 #[macro_export]
 macro_rules! bound {
     () => {
@@ -427,6 +457,7 @@ macro_rules! bound {
             | $crate::Expr::NotInt(_)
             | $crate::Expr::NotText(_)
             | $crate::Expr::NotNull
+            | $crate::Expr::Size { .. }
     };
 }
 
@@ -462,6 +493,15 @@ impl Expr {
             Expr::NotInt(integer) => Ok(Expr::NotInt(*integer)),
             Expr::NotText(text) => Ok(Expr::NotText(text.clone()?)),
             Expr::NotNull => Ok(Expr::NotNull),
+            Expr::Size {
+                counted,
+                is_least,
+                limit,
+            } => Ok(Expr::Size {
+                counted: *counted,
+                is_least: *is_least,
+                limit: *limit,
+            }),
             Expr::Name { .. }
             | Expr::Reference { .. }
             | Expr::And(_)
@@ -503,6 +543,14 @@ impl Drop for ListEnd {
             ListEnd::Each(_) => {}
         }
     }
+}
+
+/// What a length counts: the characters of a text, the elements of a list, or the keys of a map (CUE, packages `strings`, `list` and `struct`).
+#[derive(Clone, Copy, Debug, PartialEq, Eq)]
+pub enum Counted {
+    Characters,
+    Elements,
+    Keys,
 }
 
 /// The relation of a bound: `<`, `<=`, `>`, `>=`.

@@ -1,5 +1,6 @@
 // The same trees once more, where a walk over files keeps a part of them as it is.
-ghost use Rattle.std.specs.Prelude.{◌≡◌, map, IfOk};
+ghost use Rattle.std.specs.Prelude.{◌≡◌, map, string_bytes, IfOk};
+ghost use Rattle.cs_grammar.specs.Tree.{selected, called, imported};
 ghost use Rattle.cs_grammar.specs.View.{condition_view, declaration_view, end_view, expr_view, field_view, name_view, selector_view, test_view, wide_view};
 
 use crate::ast::{
@@ -94,8 +95,9 @@ fn copied(alloc: Global, expr: &Expr) -> Result<Expr, AllocError>
     }
 }
 
+/// The same form of the wide profile. Only memory can run out.
 #[cycle(copy)]
-fn copied_form(alloc: Global, form: &Wide) -> Result<Wide, AllocError>
+pub fn copied_form(alloc: Global, form: &Wide) -> Result<Wide, AllocError>
     ensures { IfOk result (λ w. wide_view w ≡ wide_view form.now) }
 {
     match form {
@@ -124,13 +126,56 @@ fn copied_form(alloc: Global, form: &Wide) -> Result<Wide, AllocError>
             let value = Box::new(alloc, value)?;
             Ok(Wide::Shut { at, value })
         }
-        Wide::Selected { at, name, labels } => {
-            let at = *at;
-            let name = name.clone()?;
-            let labels = copied_selectors(alloc, labels)?;
-            Ok(Wide::Selected { at, name, labels })
-        }
+        Wide::Selected { at, name, labels } => copied_selection(alloc, *at, name, labels),
+        Wide::Called {
+            at,
+            name,
+            function,
+            limit,
+        } => copied_call(*at, name, function, *limit),
+        Wide::Imported { at, path } => copied_import(*at, path),
     }
+}
+
+/// The same name with selectors.
+fn copied_selection(
+    alloc: Global,
+    at: usize,
+    name: &String,
+    labels: &[Selector],
+) -> Result<Wide, AllocError>
+    ensures { IfOk result (λ w. wide_view w ≡ selected at (string_bytes name.now) (map selector_view labels.now)) }
+{
+    let name = name.clone()?;
+    let labels = copied_selectors(alloc, labels)?;
+    Ok(Wide::Selected { at, name, labels })
+}
+
+/// The same call of a function of a package.
+fn copied_call(
+    at: usize,
+    name: &String,
+    function: &Selector,
+    limit: i64,
+) -> Result<Wide, AllocError>
+    ensures { IfOk result (λ w. wide_view w ≡ called at (string_bytes name.now) (selector_view function.now) limit) }
+{
+    let name = name.clone()?;
+    let function = copied_selector(function)?;
+    Ok(Wide::Called {
+        at,
+        name,
+        function,
+        limit,
+    })
+}
+
+/// The same package, where an import names one.
+fn copied_import(at: usize, path: &String) -> Result<Wide, AllocError>
+    ensures { IfOk result (λ w. wide_view w ≡ imported at (string_bytes path.now)) }
+{
+    let path = path.clone()?;
+    Ok(Wide::Imported { at, path })
 }
 
 #[cycle(copy)]

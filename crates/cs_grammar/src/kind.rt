@@ -18,7 +18,7 @@ pub enum Kind {
     OpenList,
     CloseList,
     OpenParen,
-    /// `(` in the wide profile, where it may stand behind `close`.
+    /// `(` in the wide profile, where it may stand behind `close`, a function of a package and `import`.
     OpenCall,
     CloseParen,
     Comma,

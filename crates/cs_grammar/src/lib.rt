@@ -12,11 +12,11 @@ mod reference;
 mod token;
 
 pub use ast::{
-    Condition, Declaration, Definition, Expr, Field, FieldMark, File, ListEnd, Name, Relation,
-    Scalar, Selector, Site, Test, Wide,
+    Condition, Counted, Declaration, Definition, Expr, Field, FieldMark, File, ListEnd, Name,
+    Relation, Scalar, Selector, Site, Test, Wide,
 };
 pub use attribute::{AttributeStep, Opened};
-pub use copy::{copied_names, copied_selectors};
+pub use copy::{copied_form, copied_names, copied_selectors};
 pub use fault::SyntaxFault;
 pub use kind::Kind;
 pub use line::LineState;

@@ -18,7 +18,7 @@ use Rattle.cs_guard.proofs.Samples.{T, A, B, int, null, literal, regular, option
 mixed_names : map mixed forms ≡ (A ∷ []) ∷ (A ∷ B ∷ []) ∷ (A ∷ B ∷ []) ∷ (A ∷ B ∷ []) ∷ (A ∷ []) ∷ (A ∷ B ∷ []) ∷ (A ∷ B ∷ []) ∷ (A ∷ B ∷ []) ∷ [] ∷ (A ∷ B ∷ []) ∷ (A ∷ B ∷ []) ∷ []
 mixed_names = refl
 
-without_mixed : map mixed atoms ≡ replicate 12 []
+without_mixed : map mixed atoms ≡ replicate 13 []
 without_mixed = refl
 
 -- with `|` as with `&`, but not beneath `?` and not behind the front of a list

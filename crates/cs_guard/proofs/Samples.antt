@@ -143,15 +143,15 @@ inside_names : map inside forms ≡ (A ∷ []) ∷ (A ∷ B ∷ []) ∷ [] ∷ (
 inside_names = refl
 
 abbrev pub atoms : List Expression
-atoms = cue.atom cue.top ∷ cue.atom cue.bottom ∷ cue.atom cue.null ∷ cue.atom (cue.boolean true) ∷ cue.atom (cue.integer (pos 1)) ∷ cue.atom (cue.text A) ∷ int ∷ cue.range (pos 0) None ∷ cue.atom (cue.bound cue.less (pos 1)) ∷ cue.atom (cue.not_integer (pos 1)) ∷ cue.atom (cue.not_text A) ∷ cue.atom cue.not_null ∷ []
+atoms = cue.atom cue.top ∷ cue.atom cue.bottom ∷ cue.atom cue.null ∷ cue.atom (cue.boolean true) ∷ cue.atom (cue.integer (pos 1)) ∷ cue.atom (cue.text A) ∷ int ∷ cue.range (pos 0) None ∷ cue.atom (cue.bound cue.less (pos 1)) ∷ cue.atom (cue.not_integer (pos 1)) ∷ cue.atom (cue.not_text A) ∷ cue.atom cue.not_null ∷ cue.atom (cue.size cue.Keys true (pos 1)) ∷ []
 
-without_names : map direct atoms ≡ [] ∷ [] ∷ [] ∷ [] ∷ [] ∷ [] ∷ [] ∷ [] ∷ [] ∷ [] ∷ [] ∷ [] ∷ []
+without_names : map direct atoms ≡ [] ∷ [] ∷ [] ∷ [] ∷ [] ∷ [] ∷ [] ∷ [] ∷ [] ∷ [] ∷ [] ∷ [] ∷ [] ∷ []
 without_names = refl
 
-without_inside : map inside atoms ≡ [] ∷ [] ∷ [] ∷ [] ∷ [] ∷ [] ∷ [] ∷ [] ∷ [] ∷ [] ∷ [] ∷ [] ∷ []
+without_inside : map inside atoms ≡ [] ∷ [] ∷ [] ∷ [] ∷ [] ∷ [] ∷ [] ∷ [] ∷ [] ∷ [] ∷ [] ∷ [] ∷ [] ∷ []
 without_inside = refl
 
-without_strong : map strong atoms ≡ [] ∷ [] ∷ [] ∷ [] ∷ [] ∷ [] ∷ [] ∷ [] ∷ [] ∷ [] ∷ [] ∷ [] ∷ []
+without_strong : map strong atoms ≡ [] ∷ [] ∷ [] ∷ [] ∷ [] ∷ [] ∷ [] ∷ [] ∷ [] ∷ [] ∷ [] ∷ [] ∷ [] ∷ []
 without_strong = refl
 
 -- ---- #A inside two forms, where a row has the outer one and a column the inner one, in this order:
@@ -410,7 +410,7 @@ not_two h = let l = height_is_one.longest h.steps h.chain in omega (arith, l, h.
 referred_names : map referred forms ≡ (A ∷ []) ∷ (A ∷ B ∷ []) ∷ (A ∷ B ∷ []) ∷ (A ∷ T ∷ B ∷ []) ∷ (A ∷ []) ∷ (A ∷ B ∷ []) ∷ (A ∷ B ∷ []) ∷ (A ∷ B ∷ T ∷ []) ∷ (A ∷ []) ∷ (A ∷ B ∷ []) ∷ (A ∷ B ∷ []) ∷ []
 referred_names = refl
 
-without_references : map referred atoms ≡ [] ∷ [] ∷ [] ∷ [] ∷ [] ∷ [] ∷ [] ∷ [] ∷ [] ∷ [] ∷ [] ∷ [] ∷ []
+without_references : map referred atoms ≡ [] ∷ [] ∷ [] ∷ [] ∷ [] ∷ [] ∷ [] ∷ [] ∷ [] ∷ [] ∷ [] ∷ [] ∷ [] ∷ []
 without_references = refl
 
 undeclared_refers_to_none : referred_of ((T, cue.reference A ∷ []) ∷ []) A ≡ []

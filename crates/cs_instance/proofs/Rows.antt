@@ -69,6 +69,25 @@ refers_to n = cue.reference n
 abbrev pub list_of : List Expression → cue.Rest → Expression
 list_of es rest = cue.list (expressions_of es) rest
 
+-- `strings.MinRunes(n)` and its like
+abbrev pub min_runes : ℤ → Expression
+min_runes n = cue.atom (cue.size cue.Characters true n)
+
+abbrev pub max_runes : ℤ → Expression
+max_runes n = cue.atom (cue.size cue.Characters false n)
+
+abbrev pub min_items : ℤ → Expression
+min_items n = cue.atom (cue.size cue.Elements true n)
+
+abbrev pub max_items : ℤ → Expression
+max_items n = cue.atom (cue.size cue.Elements false n)
+
+abbrev pub min_fields : ℤ → Expression
+min_fields n = cue.atom (cue.size cue.Keys true n)
+
+abbrev pub max_fields : ℤ → Expression
+max_fields n = cue.atom (cue.size cue.Keys false n)
+
 -- declarations in front of others
 abbrev pub regular : List ℕ → Expression → Declarations → Declarations
 regular l e ds = cue.declaration l cue.regular e ds
@@ -118,6 +137,67 @@ other_text = by_steps refl
 least_integer : Judges (only (codes "M") (cue.atom (cue.integer (neg_ℤ (pos 9223372036854775808))))) (codes "M")
     ((json.integer (neg_ℤ (pos 9223372036854775808)), true) ∷ (json.integer (neg_ℤ (pos 9223372036854775807)), false) ∷ [])
 least_integer = by_steps refl
+
+-- ---- lengths, by the rows of tools/lengths.rows
+
+-- U+1F600 is one character of four bytes, and an "e" with a combining accent are two of three
+abbrev pub face : List ℕ
+face = 240 ∷ 159 ∷ 152 ∷ 128 ∷ []
+
+abbrev pub accented : List ℕ
+accented = 101 ∷ 204 ∷ 129 ∷ []
+
+-- {"a":1,"b":1}
+abbrev two_keys : Document
+two_keys = object ((codes "a", number 1) ∷ (codes "b", number 1) ∷ [])
+
+-- #P: strings.MinRunes(2)
+least_length : Judges (only (codes "P") (min_runes (pos 2))) (codes "P")
+    ((word (codes "ab"), true) ∷ (word accented, true) ∷ (word (240 ∷ 159 ∷ 152 ∷ 128 ∷ 97 ∷ []), true) ∷ (word (codes "a"), false) ∷ (word face, false)
+    ∷ (number 5, false) ∷ (array (number 1 ∷ number 2 ∷ []), false) ∷ (two_keys, false) ∷ [])
+least_length = by_steps refl
+
+-- #P: strings.MaxRunes(2)
+greatest_length : Judges (only (codes "P") (max_runes (pos 2))) (codes "P")
+    ((word [], true) ∷ (word (240 ∷ 159 ∷ 152 ∷ 128 ∷ 240 ∷ 159 ∷ 152 ∷ 128 ∷ []), true) ∷ (word (codes "abc"), false) ∷ (json.null, false) ∷ (array [], false) ∷ [])
+greatest_length = by_steps refl
+
+-- #P: string & strings.MinRunes(1) & strings.MaxRunes(3)
+between_lengths : Judges (only (codes "P") (all_of (string ∷ min_runes (pos 1) ∷ max_runes (pos 3) ∷ []))) (codes "P")
+    ((word (codes "abc"), true) ∷ (word (codes "a"), true) ∷ (word [], false) ∷ (word (codes "abcd"), false) ∷ [])
+between_lengths = by_steps refl
+
+-- #P: strings.MaxRunes(1) | int
+length_or_number : Judges (only (codes "P") (any_of (max_runes (pos 1) ∷ int ∷ []))) (codes "P") ((word (codes "a"), true) ∷ (number 7, true) ∷ (word (codes "ab"), false) ∷ (json.boolean true, false) ∷ [])
+length_or_number = by_steps refl
+
+-- #P: strings.MinRunes(9223372036854775807)
+beyond_lengths : Judges (only (codes "P") (min_runes (pos 9223372036854775807))) (codes "P") ((word [], false) ∷ (word (codes "a"), false) ∷ [])
+beyond_lengths = by_steps refl
+
+-- #P: [...int] & list.MinItems(1) & list.MaxItems(2)
+few_items : Judges (only (codes "P") (all_of (list_of [] (cue.each int) ∷ min_items (pos 1) ∷ max_items (pos 2) ∷ []))) (codes "P")
+    ((array (number 1 ∷ []), true) ∷ (array (number 1 ∷ number 2 ∷ []), true) ∷ (array [], false) ∷ (array (number 1 ∷ number 2 ∷ number 3 ∷ []), false) ∷ (array (word (codes "a") ∷ []), false) ∷ [])
+few_items = by_steps refl
+
+-- #P: list.MaxItems(0)
+no_items : Judges (only (codes "P") (max_items (pos 0))) (codes "P") ((array [], true) ∷ (array (number 1 ∷ []), false) ∷ (number 5, false) ∷ [])
+no_items = by_steps refl
+
+-- #P: {a?: int, b?: int} & struct.MinFields(1)
+some_field : Judges (only (codes "P") (all_of (closed (optional (codes "a") int (optional (codes "b") int end)) ∷ min_fields (pos 1) ∷ []))) (codes "P")
+    ((object ((codes "a", number 1) ∷ []), true) ∷ (object [], false) ∷ (object ((codes "c", number 1) ∷ []), false) ∷ (array (number 1 ∷ []), false) ∷ [])
+some_field = by_steps refl
+
+-- #P: struct.MaxFields(1) & {[string]: int}
+one_field : Judges (only (codes "P") (all_of (max_fields (pos 1) ∷ closed (every int end) ∷ []))) (codes "P")
+    ((object ((codes "z", number 1) ∷ []), true) ∷ (object [], true) ∷ (two_keys, false) ∷ (object ((codes "a", word (codes "x")) ∷ []), false) ∷ [])
+one_field = by_steps refl
+
+-- #P: {tags: [...strings.MinRunes(2)] & list.MinItems(1)}
+lengths_inside : Judges (only (codes "P") (closed (regular (codes "tags") (all_of (list_of [] (cue.each (min_runes (pos 2))) ∷ min_items (pos 1) ∷ [])) end))) (codes "P")
+    ((object ((codes "tags", array (word (codes "ab") ∷ [])) ∷ []), true) ∷ (object ((codes "tags", array []) ∷ []), false) ∷ (object ((codes "tags", array (word (codes "a") ∷ [])) ∷ []), false) ∷ [])
+lengths_inside = by_steps refl
 
 -- ---- `&` and `|`
 

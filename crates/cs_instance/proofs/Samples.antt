@@ -1,6 +1,6 @@
 -- Each form of expression with those documents of a list that are its instances. A wrong expectation, or a definition
 -- of the meaning that is turned, stops the check here.
-use Rattle.std.proofs.Common.{◌≡◌, ℕ, ℤ, pos, neg_ℤ, Bool, true, false, List, [], ◌∷◌, map, filter, Some, None, codes, if◌then◌else◌, refl, ap₂, ◌∙◌, rules}
+use Rattle.std.proofs.Common.{◌≡◌, ℕ, ℤ, pos, negsuc, neg_ℤ, Bool, true, false, List, [], ◌∷◌, map, filter, Some, None, codes, if◌then◌else◌, refl, ap₂, ◌∙◌, rules}
 use Rattle.std.specs.List.{list_all, AllByRecursion}
 use Rattle.std.proofs.lemmas.Bool.{and_parts}
 use Rattle.cs_document.specs.Document as json
@@ -10,11 +10,12 @@ use Rattle.cs_document.proofs.SampleDocuments.{number, array, map_of as object}
 use Rattle.cs_package.specs.Expression as cue
 use Rattle.cs_package.specs.Expression.{Expression}
 use Rattle.cs_package.specs.Environment.{Environment}
+use Rattle.cs_instance.specs.Constraint.{outline, is_counted, is_limited}
 use Rattle.cs_instance.specs.Instance.{Rule, node, IsInstance}
 use Rattle.cs_instance.specs.Steps.{test_of}
-use Rattle.cs_instance.specs.Told.{IsTold}
+use Rattle.cs_instance.specs.Told.{IsTold, text_limit, first_length}
 use Rattle.cs_instance.proofs.Meaning.{is_settled, value_after, computed}
-use Rattle.cs_instance.proofs.Rows.{all_of, any_of, int, string, more_than, refers_to, list_of, regular, optional, required, every, end, closed, opened, word}
+use Rattle.cs_instance.proofs.Rows.{all_of, any_of, int, string, more_than, refers_to, list_of, min_runes, max_runes, min_items, max_items, min_fields, max_fields, face, accented, regular, optional, required, every, end, closed, opened, word}
 
 -- of these documents, exactly those beside an expression are its instances
 pub record Admits (E : Environment) (documents : List Document) (rows : List (Expression × List Document)) : Type 0 where
@@ -160,6 +161,44 @@ module _ (E : Environment) where
       ∷ [])
   bounds = by_values refl refl
 
+  -- lengths of texts, lists and maps, at least and at most; by a limit below zero all of the kind, or none
+  lengths : Admits E every_kind
+      ((min_runes (pos 0), no_text ∷ a_text ∷ [])
+      ∷ (min_runes (pos 1), a_text ∷ [])
+      ∷ (min_runes (pos 2), [])
+      ∷ (min_runes (below_zero 1), no_text ∷ a_text ∷ [])
+      ∷ (max_runes (pos 0), no_text ∷ [])
+      ∷ (max_runes (pos 1), no_text ∷ a_text ∷ [])
+      ∷ (max_runes (below_zero 1), [])
+      ∷ (min_items (pos 0), array [] ∷ array (number 1 ∷ []) ∷ [])
+      ∷ (min_items (pos 1), array (number 1 ∷ []) ∷ [])
+      ∷ (min_items (pos 2), [])
+      ∷ (min_items (below_zero 1), array [] ∷ array (number 1 ∷ []) ∷ [])
+      ∷ (max_items (pos 0), array [] ∷ [])
+      ∷ (max_items (pos 1), array [] ∷ array (number 1 ∷ []) ∷ [])
+      ∷ (max_items (below_zero 1), [])
+      ∷ (min_fields (pos 0), object [] ∷ a_one ∷ [])
+      ∷ (min_fields (pos 1), a_one ∷ [])
+      ∷ (min_fields (pos 2), [])
+      ∷ (min_fields (below_zero 1), object [] ∷ a_one ∷ [])
+      ∷ (max_fields (pos 0), object [] ∷ [])
+      ∷ (max_fields (pos 1), object [] ∷ a_one ∷ [])
+      ∷ (max_fields (below_zero 1), [])
+      ∷ [])
+  lengths = by_values refl refl
+
+  -- characters, and not bytes
+  characters : Admits E (no_text ∷ word face ∷ word accented ∷ word (codes "abc") ∷ [])
+      ((min_runes (pos 1), word face ∷ word accented ∷ word (codes "abc") ∷ [])
+      ∷ (min_runes (pos 2), word accented ∷ word (codes "abc") ∷ [])
+      ∷ (min_runes (pos 3), word (codes "abc") ∷ [])
+      ∷ (max_runes (pos 1), no_text ∷ word face ∷ [])
+      ∷ (max_runes (pos 2), no_text ∷ word face ∷ word accented ∷ [])
+      ∷ (all_of (min_runes (pos 1) ∷ max_runes (pos 1) ∷ []), word face ∷ [])
+      ∷ (all_of (min_runes (pos 3) ∷ max_runes (pos 2) ∷ []), [])
+      ∷ [])
+  characters = by_values refl refl
+
   -- operands, structs with each mark, closed and opened, and lists with each rest
   parts : Admits E every_kind
       ((all_of (int ∷ more_than (pos 0) ∷ cue.atom (cue.not_integer (pos 2)) ∷ []), number 1 ∷ [])
@@ -244,6 +283,21 @@ module _ (E : Environment) where
       ∷ [])
   lists = by_values refl refl
 
+-- ---- lengths by outlines, which keep how many there are inside, and not what
+
+limits : map (λ z. is_limited true z 2 ∷ is_limited false z 2 ∷ []) (negsuc 0 ∷ pos 1 ∷ pos 2 ∷ pos 3 ∷ []) ≡ (true ∷ false ∷ []) ∷ (true ∷ false ∷ []) ∷ (true ∷ true ∷ []) ∷ (false ∷ true ∷ []) ∷ []
+limits = refl
+
+abbrev counts : item.Opened ℕ → List Bool
+counts x = map (λ c. is_counted c (λ n. true) (outline x)) (cue.Characters ∷ cue.Elements ∷ cue.Keys ∷ [])
+
+counted : map counts (item.a_null ∷ item.a_boolean true ∷ item.an_integer (pos 2) ∷ item.a_text (codes "s") ∷ item.a_list (7 ∷ []) ∷ item.an_object ((A, 7) ∷ []) ∷ [])
+    ≡ (false ∷ false ∷ false ∷ []) ∷ (false ∷ false ∷ false ∷ []) ∷ (false ∷ false ∷ false ∷ []) ∷ (true ∷ false ∷ false ∷ []) ∷ (false ∷ true ∷ false ∷ []) ∷ (false ∷ false ∷ true ∷ []) ∷ []
+counted = refl
+
+outlines : map (outline {A = ℕ}) (item.a_list (7 ∷ 8 ∷ []) ∷ item.an_object ((A, 7) ∷ []) ∷ item.a_text (codes "s") ∷ []) ≡ item.a_list (tt ∷ tt ∷ []) ∷ item.an_object ((A, tt) ∷ []) ∷ item.a_text (codes "s") ∷ []
+outlines = refl
+
 -- ---- references
 
 -- #A: int and again #A: >2, #B: #A; #C isn't declared
@@ -301,6 +355,26 @@ text_is_marked h = let e : true ≡ false = h (item.a_text (codes "s")) (item.a_
 
 other_text_is_marked : Untold (cue.atom (cue.not_text (codes "s"))) (codes "t" ∷ []) []
 other_text_is_marked h = let e : false ≡ true = h (item.a_text (codes "s")) (item.a_text []) ((refl, tt), tt) in cc
+
+-- at least two characters, and at most one, where one alone is marked: "ab" and "a" reach it both
+abbrev Unreached : Expression → Type 0
+Unreached e = IsTold (test_of e) (record { texts = []; integers = []; lengths = 1 ∷ [] }) → ⊥
+
+least_length_is_marked : Unreached (min_runes (pos 2))
+least_length_is_marked h = let e : true ≡ false = h (item.a_text (codes "ab")) (item.a_text (codes "a")) (tt, (refl, tt)) in cc
+
+greatest_length_is_marked : Unreached (max_runes (pos 1))
+greatest_length_is_marked h = let e : false ≡ true = h (item.a_text (codes "ab")) (item.a_text (codes "a")) (tt, (refl, tt)) in cc
+
+-- a text is long enough from the limit on, and too long behind it
+marked_lengths : map (first_length true) (negsuc 0 ∷ pos 0 ∷ pos 3 ∷ []) ≡ None ∷ Some 0 ∷ Some 3 ∷ []
+marked_lengths = refl
+
+lengths_behind : map (first_length false) (negsuc 0 ∷ pos 0 ∷ pos 3 ∷ []) ≡ None ∷ Some 1 ∷ Some 4 ∷ []
+lengths_behind = refl
+
+limits_of_texts : map text_limit (min_runes (pos 2) ∷ max_runes (pos 3) ∷ min_items (pos 2) ∷ max_fields (pos 2) ∷ more_than (pos 2) ∷ []) ≡ Some (true, pos 2) ∷ Some (false, pos 3) ∷ None ∷ None ∷ None ∷ []
+limits_of_texts = refl
 
 -- where nothing is marked all integers are alike and all texts, and so the kinds and null need no mark
 kinds_need_none : AllByRecursion (λ e. IsTold (test_of e) (record { texts = []; integers = []; lengths = [] })) (cue.kind cue.int ∷ cue.kind cue.string ∷ cue.kind cue.bool ∷ cue.atom cue.null ∷ cue.atom cue.not_null ∷ cue.atom cue.top ∷ [])

@@ -62,6 +62,26 @@ module _ {A D N D' N' : Type 0} (f : D → D') (g : N → N') (here : D' → Boo
 
 -- ---- documents
 
+abbrev gone : {A : Type 0} → A → Unit {0}
+gone y = tt
+
+module _ {A C : Type 0} (f : A → C) where
+  count_left : (ys : List A) → map gone (map f ys) ≡ map gone ys
+  count_left [] = refl
+  count_left (y ∷ ys) = ap (λ zs. gone y ∷ zs) (count_left ys)
+
+  keys_left : (ms : List (Entry A)) → map (map_entry gone) (map (map_entry f) ms) ≡ map (map_entry gone) ms
+  keys_left [] = refl
+  keys_left (m ∷ ms) = ap (λ ns. map_entry gone m ∷ ns) (keys_left ms)
+
+  pub same_outline : (o : Opened A) → outline (map_opened f o) ≡ outline o
+  same_outline a_null = refl
+  same_outline (a_boolean b) = refl
+  same_outline (an_integer z) = refl
+  same_outline (a_text s) = refl
+  same_outline (a_list ys) = ap a_list (count_left ys)
+  same_outline (an_object ms) = ap an_object (keys_left ms)
+
 module _ {A C D N : Type 0} (f : A → C) (here : D → Bool) (inside : C → N → Bool) where
   under_at : (d : Declaration N) (k : List ℕ) (ms : List (Entry A)) → value_holds inside d (under k (map (map_entry f) ms)) ≡ value_holds (λ y q. inside (f y) q) d (under k ms)
   under_at d k [] = refl
@@ -90,16 +110,8 @@ module _ {A C D N : Type 0} (f : A → C) (here : D → Bool) (inside : C → N 
   elements_at (e ∷ es) r [] = refl
   elements_at (e ∷ es) r (y ∷ ys) = ap (λ b. inside (f y) e && b) (elements_at es r ys)
 
-  same_outline : (o : Opened A) → outline (map_opened f o) ≡ outline o
-  same_outline a_null = refl
-  same_outline (a_boolean b) = refl
-  same_outline (an_integer z) = refl
-  same_outline (a_text s) = refl
-  same_outline (a_list ys) = refl
-  same_outline (an_object ms) = refl
-
   pub at_documents : (a : Constraint D N) (o : Opened A) → is_satisfied here inside a (map_opened f o) ≡ is_satisfied here (λ y q. inside (f y) q) a o
-  at_documents (simple p) o = ap p (same_outline o)
+  at_documents (simple p) o = ap p (same_outline f o)
   at_documents (all_of es) o = refl
   at_documents (any_of es) o = refl
   at_documents (object_of ds c) a_null = refl

@@ -1,26 +1,25 @@
 -- What a rule asks of a document, both opened once: over any D in place of each rule that it asks of the same
 -- document, any N in place of each expression that it asks of a document inside, and any A in place of each such document.
-use Rattle.std.specs.Prelude.{ℕ, ℤ, Bool, true, false, not, ◌&&◌, ◌||◌, List, [], ◌∷◌, Option, Some, None, int_lt, int_le, if◌then◌else◌}
+use Rattle.std.specs.Prelude.{ℕ, ℤ, pos, Bool, true, false, not, ◌&&◌, ◌||◌, List, [], ◌∷◌, Option, Some, None, int_lt, int_le, if◌then◌else◌}
 use Rattle.std.specs.Bool.{beq}
 use Rattle.std.specs.List.{list_all, list_any}
+use Rattle.std.specs.Option.{option_map_or}
 use Rattle.std.specs.Ordering.{int_eq}
 use Rattle.std.specs.Str.{bytes_eq}
 use Rattle.cs_document.specs.Document.{Entry, under}
 use Rattle.cs_document.specs.Opened.{Opened, a_null, a_boolean, an_integer, a_text, a_list, an_object}
+use Rattle.cs_document.specs.Inside.{map_opened}
+use Rattle.cs_document.specs.Sizes as sizes
+use Rattle.cs_document.specs.Sizes.{size_of}
 use Rattle.cs_grammar.specs.Atom.{Atom}
-use Rattle.cs_package.specs.Expression.{Kind, int, number, string, bool, Relation, less, at_most, more, at_least, top, bottom, null, boolean, integer, text, bound, not_integer, not_text, not_null, DeclarationMark, regular, optional, required, every, is_every, Declaration}
+use Rattle.cs_package.specs.Expression.{Kind, int, number, string, bool, Relation, less, at_most, more, at_least, top, bottom, null, boolean, integer, text, bound, not_integer, not_text, not_null, size, Counted, Characters, Elements, Keys, DeclarationMark, regular, optional, required, every, is_every, Declaration}
 
--- a document without its parts: its kind, and where it is no list and no map its value
+-- a document without what is inside it: its kind, and its value, or how many elements or which keys it has
 abbrev pub Outline : Type 0
-Outline = Opened ⊥
+Outline = Opened (Unit {0})
 
 abbrev pub outline : {A : Type 0} → Opened A → Outline
-outline a_null = a_null
-outline (a_boolean b) = a_boolean b
-outline (an_integer z) = an_integer z
-outline (a_text s) = a_text s
-outline (a_list ys) = a_list []
-outline (an_object ms) = an_object []
+outline x = map_opened (λ y. tt) x
 
 -- what is behind the fixed elements of a list
 pub data Rest (N : Type 0) : Type 0 where
@@ -37,7 +36,7 @@ pub data Constraint (D N : Type 0) : Type 0 where
   -- a list of these elements, and the rest
   list_of : List N → Rest N → Constraint D N
 
--- ---- what looks at no part (CUE language specification, "Values", "Bounds", "Predeclared identifiers")
+-- ---- what looks at no part (CUE language specification, "Values", "Bounds", "Predeclared identifiers"; packages `strings`, `list` and `struct`)
 
 abbrev pub is_null : Outline → Bool
 is_null a_null = true
@@ -91,6 +90,21 @@ is_related at_most n z = int_le z n
 is_related more n z = int_lt n z
 is_related at_least n z = int_le n z
 
+-- what is counted in documents
+abbrev pub counted_of : Counted → sizes.Counted
+counted_of Characters = sizes.Characters
+counted_of Elements = sizes.Elements
+counted_of Keys = sizes.Keys
+
+-- what is of a kind that has none of these is no instance
+abbrev pub is_counted : Counted → (ℕ → Bool) → Outline → Bool
+is_counted c p x = option_map_or p (size_of (counted_of c) x) false
+
+-- so many are at least the limit where it is the least, and else at most
+abbrev pub is_limited : Bool → ℤ → ℕ → Bool
+is_limited true limit n = int_le limit (pos n)
+is_limited false limit n = int_le (pos n) limit
+
 -- whether a document is an instance of an atom
 abbrev pub admits : Atom → Outline → Bool
 admits top x = true
@@ -103,6 +117,7 @@ admits (bound r n) x = is_integer (is_related r n) x
 admits (not_integer n) x = is_integer (λ z. not (int_eq n z)) x
 admits (not_text s) x = is_text (λ t. not (bytes_eq s t)) x
 admits not_null x = not (is_null x)
+admits (size c b z) x = is_counted c (is_limited b z) x
 
 -- ---- structs and lists (CUE language specification, "Structs", "Closed structs", "Lists")
 

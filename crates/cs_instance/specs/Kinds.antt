@@ -1,5 +1,6 @@
 -- What a value's kind alone decides of a test.
-use Rattle.std.specs.Prelude.{◌≡◌, ℕ, ℤ, Bool, List, [], IfSome}
+use Rattle.std.specs.Prelude.{◌≡◌, ℕ, ℤ, Bool, List, IfSome}
+use Rattle.cs_document.specs.Document.{Entry}
 use Rattle.cs_document.specs.Opened.{a_null, a_boolean, an_integer, a_text, a_list, an_object}
 use Rattle.cs_rules.specs.declared.by_kind.ByKind.{ByKind}
 use Rattle.cs_instance.specs.Constraint.{Outline}
@@ -10,5 +11,5 @@ pub record IsTestedByKind (test : Outline → Bool) (k : ByKind) : Type 0 where
   pub boolean : IfSome k.boolean (λ b. (v : Bool) → test (a_boolean v) ≡ b)
   pub integer : IfSome k.integer (λ b. (z : ℤ) → test (an_integer z) ≡ b)
   pub text : IfSome k.text (λ b. (s : List ℕ) → test (a_text s) ≡ b)
-  pub list : IfSome k.list (λ b. test (a_list []) ≡ b)
-  pub object : IfSome k.object (λ b. test (an_object []) ≡ b)
+  pub list : IfSome k.list (λ b. (ys : List (Unit {0})) → test (a_list ys) ≡ b)
+  pub object : IfSome k.object (λ b. (ms : List (Entry (Unit {0}))) → test (an_object ms) ≡ b)

@@ -1,6 +1,7 @@
 // Verdicts of a rule that a value's kind alone decides.
-ghost use Rattle.std.specs.Prelude.{◌≡◌, ℕ, Bool, true, List, [], Some, map};
+ghost use Rattle.std.specs.Prelude.{◌≡◌, ℕ, ℤ, Bool, true, List, [], Some, map};
 ghost use Rattle.cs_document.specs.Document.{Entry};
+ghost use Rattle.cs_package.specs.Expression.{size};
 ghost use Rattle.cs_package.specs.View.{expression_of, kind_of};
 ghost use Rattle.cs_rules.specs.Kinds.{Foretells};
 ghost use Rattle.cs_instance.specs.Constraint as constraint;
@@ -9,7 +10,7 @@ ghost use Rattle.cs_instance.specs.Steps.{step, test_of, field_of, ending_of};
 
 use crate::fields::Fields;
 use crate::rules::{Ending, Rule};
-use cs_package::{Kind, Shape};
+use cs_package::{Counted, Kind, Shape};
 use cs_rules::ByKind;
 
 /// What a kind that is named admits.
@@ -28,6 +29,28 @@ fn by_name(kind: Kind) -> ByKind
         },
         Kind::Bool => ByKind {
             boolean: Some(true),
+            ..others
+        },
+    }
+}
+
+/// What a limit of characters, elements or keys decides: that it admits no value that has none of these.
+fn by_count(counted: Counted) -> ByKind
+    ensures { (is_least : Bool) (limit : ℤ)
+        → IsTestedByKind (constraint.admits (size counted is_least limit)) result }
+{
+    let others = ByKind::of(Some(false));
+    match counted {
+        Counted::Characters => ByKind {
+            text: None,
+            ..others
+        },
+        Counted::Elements => ByKind {
+            list: None,
+            ..others
+        },
+        Counted::Keys => ByKind {
+            object: None,
             ..others
         },
     }
@@ -61,6 +84,7 @@ fn by_test(shape: &Shape) -> ByKind
             ..others
         },
         Shape::Kind(kind) => by_name(*kind),
+        Shape::Size { counted, .. } => by_count(*counted),
         Shape::Bottom
         | Shape::Definition(_)
         | Shape::And(_)

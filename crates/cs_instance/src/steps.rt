@@ -1,20 +1,23 @@
 // What a rule gives for a value, where the verdicts on the rule's parts are known.
-ghost use Rattle.std.specs.Prelude.{◌≡◌, ◌<◌, ℕ, List, Bool, map, length};
+ghost use Rattle.std.specs.Prelude.{◌≡◌, ◌<◌, ℕ, List, [], Bool, map, length};
 ghost use Rattle.std.specs.List.{list_all, list_any, AllByRecursion};
 ghost use Rattle.cs_document.specs.Document.{Entry, under};
 ghost use Rattle.cs_document.specs.Inside.{AscendsInside, InsideBelow, KeysAscend};
+ghost use Rattle.cs_document.specs.Opened.{a_text};
 ghost use Rattle.cs_flat.specs.View.{item_view, entry_of};
 ghost use Rattle.cs_rules.specs.Knowns.{verdict_here, verdict_inside, value_count, rule_count, place_count};
-ghost use Rattle.cs_package.specs.View.{mark_of};
+ghost use Rattle.cs_rules.specs.Lengths.{TellsLength};
+ghost use Rattle.cs_package.specs.View.{expression_of, mark_of};
 ghost use Rattle.cs_instance.specs.Constraint as constraint;
+ghost use Rattle.cs_instance.specs.Constraint.{outline};
 ghost use Rattle.cs_instance.specs.Numbering.{PartsBelow, RestBelow};
-ghost use Rattle.cs_instance.specs.Steps.{asked_of, field_of, ending_of, ValuesBelow, PlacesBelow};
+ghost use Rattle.cs_instance.specs.Steps.{asked_of, test_of, field_of, ending_of, ValuesBelow, PlacesBelow};
 
-use crate::atoms::holds_simply;
+use crate::atoms::{holds_simply, is_limited};
 use crate::fields::{Fields, is_for_every_key};
 use crate::rules::{Ending, Field, Rule};
 use cs_flat::{Item, number_under};
-use cs_package::FieldMark;
+use cs_package::{Counted, FieldMark, Shape};
 use cs_rules::Known;
 
 /// Whether the label of a declaration with this mark may be no key.
@@ -150,16 +153,38 @@ fn elements_hold(front: &[usize], end: &Ending, children: &[usize], known: &Know
     rest_holds(end, rest, known)
 }
 
+/// Whether a value is an instance of an expression that looks at no part. How many characters a text has may be known, so
+/// that they aren't counted for each rule.
+fn simple_holds(shape: &Shape, value: &Item<'_>, known: &Known<'_>) -> bool
+    requires length { (s : List ℕ) → item_view value.now ≡ a_text s
+        → TellsLength known.now.lengths.now known.now.item s }
+    ensures { result ≡ test_of (expression_of [] shape.now) (outline (item_view value.now)) }
+{
+    match (shape, value) {
+        (
+            Shape::Size {
+                counted: Counted::Characters,
+                is_least,
+                limit,
+            },
+            Item::Text(text),
+        ) => is_limited(*is_least, *limit, known.text_length(text)),
+        _ => holds_simply(shape, value),
+    }
+}
+
 /// Whether a value is an instance of a rule, by the verdicts on the rule's parts.
 pub(crate) fn holds(rule: &Rule<'_>, value: &Item<'_>, known: &Known<'_>) -> bool
     requires parts { PartsBelow (rule_count known.now) (place_count known.now) (asked_of rule.now) }
     requires ascends { AscendsInside (item_view value.now) }
     requires children { InsideBelow (value_count known.now) (item_view value.now) }
+    requires length { (s : List ℕ) → item_view value.now ≡ a_text s
+        → TellsLength known.now.lengths.now known.now.item s }
     ensures { result ≡ constraint.is_satisfied (verdict_here known.now) (verdict_inside known.now)
         (asked_of rule.now) (item_view value.now) }
 {
     match rule {
-        Rule::Simple(shape) => holds_simply(shape, value),
+        Rule::Simple(shape) => simple_holds(shape, value, known),
         Rule::All(parts) => known.all(parts),
         Rule::Any(parts) => known.any(parts),
         Rule::Struct { fields, opened } => match value {

@@ -9,8 +9,9 @@ use Rattle.cs_document.specs.Inside.{map_entry, map_opened}
 use Rattle.cs_rules.proofs.Judged.{coded_found}
 use Rattle.cs_package.specs.Expression.{Declaration, is_every}
 use Rattle.cs_instance_reasons.specs.Causes.{Cause, part, alternative, member, element, unmet, few, many, no_alternative, missing, extra, is_map, is_array, IsUnder, IsCause, of_test, of_part, of_alternative, of_none, of_kind, of_member, of_missing, of_extra, of_list_kind, of_front, of_rest, of_few, of_many}
-use Rattle.cs_instance.specs.Constraint.{Outline, outline, may_be_absent, Rest, nothing, anything, each, Constraint, simple, all_of, any_of, object_of, list_of, allows}
+use Rattle.cs_instance.specs.Constraint.{Outline, may_be_absent, Rest, nothing, anything, each, Constraint, simple, all_of, any_of, object_of, list_of, allows}
 use Rattle.cs_instance.specs.Numbering.{map_declaration, map_constraint}
+use Rattle.cs_instance.proofs.Satisfied.{same_outline}
 use Rattle.cs_instance_reasons.specs.Why.{map_cause}
 use Rattle.cs_instance_reasons.proofs.Leaves.{Refuses, place_of}
 
@@ -33,14 +34,6 @@ from_none f (Some x) e = cc
 -- ---- values and keys
 
 module _ {A B : Type 0} (h : A → B) where
-  same_outline : (x : Opened A) → outline (map_opened h x) ≡ outline x
-  same_outline a_null = refl
-  same_outline (a_boolean b) = refl
-  same_outline (an_integer z) = refl
-  same_outline (a_text s) = refl
-  same_outline (a_list ys) = refl
-  same_outline (an_object ms) = refl
-
   same_map : (x : Opened A) → is_map (map_opened h x) ≡ is_map x
   same_map a_null = refl
   same_map (a_boolean b) = refl

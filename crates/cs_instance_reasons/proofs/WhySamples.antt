@@ -194,6 +194,30 @@ module _ (I : Rule → Document → Bool) (is : IsInstance (only A more) I) wher
   an_int : IsCauseOf (only A more) I (node more) (number 1) (part 0 (node int)) → ⊥
   an_int (of_part e no_instance) = let yes_instance : I (node int) (number 1) ≡ true = computed (only A more) I is 10 (node int) (number 1) refl in cc
 
+-- ---- lengths
+
+-- `#A: [...int] & list.MinItems(2)`, and [1]: the list is too short by itself
+abbrev two_ints : Expression
+two_ints = all_of (list_of [] (cue.each int) ∷ rows.min_items (pos 2) ∷ [])
+
+abbrev one_int : Document
+one_int = array (number 1 ∷ [])
+
+too_short : (I : Rule → Document → Bool) → IsInstance (only A two_ints) I → IsWhy (only A two_ints) I (definition A) one_int (to_part 0 ∷ to_part 1 ∷ []) (node (rows.min_items (pos 2))) one_int unmet
+too_short I is =
+    let here = at_body two_ints I is one_int (refused two_ints I is (definition A) one_int refl refl) (refused two_ints I is (node two_ints) one_int refl refl) in
+    let at = refused two_ints I is (node (rows.min_items (pos 2))) one_int refl refl in
+    record { refused = next {w = to_part 0 ∷ []} {c = part 1 (node (rows.min_items (pos 2)))} here (of_part refl at) refl refl; cause = of_test refl; leaf = refl }
+
+-- `#A: strings.MaxRunes(1)`, and "é" as an "e" with an accent
+too_long : (I : Rule → Document → Bool) → IsInstance (only A (rows.max_runes (pos 1))) I → IsWhy (only A (rows.max_runes (pos 1))) I (definition A) (word rows.accented) (to_part 0 ∷ []) (node (rows.max_runes (pos 1))) (word rows.accented) unmet
+too_long I is =
+    let short = rows.max_runes (pos 1) in
+    let x = word rows.accented in
+    record { refused = at_body short I is x (refused short I is (definition A) x refl refl) (refused short I is (node short) x refl refl); cause = of_test refl; leaf = refl }
+
+-- ---- names and choices
+
 -- `#A: #B`, where `#B` isn't declared: no document is an instance of it
 abbrev undeclared : Expression
 undeclared = refers_to (codes "B")

@@ -8,11 +8,11 @@ use crate::written::{Spelled, Written};
 use cs_flat::{Flat, Item};
 use cs_instance::RootRules;
 use cs_instance_reasons::{InstanceCause, Want, wanted_by};
-use cs_package::{FieldMark, Kind, Literal, Part, Relation, Shape, ShapeEnd, Simple};
+use cs_package::{Counted, FieldMark, Kind, Literal, Part, Relation, Shape, ShapeEnd, Simple};
 use cs_place::{Named, Step, put_quoted};
 use cs_reason_words::{
-    Finding, Form, Found, Kinds, MOST_COMPARISONS, Made, Since, Way, Words, item_at, put_integer,
-    put_told, report_verdict, told_by,
+    Finding, Form, Found, Kinds, LEAST, Lengths, MOST, MOST_COMPARISONS, Made, Since, Way, Words,
+    item_at, put_integer, put_told, report_verdict, told_by,
 };
 use cs_reasons::{Reasons, Telling};
 use std::alloc::Global;
@@ -25,6 +25,7 @@ struct Definitions<'t> {
     flat: &'t Flat<'t>,
     written: &'t Written<'t>,
     telling: Telling,
+    lengths: Lengths<'t>,
     /// How many more labels are compared with keys that aren't allowed.
     comparisons: usize,
     /// How many more declarations of alternatives are compared.
@@ -66,8 +67,8 @@ fn put_label(path: &mut String, part: &Part) -> Made<()> {
     }
 }
 
-/// That a value isn't what an expression admits.
-fn unmet<'t>(alloc: Global, item: Item<'_>, shape: &Shape) -> Made<Finding<'t>> {
+/// What is found, and what an expression admits.
+fn mismatch<'t>(alloc: Global, item: Item<'_>, shape: &Shape) -> Made<Finding<'t>> {
     if matches!(shape, Shape::Bottom) {
         return Finding::never(alloc);
     }
@@ -175,6 +176,24 @@ impl<'t> Definitions<'t> {
         Ok(finding.at(Some(Step::Key(key))))
     }
 
+    /// That a value isn't what an expression admits: of what is limited how many it has.
+    fn unmet(&mut self, item: usize, shape: &Shape) -> Made<Finding<'t>> {
+        let value = item_at(self.flat, item);
+        let Shape::Size {
+            counted,
+            is_least,
+            limit,
+        } = shape
+        else {
+            return mismatch(self.alloc, value, shape);
+        };
+        if !has(value, *counted) {
+            return mismatch(self.alloc, value, shape);
+        }
+        let asked = if *is_least { LEAST } else { MOST };
+        self.lengths.wrong(self.alloc, item, asked, *limit)
+    }
+
     /// That none of the alternatives takes a value, or the one under the key that tells them apart. One that asks for `_|_` takes none.
     fn none_taken(&self, item: usize, rule: usize) -> Made<Finding<'t>> {
         let (alloc, flat) = (self.alloc, self.flat);
@@ -222,7 +241,7 @@ impl<'t> Definitions<'t> {
                 Finding::many(alloc, value, front.len())?.at(Some(Step::Element(front.len())))
             }
             (InstanceCause::NoAlternative, _) => self.none_taken(item, way.rule)?,
-            (InstanceCause::Unmet, Some(shape)) => unmet(alloc, value, shape)?,
+            (InstanceCause::Unmet, Some(shape)) => self.unmet(item, shape)?,
             _ => return Ok(None),
         };
         finding.source = source;
@@ -323,6 +342,18 @@ fn put_literal(text: &mut String, mark: &str, literal: Literal<'_>) -> Made<()> 
     }
 }
 
+/// The function of a package that asks for at least so many, or at most (CUE, packages `strings`, `list` and `struct`).
+fn function_name(counted: Counted, is_least: bool) -> &'static str {
+    match (counted, is_least) {
+        (Counted::Characters, true) => "strings.MinRunes",
+        (Counted::Characters, false) => "strings.MaxRunes",
+        (Counted::Elements, true) => "list.MinItems",
+        (Counted::Elements, false) => "list.MaxItems",
+        (Counted::Keys, true) => "struct.MinFields",
+        (Counted::Keys, false) => "struct.MaxFields",
+    }
+}
+
 /// Puts an expression as CUE spells it; of one with parts of what kind its values are.
 fn put_shape(text: &mut String, shape: &Shape) -> Made<()> {
     let Some(simple) = shape.simple() else {
@@ -340,6 +371,20 @@ fn put_shape(text: &mut String, shape: &Shape) -> Made<()> {
         Simple::Kind(Kind::Bool) => text.push_str("bool"),
         Simple::Range { least, greatest } => put_range(text, least, greatest),
         Simple::Bound { relation, limit } => write!(text, "{}{limit}", relation_mark(relation)),
+        Simple::Size {
+            counted,
+            is_least,
+            limit,
+        } => write!(text, "{}({limit})", function_name(counted, is_least)),
+    }
+}
+
+/// Whether a value is of the kind that has what is counted.
+fn has(item: Item<'_>, counted: Counted) -> bool {
+    match counted {
+        Counted::Characters => matches!(item, Item::Text(_)),
+        Counted::Elements => matches!(item, Item::List(_)),
+        Counted::Keys => matches!(item, Item::Object(_)),
     }
 }
 
@@ -353,10 +398,20 @@ fn put_want(text: &mut String, want: &Want<'_>) -> Made<bool> {
     Ok(matches!(want, Want::Expression(shape) if shape.literal().is_some()))
 }
 
+/// The kind of values that has what is counted.
+fn kind_with(counted: Counted) -> &'static str {
+    match counted {
+        Counted::Characters => "text",
+        Counted::Elements => "list",
+        Counted::Keys => "map",
+    }
+}
+
 /// Which kind of reason it is that a value isn't what an expression admits, and of which kind the value isn't, where nothing else is wrong with it.
 fn mismatch_words(item: Item<'_>, shape: &Shape) -> (&'static str, &'static str) {
     let Some(simple) = shape.simple() else {
-        return ("kind", "");
+        let is_list = matches!(shape, Shape::List { .. });
+        return ("kind", if is_list { "list" } else { "map" });
     };
     match (simple, item) {
         (Simple::Literal(_), _) => ("value", ""),
@@ -367,6 +422,7 @@ fn mismatch_words(item: Item<'_>, shape: &Shape) -> (&'static str, &'static str)
         (Simple::Excluded(Literal::Int(_)) | Simple::Range { .. } | Simple::Bound { .. }, _)
         | (Simple::Kind(Kind::Int | Kind::Number), _) => ("kind", "number"),
         (Simple::Excluded(Literal::Text(_)) | Simple::Kind(Kind::Text), _) => ("kind", "text"),
+        (Simple::Size { counted, .. }, _) => ("kind", kind_with(counted)),
         (Simple::Top | Simple::Bottom | Simple::Kind(Kind::Bool), _) => ("kind", ""),
     }
 }
@@ -400,6 +456,7 @@ pub fn report_instance<'t>(
             flat,
             written,
             telling,
+            lengths: Lengths::new(flat),
             comparisons: MOST_COMPARISONS,
             trials: MOST_COMPARISONS,
         };

@@ -207,9 +207,10 @@ impl<'t> Spelled<'t> {
     }
 
     /// What is at a place in it: an operand, the value of a field, or what is asked of an element. Of what a selector asks for, what isn't in a field of it
-    /// is where the selector is.
+    /// is where the selector is. A call is none.
     pub(crate) fn inside(self, place: usize) -> Option<Spelled<'t>> {
-        let is_selected = self.part.first()?.selector().is_some();
+        let first = self.part.first()?;
+        let is_selected = first.selector().is_some() && !first.begins_call();
         match bare(self.tree) {
             Expr::And(operands) | Expr::Or(operands) if is_selected => {
                 Some(self.inner(operands.get(place)?, self.part))

@@ -10,7 +10,6 @@ use Rattle.cs_grammar.specs.declared.profile.Profile.{Profile}
 use Rattle.cs_json.specs.Refusal as unread
 use Rattle.cs_package.specs.Environment.{Environment}
 use Rattle.cs_profile.specs.declared.keyword.Vocabulary.{Vocabulary}
-use Rattle.cs_profile.specs.declared.keyword.Vocabulary.TheVariants as vocabularies
 use Rattle.cs_table.specs.declared.fault.TableFault.{TableFault}
 use Rattle.cs_table.specs.declared.fault.TableFault.TheVariants as table
 use Rattle.cs_tool.specs.Accepted.{DeclaresRoot}
@@ -21,6 +20,7 @@ use Rattle.cs_tool.specs.Headline.{IsValidated}
 use Rattle.cs_tool.specs.Ready.{IsReady, IsReadyToVet, IsReadyToValidate, IsReadyToAgree, RootHasManyPairs, SchemaHasManyPairs, ExportHasManyPairs}
 use Rattle.cs_tool.specs.Runs.{vet, validate, agree}
 use Rattle.cs_tool.specs.Sides.{IsSchemaOf, AreSidesOf}
+use Rattle.cs_tool.specs.Vocabularies.{vocabulary_of}
 use Rattle.cs_tool.specs.declared.fault.Fault.{Fault}
 use Rattle.cs_tool.specs.declared.fault.Fault.TheVariants.{OutOfMemory, NotJson, NotInteger, TooManyPairs}
 use Rattle.cs_validate.specs.Refusal.{IsRefusal}
@@ -126,7 +126,7 @@ module _ (p : Profile) (sources : List (List ℕ)) (root text : List ℕ) where
   agree_alone : IsReadyToAgree p sources root text → (e : Fault) → RefusesText text (ManyOfBoth p sources root text) e → e ≡ OutOfMemory
   agree_alone ready = memory_alone text _ ready.vetted.input.document ready.vetted.input.read (few_of_agree p sources root text ready)
 
-  by_export : {E : Environment} {n : List ℕ} {S : Document} (is : AreSidesOf p sources root E n S) (i r : ℕ) → SchemaHasManyPairs vocabularies.Default is.schema_text text i r → ExportHasManyPairs p sources root text i r
+  by_export : {E : Environment} {n : List ℕ} {S : Document} (is : AreSidesOf p sources root E n S) (i r : ℕ) → SchemaHasManyPairs (vocabulary_of p) is.schema_text text i r → ExportHasManyPairs p sources root text i r
   by_export is i r many = record { schema_text = is.schema_text; exported = is.exported; translated = is.translated; many = many }
 
   not_agreed : (E : Environment) (n : List ℕ) → DeclaresRoot p sources root E n → (e : Fault) → RefusesText text (ManyOfBoth p sources root text) e → IsOf (agree p sources root text) (Err e)
@@ -154,7 +154,7 @@ module _ (p : Profile) (sources : List (List ℕ)) (root text : List ℕ) where
         let vetted = verdict p sources root text _ _ d a is.declares read.0 read.1 by_root.one_meaning by_root.answer by_root.within in
         let valid = validated is.schema_text text s.now d b is.read read.0 read.1 by_schema.one_meaning by_schema.within by_schema.answer in
         let same = same_truth a b by_root by_schema in
-        record { verdict = vetted; schema_text = is.schema_text; exported = is.exported; translated = is.translated; validated = subst (IsValidated vocabularies.Default is.schema_text text) (sym same) valid }
+        record { verdict = vetted; schema_text = is.schema_text; exported = is.exported; translated = is.translated; validated = subst (IsValidated (vocabulary_of p) is.schema_text text) (sym same) valid }
 
     -- and the report of one side tells it
     pub agreed : (form : Option Form) (old mid new : List ℕ) (a b truth : Bool) → Judges (Root r) d a → Judges (Schema s) d b

@@ -73,8 +73,13 @@ fn words_of(alloc: Global, kinds: ByKind) -> Made<Vec<&'static str>> {
         (kinds.list, "list"),
         (kinds.object, "struct"),
     ];
-    let told = words.iter().filter(|(verdict, _)| *verdict != Some(false));
-    told.map(|(_, word)| *word).collect(alloc)
+    let mut told = Vec::with_capacity(alloc, words.len())?;
+    for (verdict, word) in &words {
+        if *verdict != Some(false) {
+            told.push(*word)?;
+        }
+    }
+    Ok(told)
 }
 
 /// An entry for each definition of the package that these sources spell.

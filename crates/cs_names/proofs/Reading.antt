@@ -5,7 +5,7 @@ use Rattle.std.proofs.lemmas.List.{map-append}
 use Rattle.std.proofs.lemmas.List.Folds.{list_any-append}
 use Rattle.std.proofs.lemmas.Slice.Eq.{bytes_eq-Decides}
 use Rattle.cs_grammar.specs.Bodies.{bodies}
-use Rattle.cs_grammar.specs.Tree.{Tree, atom, named, reference, conjunction, disjunction, paren, struct, list, wide, Wide, marked, merged, shut, selected, Declarations, no_declaration, declared, embedded, conditional, Trees, none, more, Fields, no_field, field, End, closed, any, each, DefinitionTree, definition, defined_name, body, NameTree, FileTree, file}
+use Rattle.cs_grammar.specs.Tree.{Tree, atom, named, reference, conjunction, disjunction, paren, struct, list, wide, Wide, marked, merged, shut, selected, called, imported, Declarations, no_declaration, declared, embedded, conditional, Trees, none, more, Fields, no_field, field, End, closed, any, each, DefinitionTree, definition, defined_name, body, NameTree, FileTree, file}
 use Rattle.cs_names.specs.Lifted.{Lifts, AreApart, known, is_place, is_defined, own_place, top_place, lifts, shared, all_definitions, is_open}
 use Rattle.cs_names.specs.Named.{at_place, defining, offset_of, label_definitions, resolved, inside, inside_wide, inside_each, inside_fields, inside_declarations, inside_end, of_definitions, of_name, of_names, named_from, named_files}
 use Rattle.cs_names.specs.Names.{AreNamed}
@@ -100,6 +100,8 @@ module _ (all : List DefinitionTree) (ts : Lifts) (apart : AreApart all ts) (p :
       read_wide scopes (merged o ds b) = read_declarations (scope_of_declarations i ds) scopes ds
       read_wide scopes (shut o e) = read scopes e
       read_wide scopes (selected o t ls) = refl
+      read_wide scopes (called o t f z) = refl
+      read_wide scopes (imported o t) = refl
 
       read_each : (scopes : List Scope) (es : Trees) → bodies s (inside_each by opens i scopes es) ≡ map of_value (values_each p i scopes es)
       read_each scopes none = refl

@@ -1,12 +1,14 @@
 -- Samples, worked by the definitions: files with names, and what they stand for or what is at fault.
-use Rattle.std.proofs.Common.{◌≡◌, ℕ, Bool, true, false, List, [], ◌∷◌, ◌++◌, codes, None, refl, sym, ap, ◌∙◌, ◌+◌}
+use Rattle.std.proofs.Common.{◌≡◌, ℕ, pos, Bool, true, false, List, [], ◌∷◌, ◌++◌, codes, None, refl, sym, ap, ◌∙◌, ◌+◌}
 use Rattle.std.specs.Fmt.{digits}
-use Rattle.cs_grammar.specs.Atom.{text}
-use Rattle.cs_grammar.specs.Tree.{written_label, scoped_label, Selector, Tree, atom, named, reference, conjunction, disjunction, struct, list, wide, merged, selected, no_declaration, declared, embedded, none, more, Fields, no_field, field, closed, definition, DefinitionTree, NameTree, FileTree, file}
+use Rattle.cs_grammar.specs.Atom.{text, size}
+use Rattle.cs_grammar.specs.Tree.{written_label, scoped_label, Selector, Tree, atom, named, reference, conjunction, disjunction, struct, list, wide, merged, selected, called, imported, no_declaration, declared, embedded, none, more, Fields, no_field, field, closed, definition, DefinitionTree, NameTree, FileTree, file}
+use Rattle.cs_grammar.specs.declared.ast.Counted.TheVariants.{Characters, Keys}
 use Rattle.cs_grammar.specs.declared.ast.FieldMark.TheVariants.{Regular}
 use Rattle.cs_plain.specs.Placed.{in_places}
 use Rattle.cs_plain.specs.References.{references_in}
 use Rattle.cs_names.specs.Flaws.{flaws_from}
+use Rattle.cs_names.specs.Having.{have_names}
 use Rattle.cs_names.specs.Joined.{unused, joined}
 use Rattle.cs_names.specs.Lifted.{Lifted, Lifts, known, is_taken, lift_files, all_definitions, shared, lifts, is_open}
 use Rattle.cs_names.specs.Named.{named_files, named_from, value_names}
@@ -173,6 +175,14 @@ placed fs = in_places (value_names (lifts fs)) (named_files fs)
 kind_in_place : placed (of (P (literal 4 (own a (named (codes "X") 20) no_field)) ∷ []) (bound (codes "X") 60 int ∷ [])) ≡ of (P (literal 4 (own a int no_field)) ∷ []) []
 kind_in_place = refl
 
+-- `let X = strings.MinRunes(2)` and `#P: {a: X}`, without the call: a length has no parts
+abbrev two_characters : Tree
+two_characters = atom (size Characters true (pos 2))
+
+length_in_place : placed (of (P (literal 4 (own a (named (codes "X") 20) no_field)) ∷ []) (bound (codes "X") 60 two_characters ∷ []))
+    ≡ of (P (literal 4 (own a two_characters no_field)) ∷ []) []
+length_in_place = refl
+
 -- `X: [int]` and `#P: {a: X}`: a list has parts
 list_stays : placed (of (P (literal 4 (own a (named (codes "X") 20) no_field)) ∷ []) (top (codes "X") 60 (list (more int none) closed) ∷ []))
     ≡ of (P (literal 4 (own a (reference (codes "X") 20) no_field)) ∷ definition (codes "X") 60 (list (more int none) closed) ∷ []) []
@@ -234,14 +244,25 @@ field_of_a_value = refl
 abbrev from : List ℕ → ℕ → Tree
 from s o = wide (selected o s (record { text = codes "x"; quotes = false; at = o + 9 } ∷ []))
 
-imported : name_faults (of (P (from (codes "strings") 4) ∷ []) []) ≡ (0, LeftOut 4) ∷ []
-imported = refl
+selected_from_import : name_faults (of (P (from (codes "strings") 4) ∷ []) []) ≡ (0, LeftOut 4) ∷ []
+selected_from_import = refl
 
 undeclared_base : name_faults (of (P (from (codes "_h") 4) ∷ []) []) ≡ (0, Unknown 4) ∷ []
 undeclared_base = refl
 
 field_base : name_faults (of (P (literal 4 (own b int (own a (from b 20) no_field))) ∷ []) []) ≡ (0, Field 20) ∷ []
 field_base = refl
+
+-- `#P: {a: strings.MinRunes(2)}` and `import "strings"`, with the call and the import, which no program hands on
+abbrev call : Tree
+call = wide (called 10 (codes "strings") (record { text = codes "MinRunes"; quotes = false; at = 18 }) (pos 2))
+
+call_and_import : name_faults (of (P (literal 4 (own a call no_field)) ∷ []) (bound (codes "strings") 60 (wide (imported 67 (codes "strings"))) ∷ []))
+    ≡ (0, LeftOut 10) ∷ (0, LeftOut 67) ∷ (0, Unknown 60) ∷ []
+call_and_import = refl
+
+call_is_told : have_names (of (P call ∷ []) []) ≡ true
+call_is_told = refl
 
 -- `#P: #B.x`, and `#P: {let N = {x: int}, a: N.x}`, which names N
 selector : Stands (of (P (from (codes "#B") 4) ∷ []) []) (of (P (from (codes "B") 4) ∷ []) [])
@@ -337,6 +358,18 @@ held_twice : name_faults
     (top (codes "H") 0 (literal 3 (own a int no_field)) ∷ top (codes "H") 20 (literal 23 (own b int no_field)) ∷ []))
     ≡ (0, Again 0) ∷ []
 held_twice = refl
+
+-- `H: struct.MinFields(1)` and `#P: H & {c: int} & #A`: a length holds no literal
+held_length : name_faults
+    (of (P (conjunction (more (named (codes "H") 40) (more (literal 44 (own (codes "c") int no_field)) (more (reference (codes "A") 60) none)))) ∷ [])
+    (top (codes "H") 0 (atom (size Keys true (pos 1))) ∷ [])) ≡ []
+held_length = refl
+
+-- the same of a call, which is at fault
+held_call : name_faults
+    (of (P (conjunction (more (named (codes "H") 40) (more (literal 44 (own (codes "c") int no_field)) (more (reference (codes "A") 60) none)))) ∷ [])
+    (top (codes "H") 0 call ∷ [])) ≡ (0, LeftOut 10) ∷ []
+held_call = refl
 
 -- `#P: {H, b: int}`
 embedded_alone : name_faults

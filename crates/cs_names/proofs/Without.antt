@@ -2,7 +2,7 @@
 use Rattle.std.proofs.Common.{◌≡◌, ℕ, suc, Bool, true, false, ◌||◌, ◌&&◌, not, cond, List, [], ◌∷◌, ◌++◌, Option, Some, None, is_some, map, refl, sym, ap, ap₂, ◌∙◌}
 use Rattle.std.specs.List.{list_any, flat_map}
 use Rattle.std.proofs.lemmas.List.{append-nil}
-use Rattle.cs_grammar.specs.Tree.{Label, Tree, atom, named, reference, conjunction, disjunction, paren, struct, list, wide, Wide, marked, merged, shut, selected, Declarations, no_declaration, declared, embedded, conditional, Trees, none, more, Fields, no_field, field, End, closed, any, each, DefinitionTree, definition, body, defined_name, FileTree, file}
+use Rattle.cs_grammar.specs.Tree.{Label, Tree, atom, named, reference, conjunction, disjunction, paren, struct, list, wide, Wide, marked, merged, shut, selected, called, imported, Declarations, no_declaration, declared, embedded, conditional, Trees, none, more, Fields, no_field, field, End, closed, any, each, DefinitionTree, definition, body, defined_name, FileTree, file}
 use Rattle.cs_plain.specs.Placed.{in_places}
 use Rattle.cs_plain.specs.References.{references_in}
 use Rattle.cs_names.specs.Flaws.{unknown_if, let_flaws, flaws, flaws_wide, flaws_each, flaws_fields, flaws_declarations, flaws_end, flaws_from}
@@ -40,6 +40,8 @@ module _ (all : List DefinitionTree) (i : ℕ) where
     wide_unlifted outer (merged o ds b) ts h = declarations_unlifted outer (scope_of_declarations i ds) ds ts h
     wide_unlifted outer (shut o e) ts h = unlifted outer e ts h
     wide_unlifted outer (selected o s ls) ts h = cc
+    wide_unlifted outer (called o s f z) ts h = refl
+    wide_unlifted outer (imported o s) ts h = refl
 
     each_unlifted : (outer : List ℕ) (es : Trees) (ts : Lifts) → some_has es ≡ false → lift_each all i outer es ts ≡ ts
     each_unlifted outer none ts h = refl
@@ -144,6 +146,8 @@ module _ (i : ℕ) where
     wide_stays scopes (merged o ds b) h = ap (λ gs. wide (merged o gs b)) (declarations_stay (scope_of_declarations i ds) scopes ds h)
     wide_stays scopes (shut o e) h = ap (λ x. wide (shut o x)) (stays scopes e h)
     wide_stays scopes (selected o s ls) h = cc
+    wide_stays scopes (called o s f z) h = refl
+    wide_stays scopes (imported o s) h = refl
 
     each_stays : (scopes : List Scope) (es : Trees) → some_has es ≡ false → resolved_each nowhere nobody i scopes es ≡ es
     each_stays scopes none h = refl
@@ -198,6 +202,8 @@ module _ (i : ℕ) where
     nothing_in_wide scopes (merged o ds b) h = nothing_in_declarations (scope_of_declarations i ds) scopes ds h
     nothing_in_wide scopes (shut o e) h = nothing_inside scopes e h
     nothing_in_wide scopes (selected o s ls) h = refl
+    nothing_in_wide scopes (called o s f z) h = refl
+    nothing_in_wide scopes (imported o s) h = refl
 
     nothing_in_each : (scopes : List Scope) (es : Trees) → some_has es ≡ false → inside_each nowhere nobody i scopes es ≡ []
     nothing_in_each scopes none h = refl
@@ -278,6 +284,8 @@ module _ (i : ℕ) where
     wide_faultless scopes (merged o ds b) h = declarations_faultless (scope_of_declarations i ds) scopes ds h
     wide_faultless scopes (shut o e) h = faultless scopes e h
     wide_faultless scopes (selected o s ls) h = cc
+    wide_faultless scopes (called o s f z) h = cc
+    wide_faultless scopes (imported o s) h = cc
 
     each_faultless : (scopes : List Scope) (es : Trees) → some_has es ≡ false → flaws_each [] i false scopes es ≡ []
     each_faultless scopes none h = refl

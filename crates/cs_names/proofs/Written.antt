@@ -2,9 +2,9 @@
 use Rattle.std.proofs.Common.{◌≡◌, ◌⊎◌, inl, inr, ℕ, suc, Bool, true, false, ◌||◌, ◌&&◌, not, cond, List, [], ◌∷◌, ◌++◌, Option, Some, None, is_some, map, refl, sym, subst, ap, ◌∙◌}
 use Rattle.std.specs.List.{AllByRecursion, list_any, flat_map}
 use Rattle.std.specs.Option.{unwrap_or}
-use Rattle.cs_grammar.specs.Namable.{IsHiddenName, IsOperandName, IsLabelIn, IsNamableLabel, IsNamable, IsNamableWide, AreNamable, AreNamableFields, AreNamableDeclarations, IsNamableEnd, IsNamableDefinition, IsNamableName, IsNamableFile, IsScopeName}
-use Rattle.cs_grammar.specs.Tree.{Label, Selector, Tree, atom, named, reference, conjunction, disjunction, paren, struct, list, wide, Wide, marked, merged, shut, selected, Declarations, no_declaration, declared, embedded, conditional, Trees, none, more, Fields, no_field, field, End, closed, any, each, DefinitionTree, definition, body, NameTree, FileTree, file}
-use Rattle.cs_grammar.specs.Written.{Place, by_itself, of_bar, of_amp, IsDefinitionName, IsWrittenLabel, AreTwo, IsWritten, IsWrittenWide, AreWritten, AreWrittenFields, AreWrittenDeclarations, IsWrittenEnd, IsWrittenDefinition, IsWrittenFile}
+use Rattle.cs_grammar.specs.Namable.{IsHiddenName, IsOperandName, IsLabelIn, IsNamableLabel, IsNamable, IsNamableWide, AreNamable, AreNamableFields, AreNamableDeclarations, IsNamableEnd, IsNamableDefinition, IsFileName, IsNamableName, IsNamableFile, IsScopeName}
+use Rattle.cs_grammar.specs.Tree.{Label, Selector, Tree, atom, named, reference, conjunction, disjunction, paren, struct, list, wide, Wide, marked, merged, shut, selected, called, imported, Declarations, no_declaration, declared, embedded, conditional, Trees, none, more, Fields, no_field, field, End, closed, any, each, DefinitionTree, definition, body, NameTree, FileTree, file}
+use Rattle.cs_grammar.specs.Written.{Place, by_itself, of_bar, of_amp, IsDefinitionName, IsWrittenLabel, AreTwo, IsWritten, IsWrittenWide, AreWritten, AreWrittenFields, AreWrittenDeclarations, IsWrittenEnd, IsWrittenDefinition, IsWrittenClause, IsWrittenFile}
 use Rattle.cs_grammar.specs.declared.ast.FieldMark.{FieldMark}
 use Rattle.cs_grammar.specs.declared.ast.FieldMark.TheVariants.{Regular, Optional, Required, Every}
 use Rattle.cs_names.specs.Flaws.{unknown_if, operand_flaws, let_flaws, bound_flaws, name_flaws, flaws, flaws_wide, flaws_each, flaws_fields, flaws_declarations, flaws_end, flaws_from, flaws_in, is_undeclared, unmeant_flaws}
@@ -51,6 +51,8 @@ mutual
   wide_has_none p (merged o ds b) h = declarations_have_none ds h
   wide_has_none p (shut o e) h = has_none by_itself e h
   wide_has_none p (selected o s ls) h = absurd h
+  wide_has_none p (called o s f z) h = absurd h
+  wide_has_none p (imported o s) h = absurd h
 
   each_has_none : (p : Place) (es : Trees) → AreWritten p es → some_has es ≡ false
   each_has_none p none h = refl
@@ -110,6 +112,13 @@ good_within ts outer (Some p) h k = by (known ts p) refl
     by None e = k
     by (Some s) e = good_known ts p s h e
 
+-- another name of a file, which is no import
+abbrev IsOwnName : NameTree → Type 0
+IsOwnName n = IsFileName n.is_bound n.name × IsNamable by_itself n.value
+
+abbrev IsOwnFile : FileTree → Type 0
+IsOwnFile (file c ds ns) = IsWrittenClause c × AllByRecursion IsNamableDefinition ds × AllByRecursion IsOwnName ns
+
 -- a label, which is declared in a scope or isn't
 abbrev IsNamableIn : Option ℕ → Label → FieldMark → Type 0
 IsNamableIn None l m = IsWrittenLabel l m
@@ -164,6 +173,8 @@ module _ (all : List DefinitionTree) where
       good_in_wide p outer (merged o ds b) ts h k n = good_in_declarations outer (scope_of_declarations i ds) ds ts h k n
       good_in_wide p outer (shut o e) ts h k n = good_in by_itself outer e ts h k n
       good_in_wide p outer (selected o s ls) ts h k n = h
+      good_in_wide p outer (called o s f z) ts h k n = h
+      good_in_wide p outer (imported o s) ts h k n = h
 
       good_in_each : (p : Place) (outer : List ℕ) (es : Trees) (ts : Lifts) → AreGood ts → IsDefinitionName outer → AreNamable p es → AreGood (lift_each all i outer es ts)
       good_in_each p outer none ts h k n = h
@@ -197,7 +208,7 @@ module _ (all : List DefinitionTree) where
     good_bodies every (definition s o e ∷ ds) ts h n = good_bodies every ds (lift_in all i s e ts) (good_in by_itself s e ts h n.0.0 n.0.1) n.1
 
   module _ (every : Scope) where
-    good_tops : (bound : Scope) (ns : List NameTree) (ts : Lifts) → AreGood ts → AllByRecursion IsNamableName ns → AreGood (lift_tops all every bound ns ts)
+    good_tops : (bound : Scope) (ns : List NameTree) (ts : Lifts) → AreGood ts → AllByRecursion IsOwnName ns → AreGood (lift_tops all every bound ns ts)
     good_tops bound [] ts h n = h
     good_tops bound (m ∷ ns) ts h n = good_tops bound ns (lift_top all every (top_place every bound m) m ts) (by (top_place every bound m)) n.1
       where
@@ -205,23 +216,23 @@ module _ (all : List DefinitionTree) where
         by None = h
         by (Some p) = good_lifted ts p m.name (top_name m.name) (top_origin every m) h (top_good m.name (file_name m.is_bound m.name n.0.0))
 
-    good_names : (i : ℕ) (fs : List FileTree) (ts : Lifts) → AreGood ts → AllByRecursion IsNamableFile fs → AreGood (lift_names all every i fs ts)
+    good_names : (i : ℕ) (fs : List FileTree) (ts : Lifts) → AreGood ts → AllByRecursion IsOwnFile fs → AreGood (lift_names all every i fs ts)
     good_names i [] ts h n = h
     good_names i (file c ds ns ∷ fs) ts h n = good_names (suc i) fs (lift_tops all every (bound_scope i ns) ns ts) (good_tops (bound_scope i ns) ns ts h n.0.2) n.1
 
-    good_values : (i : ℕ) (bound : Scope) (ns : List NameTree) (ts : Lifts) → AreGood ts → AllByRecursion IsNamableName ns → AreGood (lift_values all every i bound ns ts)
+    good_values : (i : ℕ) (bound : Scope) (ns : List NameTree) (ts : Lifts) → AreGood ts → AllByRecursion IsOwnName ns → AreGood (lift_values all every i bound ns ts)
     good_values i bound [] ts h n = h
     good_values i bound (m ∷ ns) ts h n =
         let outer = within ts (top_name m.name) (top_place every bound m) in
         good_values i bound ns (lift_in all i outer m.value ts) (good_in i by_itself outer m.value ts h (good_within ts (top_name m.name) (top_place every bound m) h (top_good m.name (file_name m.is_bound m.name n.0.0))) n.0.1) n.1
 
-    good_files : (i : ℕ) (fs : List FileTree) (ts : Lifts) → AreGood ts → AllByRecursion IsNamableFile fs → AreGood (lift_files all every i fs ts)
+    good_files : (i : ℕ) (fs : List FileTree) (ts : Lifts) → AreGood ts → AllByRecursion IsOwnFile fs → AreGood (lift_files all every i fs ts)
     good_files i [] ts h n = h
     good_files i (file c ds ns ∷ fs) ts h n =
         let us = lift_bodies all every i ds ts in
         good_files (suc i) fs (lift_values all every i (bound_scope i ns) ns us) (good_values i (bound_scope i ns) ns us (good_bodies i every ds ts h n.0.1) n.0.2) n.1
 
-all_good : (fs : List FileTree) → AllByRecursion IsNamableFile fs → AreGood (lifts fs)
+all_good : (fs : List FileTree) → AllByRecursion IsOwnFile fs → AreGood (lifts fs)
 all_good fs n =
     let all = all_definitions fs in
     good_files all (shared fs) 0 fs (lift_names all (shared fs) 0 fs []) (good_names all (shared fs) 0 fs [] tt n) n
@@ -239,6 +250,33 @@ right_empty (x ∷ xs) ys h = cc
 unmapped : {X Y : Type 0} (f : X → Y) (xs : List X) → map f xs ≡ [] → xs ≡ []
 unmapped f [] h = refl
 unmapped f (x ∷ xs) h = cc
+
+-- an import is at fault, by its value
+module _ (ts : Lifts) (every : Scope) where
+  own_name : (i : ℕ) (bound : Scope) (n : NameTree) → name_flaws ts i every bound n ≡ [] → IsNamableName n → IsOwnName n
+  own_name i bound n h (inl k) = k
+  own_name i bound n h (inr k) =
+      let inner = name_scope n bound ∷ every ∷ [] in
+      let none = right_empty (bound_flaws ts i every bound n) (flaws ts i true inner n.value) h in
+      let never : Flaws.LeftOut k.0 ∷ [] ≡ [] = sym (ap (flaws ts i true inner) k.2) ∙ none in cc
+
+  own_names : (i : ℕ) (bound : Scope) (ns : List NameTree) → flat_map (name_flaws ts i every bound) ns ≡ [] → AllByRecursion IsNamableName ns → AllByRecursion IsOwnName ns
+  own_names i bound [] h k = tt
+  own_names i bound (n ∷ ns) h k =
+      let here = name_flaws ts i every bound n in
+      let rest = flat_map (name_flaws ts i every bound) ns in
+      (own_name i bound n (left_empty here rest h) k.0, own_names i bound ns (right_empty here rest h) k.1)
+
+  own_files : (i : ℕ) (fs : List FileTree) → flaws_from ts every i fs ≡ [] → AllByRecursion IsNamableFile fs → AllByRecursion IsOwnFile fs
+  own_files i [] h k = tt
+  own_files i (file c ds ns ∷ fs) h k =
+      let bound = bound_scope i ns in
+      let first = flat_map (λ d. flaws ts i false (bound ∷ every ∷ []) (body d)) ds in
+      let second = flat_map (name_flaws ts i every bound) ns in
+      let numbered = map {B = ℕ × Flaw} (λ x. (i, x)) (first ++ second) in
+      let rest = flaws_from ts every (suc i) fs in
+      let own = unmapped {Y = ℕ × Flaw} (λ x. (i, x)) (first ++ second) (left_empty numbered rest h) in
+      ((k.0.0, k.0.1, own_names i bound ns (right_empty first second own) k.0.2), own_files (suc i) fs (right_empty numbered rest h) k.1)
 
 unflawed : (b : Bool) (o : ℕ) → unknown_if b o ≡ [] → b ≡ false
 unflawed false o h = refl
@@ -384,6 +422,8 @@ module _ (ts : Lifts) (good : AreGood ts) where
       written_wide p b ss (shut o e) h n = written by_itself b ss e h n
       written_wide p b ss (selected o s ls) h n =
           selected_written p (led by ss s ls) (base (meant by ss s) s) o ls (good_led ss s ls) (base_written (meant by ss s) ss s ls o refl h n.0)
+      written_wide p b ss (called o s f z) h n = cc
+      written_wide p b ss (imported o s) h n = absurd n
 
       written_each : (p : Place) (b : Bool) (ss : List Scope) (es : Trees) → flaws_each ts i b ss es ≡ [] → AreNamable p es → AreWritten p (referring_each head (resolved_each by opens i ss es))
       written_each p b ss none h n = tt
@@ -443,6 +483,8 @@ module _ (ts : Lifts) (good : AreGood ts) where
       inside_wide_written p b ss (merged o ds opened) h n = inside_declarations_written b (scope_of_declarations i ds) ss ds h n
       inside_wide_written p b ss (shut o e) h n = inside_written by_itself b ss e h n
       inside_wide_written p b ss (selected o s ls) h n = tt
+      inside_wide_written p b ss (called o s f z) h n = tt
+      inside_wide_written p b ss (imported o s) h n = tt
 
       inside_each_written : (p : Place) (b : Bool) (ss : List Scope) (es : Trees) → flaws_each ts i b ss es ≡ [] → AreNamable p es → Written (inside_each by opens i ss es)
       inside_each_written p b ss none h n = tt
@@ -489,7 +531,7 @@ module _ (ts : Lifts) (good : AreGood ts) where
               (definitions_written ss ds (right_empty (flaws ts i false ss e) (flat_map (λ d. flaws ts i false ss (body d)) ds) h) n.1),
         )
 
-    names_written : (every bound : Scope) (ns : List NameTree) → flat_map (name_flaws ts i every bound) ns ≡ [] → AllByRecursion IsNamableName ns → Written (of_names by opens i every bound ns)
+    names_written : (every bound : Scope) (ns : List NameTree) → flat_map (name_flaws ts i every bound) ns ≡ [] → AllByRecursion IsOwnName ns → Written (of_names by opens i every bound ns)
     names_written every bound [] h n = tt
     names_written every bound (m ∷ ns) h n =
         let inner = name_scope m bound ∷ every ∷ [] in
@@ -500,7 +542,7 @@ module _ (ts : Lifts) (good : AreGood ts) where
         (written by_itself true inner m.value well n.0.1) (inside_written by_itself true inner m.value well n.0.1))
         (names_written every bound ns (right_empty (name_flaws ts i every bound m) (flat_map (name_flaws ts i every bound) ns) h) n.1)
 
-  files_written : (every : Scope) (i : ℕ) (fs : List FileTree) → flaws_from ts every i fs ≡ [] → AllByRecursion IsNamableFile fs → AllByRecursion IsSelectingFile (named_from by opens every i fs)
+  files_written : (every : Scope) (i : ℕ) (fs : List FileTree) → flaws_from ts every i fs ≡ [] → AllByRecursion IsOwnFile fs → AllByRecursion IsSelectingFile (named_from by opens every i fs)
   files_written every i [] h n = tt
   files_written every i (file c ds ns ∷ fs) h n =
       let bound = bound_scope i ns in
@@ -522,5 +564,7 @@ module _ (ts : Lifts) (good : AreGood ts) where
 pub named_written : ((ss : List (List ℕ)) (fs : List FileTree) → AllByRecursion IsSelectingFile fs → AllByRecursion IsSelectingFile (in_places ss fs))
     → (fs gs : List FileTree) → AreNamed fs gs → AllByRecursion IsNamableFile fs → AllByRecursion IsSelectingFile gs
 named_written placed fs gs h n =
+    let clean = left_empty (flaws_in fs) _ h.faultless in
+    let own = own_files (lifts fs) (shared fs) 0 fs clean n in
     subst (AllByRecursion IsSelectingFile) (sym h.named)
-    (placed (value_names (lifts fs)) (named_files fs) (files_written (lifts fs) (all_good fs n) (shared fs) 0 fs (left_empty (flaws_in fs) _ h.faultless) n))
+    (placed (value_names (lifts fs)) (named_files fs) (files_written (lifts fs) (all_good fs own) (shared fs) 0 fs clean own))

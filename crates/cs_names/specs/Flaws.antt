@@ -3,7 +3,7 @@
 -- (CUE, selectors).
 use Rattle.std.specs.Prelude.{ℕ, suc, Bool, true, false, ◌&&◌, ◌||◌, not, List, [], ◌∷◌, ◌++◌, map, is_some, if◌then◌else◌}
 use Rattle.std.specs.List.{flat_map}
-use Rattle.cs_grammar.specs.Tree.{Label, Selector, Tree, atom, named, reference, conjunction, disjunction, paren, struct, list, wide, Wide, marked, merged, shut, selected, Declarations, no_declaration, declared, embedded, conditional, Trees, none, more, Fields, no_field, field, End, closed, any, each, body, NameTree, FileTree, definitions, names}
+use Rattle.cs_grammar.specs.Tree.{Label, Selector, Tree, atom, named, reference, conjunction, disjunction, paren, struct, list, wide, Wide, marked, merged, shut, selected, called, imported, Declarations, no_declaration, declared, embedded, conditional, Trees, none, more, Fields, no_field, field, End, closed, any, each, body, NameTree, FileTree, definitions, names}
 use Rattle.cs_names.specs.Having.{is_hidden}
 use Rattle.cs_names.specs.Lifted.{Lifts, drop_byte, known, is_lifted, lifts, shared}
 use Rattle.cs_names.specs.Named.{led, meant, offset_of}
@@ -68,6 +68,9 @@ module _ (ts : Lifts) (i : ℕ) where
     flaws_wide inner scopes (merged o ds b) = flaws_declarations inner (scope_of_declarations i ds) scopes ds
     flaws_wide inner scopes (shut o e) = flaws inner scopes e
     flaws_wide inner scopes (selected o s ls) = base_flaws ts scopes s ls o
+    -- files come without calls and imports (`cs_imports`), so that none is told here
+    flaws_wide inner scopes (called o s f z) = LeftOut o ∷ []
+    flaws_wide inner scopes (imported o s) = LeftOut o ∷ []
 
     pub flaws_each : Bool → List Scope → Trees → List Flaw
     flaws_each inner scopes none = []

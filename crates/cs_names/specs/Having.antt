@@ -1,7 +1,8 @@
--- Whether files have names, or selectors, at any depth (CUE, definitions and hidden fields, let clauses, selectors).
+-- Whether files have names, selectors, calls or imports, at any depth (CUE, definitions and hidden fields, let clauses, selectors, calls, import
+-- declarations).
 use Rattle.std.specs.Prelude.{ℕ, Bool, true, false, ◌||◌, ◌==◌, List, [], ◌∷◌, Option, Some, None, is_some, slice_get}
 use Rattle.std.specs.List.{list_any}
-use Rattle.cs_grammar.specs.Tree.{Tree, atom, named, reference, conjunction, disjunction, paren, struct, list, wide, Wide, marked, merged, shut, selected, Declarations, no_declaration, declared, embedded, conditional, Trees, none, more, Fields, no_field, field, End, closed, any, each, body, NameTree, FileTree, definitions, names}
+use Rattle.cs_grammar.specs.Tree.{Tree, atom, named, reference, conjunction, disjunction, paren, struct, list, wide, Wide, marked, merged, shut, selected, called, imported, Declarations, no_declaration, declared, embedded, conditional, Trees, none, more, Fields, no_field, field, End, closed, any, each, body, NameTree, FileTree, definitions, names}
 
 -- `_` (95)
 abbrev pub is_underscore : Option ℕ → Bool
@@ -29,6 +30,8 @@ abbrev mutual
   wide_has (merged o ds b) = declarations_have ds
   wide_has (shut o e) = has_name e
   wide_has (selected o s ls) = true
+  wide_has (called o s f z) = true
+  wide_has (imported o s) = true
 
   pub some_has : Trees → Bool
   some_has none = false

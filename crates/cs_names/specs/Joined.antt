@@ -5,7 +5,7 @@ use Rattle.std.specs.Prelude.{ℕ, Bool, true, false, ◌&&◌, ◌||◌, not, L
 use Rattle.std.specs.List.{list_any, flat_map}
 use Rattle.cs_grammar.specs.declared.ast.FieldMark.{FieldMark}
 use Rattle.cs_grammar.specs.declared.ast.FieldMark.TheVariants.{Regular, Optional, Required, Every}
-use Rattle.cs_grammar.specs.Tree.{Tree, atom, named, reference, conjunction, disjunction, paren, struct, list, wide, Wide, marked, merged, shut, selected, Trees, none, more, Fields, no_field, field, End, closed, any, each, DefinitionTree, defined_name, body, FileTree, definitions}
+use Rattle.cs_grammar.specs.Tree.{Tree, atom, named, reference, conjunction, disjunction, paren, struct, list, wide, Wide, marked, merged, shut, selected, called, imported, Trees, none, more, Fields, no_field, field, End, closed, any, each, DefinitionTree, defined_name, body, FileTree, definitions}
 use Rattle.cs_plain.specs.References.{is_among, references_in}
 use Rattle.cs_names.specs.Lifted.{Lifts, Lifted, is_definition, all_definitions}
 use Rattle.cs_names.specs.declared.flaws.Flaw.{Flaw}
@@ -100,6 +100,8 @@ abbrev mutual
   wide_joins (merged o ds b) = true
   wide_joins (shut o e) = joins e
   wide_joins (selected o s ls) = false
+  wide_joins (called o s f z) = false
+  wide_joins (imported o s) = false
 
   pub some_join : Trees → Bool
   some_join none = false
@@ -154,6 +156,8 @@ abbrev mutual
   wide_holds (merged o ds b) = true
   wide_holds (shut o e) = true
   wide_holds (selected o s ls) = true
+  wide_holds (called o s f z) = false
+  wide_holds (imported o s) = false
 
   pub some_holds : Trees → Bool
   some_holds none = false

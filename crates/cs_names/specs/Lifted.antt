@@ -7,7 +7,7 @@ use Rattle.std.specs.List.{list_any, flat_map}
 use Rattle.std.specs.Option.{unwrap_or}
 use Rattle.std.specs.Str.{bytes_eq}
 use Rattle.cs_grammar.specs.Spelling.{begins_definition}
-use Rattle.cs_grammar.specs.Tree.{Label, Tree, atom, named, reference, conjunction, disjunction, paren, struct, list, wide, Wide, marked, merged, shut, selected, Declarations, no_declaration, declared, embedded, conditional, Trees, none, more, Fields, no_field, field, End, closed, any, each, DefinitionTree, defined_name, body, NameTree, FileTree, definitions, names}
+use Rattle.cs_grammar.specs.Tree.{Label, Tree, atom, named, reference, conjunction, disjunction, paren, struct, list, wide, Wide, marked, merged, shut, selected, called, imported, Declarations, no_declaration, declared, embedded, conditional, Trees, none, more, Fields, no_field, field, End, closed, any, each, DefinitionTree, defined_name, body, NameTree, FileTree, definitions, names}
 use Rattle.cs_names.specs.Nested.{nested_from}
 use Rattle.cs_names.specs.Scopes.{Place, Scope, begins_hash, first_byte, first_place, is_marked, is_repeated, bound_scope, shared_from, scope_of_fields, scope_of_declarations}
 use Rattle.cs_names.specs.declared.lifting.Origin.{Origin}
@@ -144,6 +144,8 @@ module _ (all : List DefinitionTree) (i : ℕ) where
     lift_wide outer (merged o ds b) ts = lift_declarations outer (scope_of_declarations i ds) ds ts
     lift_wide outer (shut o e) ts = lift_in outer e ts
     lift_wide outer (selected o s ls) ts = ts
+    lift_wide outer (called o s f z) ts = ts
+    lift_wide outer (imported o s) ts = ts
 
     pub lift_each : List ℕ → Trees → Lifts → Lifts
     lift_each outer none ts = ts

@@ -3,7 +3,7 @@
 use Rattle.std.specs.Prelude.{ℕ, suc, Bool, true, false, ◌&&◌, ◌||◌, List, [], ◌∷◌, ◌++◌, Option, Some, None, is_some, if◌then◌else◌}
 use Rattle.std.specs.List.{flat_map}
 use Rattle.std.specs.Option.{unwrap_or}
-use Rattle.cs_grammar.specs.Tree.{Label, Selector, Tree, atom, named, reference, conjunction, disjunction, paren, struct, list, wide, Wide, marked, merged, shut, selected, Declarations, no_declaration, declared, embedded, conditional, Trees, none, more, Fields, no_field, field, End, closed, any, each, DefinitionTree, definition, NameTree, FileTree, file, package_name, definitions, names}
+use Rattle.cs_grammar.specs.Tree.{Label, Selector, Tree, atom, named, reference, conjunction, disjunction, paren, struct, list, wide, Wide, marked, merged, shut, selected, called, imported, Declarations, no_declaration, declared, embedded, conditional, Trees, none, more, Fields, no_field, field, End, closed, any, each, DefinitionTree, definition, NameTree, FileTree, file, package_name, definitions, names}
 use Rattle.cs_grammar.specs.declared.ast.FieldMark.{FieldMark}
 use Rattle.cs_plain.specs.References.{is_reference}
 use Rattle.cs_names.specs.Lifted.{Lifted, Lifts, drop_byte, is_definition, known, is_open, lifts, shared, own_place, top_place}
@@ -137,6 +137,8 @@ module _ (by : Place → Option (List ℕ)) (opens : List ℕ → Bool) (i : ℕ
     resolved_wide scopes (merged o ds b) = wide (merged o (resolved_declarations (scope_of_declarations i ds) scopes ds) b)
     resolved_wide scopes (shut o e) = wide (shut o (resolved scopes e))
     resolved_wide scopes (selected o s ls) = select (led by scopes s ls) (base (meant by scopes s) s) o ls
+    resolved_wide scopes (called o s f z) = wide (called o s f z)
+    resolved_wide scopes (imported o s) = wide (imported o s)
 
     pub resolved_each : List Scope → Trees → Trees
     resolved_each scopes none = none
@@ -176,6 +178,8 @@ module _ (by : Place → Option (List ℕ)) (opens : List ℕ → Bool) (i : ℕ
     inside_wide scopes (merged o ds b) = inside_declarations (scope_of_declarations i ds) scopes ds
     inside_wide scopes (shut o e) = inside scopes e
     inside_wide scopes (selected o s ls) = []
+    inside_wide scopes (called o s f z) = []
+    inside_wide scopes (imported o s) = []
 
     pub inside_each : List Scope → Trees → List DefinitionTree
     inside_each scopes none = []

@@ -2,7 +2,7 @@
 -- selectors, definitions and hidden fields). Files share them beside their names: a path has a dot, so that no name is one, and no scope hides it. Where a
 -- body is no struct literal, or embeds something, so that it may declare others and have alternatives, the path `#B.` without a label stands among them.
 use Rattle.std.specs.Prelude.{ℕ, suc, Bool, ◌&&◌, not, List, [], ◌∷◌, ◌++◌, None, if◌then◌else◌}
-use Rattle.cs_grammar.specs.Tree.{Label, Tree, atom, named, reference, conjunction, disjunction, paren, struct, list, wide, Wide, marked, merged, shut, selected, Declarations, no_declaration, declared, embedded, conditional, Fields, no_field, field, DefinitionTree, defined_name, body, FileTree, definitions}
+use Rattle.cs_grammar.specs.Tree.{Label, Tree, atom, named, reference, conjunction, disjunction, paren, struct, list, wide, Wide, marked, merged, shut, selected, called, imported, Declarations, no_declaration, declared, embedded, conditional, Fields, no_field, field, DefinitionTree, defined_name, body, FileTree, definitions}
 use Rattle.cs_names.specs.Scopes.{Scope, begins_hash, place_of}
 
 -- a name, a `.` (46) and a label
@@ -38,6 +38,8 @@ module _ (i : ℕ) (s : List ℕ) where
   nested_in_wide (merged o ds b) = nested_in_declarations ds
   nested_in_wide (shut o e) = untold
   nested_in_wide (selected o t ls) = untold
+  nested_in_wide (called o t f z) = untold
+  nested_in_wide (imported o t) = untold
 
   -- in a body: a literal, and no other expression
   abbrev pub nested_in : Tree → Scope

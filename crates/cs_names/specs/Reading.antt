@@ -2,7 +2,7 @@
 -- in the scopes that it stands in (CUE, declarations and scopes).
 use Rattle.std.specs.Prelude.{ℕ, suc, Bool, false, List, [], ◌∷◌, ◌++◌, Option, Some, None, if◌then◌else◌}
 use Rattle.std.specs.List.{flat_map}
-use Rattle.cs_grammar.specs.Tree.{Tree, atom, named, reference, conjunction, disjunction, paren, struct, list, wide, Wide, marked, merged, shut, selected, Declarations, no_declaration, declared, embedded, conditional, Trees, none, more, Fields, no_field, field, End, closed, any, each, body, NameTree, FileTree, definitions, names}
+use Rattle.cs_grammar.specs.Tree.{Tree, atom, named, reference, conjunction, disjunction, paren, struct, list, wide, Wide, marked, merged, shut, selected, called, imported, Declarations, no_declaration, declared, embedded, conditional, Trees, none, more, Fields, no_field, field, End, closed, any, each, body, NameTree, FileTree, definitions, names}
 use Rattle.cs_names.specs.Lifted.{is_place, own_place, top_place, shared}
 use Rattle.cs_names.specs.Scopes.{Place, Scope, scope_of_fields, scope_of_declarations, value_scope, name_scope, bound_scope}
 
@@ -40,6 +40,8 @@ module _ (p : Place) (i : ℕ) where
     values_wide scopes (merged o ds b) = values_declarations (scope_of_declarations i ds) scopes ds
     values_wide scopes (shut o e) = values scopes e
     values_wide scopes (selected o s ls) = []
+    values_wide scopes (called o s f z) = []
+    values_wide scopes (imported o s) = []
 
     pub values_each : List Scope → Trees → List Value
     values_each scopes none = []

@@ -9,7 +9,7 @@ use std::fmt;
 pub enum NameFault {
     /// Memory ran out.
     OutOfMemory,
-    /// The form at the offset, a selector from a name that nothing declares, is left out.
+    /// The form at the offset, a selector from a name that nothing declares, or a call or an import, is left out.
     LeftOut { file: usize, offset: usize },
     /// The name at the offset isn't declared, or declares no such nested definition as is selected; or what `let` binds there is named by nothing, or
     /// declared beside it.

@@ -21,7 +21,7 @@ use std::alloc::AllocError;
 /// What is at fault, and the offset.
 #[derive(Clone, Copy)]
 pub enum Flaw {
-    /// A form that is left out: a selector from what nothing declares.
+    /// A form that is left out: a selector from what nothing declares, or a call or an import.
     LeftOut { at: usize },
     /// A name that isn't declared, that nothing names, or that is declared beside a `let`; or a selector of a nested definition that isn't declared.
     Unknown { at: usize },
@@ -221,6 +221,10 @@ impl<'a> Naming<'_, 'a> {
                 self.check_declarations(is_inner, &own, scopes, declarations)
             }
             Wide::Selected { at, name, labels } => self.check_base(scopes, name, labels, *at),
+            // Never told: files come without calls and imports.
+            Wide::Called { at, .. } | Wide::Imported { at, .. } => {
+                Err(Stop::Flawed(Flaw::LeftOut { at: *at }))
+            }
         }
     }
 

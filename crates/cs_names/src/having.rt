@@ -11,7 +11,7 @@ ghost use Rattle.cs_names.specs.Checks.{seen_has};
 use crate::texts::is_hidden;
 use cs_grammar::{Declaration, Definition, Expr, Field, File, ListEnd, Wide, atom};
 
-/// Whether files declare a name that is no definition of a file, name a hidden one, or have a selector, at any depth.
+/// Whether files declare a name that is no definition of a file, name a hidden one, or have a selector, a call or an import, at any depth.
 pub fn have_names(files: &[File]) -> bool
     ensures { result ≡ Spec.have_names (map file_view files.now) }
 {
@@ -62,7 +62,7 @@ fn wide_has(form: &Wide) -> bool
     match form {
         Wide::Marked { value, .. } | Wide::Shut { value, .. } => has_name(value),
         Wide::Merged { declarations, .. } => declarations_have(declarations),
-        Wide::Selected { .. } => true,
+        Wide::Selected { .. } | Wide::Called { .. } | Wide::Imported { .. } => true,
     }
 }
 

@@ -38,6 +38,7 @@ fn wide_holds(form: &Wide) -> bool
     match form {
         Wide::Marked { value, .. } => holds_literal(value),
         Wide::Merged { .. } | Wide::Shut { .. } | Wide::Selected { .. } => true,
+        Wide::Called { .. } | Wide::Imported { .. } => false,
     }
 }
 

@@ -92,7 +92,7 @@ impl<'l, 'a> Naming<'l, 'a> {
                 let own = Scope::of_declarations(self.alloc, self.file, declarations)?;
                 self.add_declarations(found, &own, scopes, declarations)
             }
-            Wide::Selected { .. } => Ok(()),
+            Wide::Selected { .. } | Wide::Called { .. } | Wide::Imported { .. } => Ok(()),
         }
     }
 

@@ -144,7 +144,7 @@ fn wide_joins(alloc: Global, form: &Wide) -> Result<bool, AllocError>
     match form {
         Wide::Marked { value, .. } | Wide::Shut { value, .. } => joins(alloc, value),
         Wide::Merged { .. } => Ok(true),
-        Wide::Selected { .. } => Ok(false),
+        Wide::Selected { .. } | Wide::Called { .. } | Wide::Imported { .. } => Ok(false),
     }
 }
 

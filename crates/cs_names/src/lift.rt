@@ -49,7 +49,7 @@ impl<'a> Lifting<'a> {
                 let own = Scope::of_declarations(self.alloc, file, declarations)?;
                 self.lift_declarations(file, outer, &own, declarations)
             }
-            Wide::Selected { .. } => Ok(()),
+            Wide::Selected { .. } | Wide::Called { .. } | Wide::Imported { .. } => Ok(()),
         }
     }
 

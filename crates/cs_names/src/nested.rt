@@ -109,9 +109,11 @@ impl Nesting {
     {
         match form {
             Wide::Merged { declarations, .. } => self.add_declarations(found, outer, declarations),
-            Wide::Marked { .. } | Wide::Shut { .. } | Wide::Selected { .. } => {
-                self.add_untold(found, outer)
-            }
+            Wide::Marked { .. }
+            | Wide::Shut { .. }
+            | Wide::Selected { .. }
+            | Wide::Called { .. }
+            | Wide::Imported { .. } => self.add_untold(found, outer),
         }
     }
 

@@ -12,7 +12,9 @@ ghost use Rattle.cs_names.specs.Scopes as Scopes;
 use crate::lifting::Lifting;
 use crate::scopes::{Around, Scope, denoted, is_field};
 use crate::texts::{behind_hash, path, with_mark};
-use cs_grammar::{Declaration, Expr, Field, ListEnd, Selector, Wide, atom, copied_selectors};
+use cs_grammar::{
+    Declaration, Expr, Field, ListEnd, Selector, Wide, atom, copied_form, copied_selectors,
+};
 use cs_plain::copy_conditions;
 use std::alloc::{AllocError, Global};
 
@@ -236,6 +238,9 @@ impl<'l, 'a> Naming<'l, 'a> {
                 Ok(Expr::Wide(Wide::Shut { at, value }))
             }
             Wide::Selected { at, name, labels } => self.selector(scopes, name, labels, *at),
+            Wide::Called { .. } | Wide::Imported { .. } => {
+                Ok(Expr::Wide(copied_form(self.alloc, form)?))
+            }
         }
     }
 

@@ -118,8 +118,8 @@ marks_are = refl
 every_key : map cue.is_every (cue.regular ∷ cue.optional ∷ cue.required ∷ cue.every ∷ []) ≡ false ∷ false ∷ false ∷ true ∷ []
 every_key = refl
 
-atoms : map (expression_of (A ∷ B ∷ [])) (Shapes.Top ∷ Shapes.Bottom ∷ Shapes.Null ∷ Shapes.Bool true ∷ Shapes.Bool false ∷ Shapes.Int (neg_ℤ (pos 5)) ∷ Shapes.Kind kinds.Number ∷ Shapes.Range (pos 0) None ∷ Shapes.Range (pos 0) (Some (pos 255)) ∷ Shapes.Definition 1 ∷ Shapes.Bound relations.AtMost (pos 3) ∷ Shapes.NotInt (pos 4) ∷ Shapes.NotNull ∷ [])
-    ≡ cue.atom cue.top ∷ cue.atom cue.bottom ∷ cue.atom cue.null ∷ cue.atom (cue.boolean true) ∷ cue.atom (cue.boolean false) ∷ cue.atom (cue.integer (neg_ℤ (pos 5))) ∷ cue.kind cue.number ∷ cue.range (pos 0) None ∷ cue.range (pos 0) (Some (pos 255)) ∷ cue.reference B ∷ cue.atom (cue.bound cue.at_most (pos 3)) ∷ cue.atom (cue.not_integer (pos 4)) ∷ cue.atom cue.not_null ∷ []
+atoms : map (expression_of (A ∷ B ∷ [])) (Shapes.Top ∷ Shapes.Bottom ∷ Shapes.Null ∷ Shapes.Bool true ∷ Shapes.Bool false ∷ Shapes.Int (neg_ℤ (pos 5)) ∷ Shapes.Kind kinds.Number ∷ Shapes.Range (pos 0) None ∷ Shapes.Range (pos 0) (Some (pos 255)) ∷ Shapes.Definition 1 ∷ Shapes.Bound relations.AtMost (pos 3) ∷ Shapes.NotInt (pos 4) ∷ Shapes.NotNull ∷ Shapes.Size cue.Characters true (pos 2) ∷ Shapes.Size cue.Keys false (neg_ℤ (pos 1)) ∷ [])
+    ≡ cue.atom cue.top ∷ cue.atom cue.bottom ∷ cue.atom cue.null ∷ cue.atom (cue.boolean true) ∷ cue.atom (cue.boolean false) ∷ cue.atom (cue.integer (neg_ℤ (pos 5))) ∷ cue.kind cue.number ∷ cue.range (pos 0) None ∷ cue.range (pos 0) (Some (pos 255)) ∷ cue.reference B ∷ cue.atom (cue.bound cue.at_most (pos 3)) ∷ cue.atom (cue.not_integer (pos 4)) ∷ cue.atom cue.not_null ∷ cue.atom (cue.size cue.Characters true (pos 2)) ∷ cue.atom (cue.size cue.Keys false (neg_ℤ (pos 1))) ∷ []
 atoms = search (rules, Shapes.the_lemmas)
 
 module _ (ns : List (List ℕ)) where
@@ -138,25 +138,25 @@ module _ (ns : List (List ℕ)) where
 -- ---- literals, and what values are compared with
 
 abbrev forms : List Expression
-forms = cue.atom cue.top ∷ cue.atom cue.null ∷ cue.atom (cue.boolean true) ∷ one ∷ cue.atom (cue.text A) ∷ cue.kind cue.int ∷ cue.range (pos 0) None ∷ cue.reference A ∷ cue.atom (cue.bound cue.less (pos 1)) ∷ cue.atom (cue.not_integer (pos 1)) ∷ cue.atom (cue.not_text A) ∷ cue.atom cue.not_null ∷ struct [] ∷ either [] ∷ []
+forms = cue.atom cue.top ∷ cue.atom cue.null ∷ cue.atom (cue.boolean true) ∷ one ∷ cue.atom (cue.text A) ∷ cue.kind cue.int ∷ cue.range (pos 0) None ∷ cue.reference A ∷ cue.atom (cue.bound cue.less (pos 1)) ∷ cue.atom (cue.not_integer (pos 1)) ∷ cue.atom (cue.not_text A) ∷ cue.atom cue.not_null ∷ cue.atom (cue.size cue.Elements true (pos 1)) ∷ struct [] ∷ either [] ∷ []
 
-simple_forms : map is_simple forms ≡ true ∷ true ∷ true ∷ true ∷ true ∷ true ∷ true ∷ false ∷ true ∷ true ∷ true ∷ true ∷ false ∷ false ∷ []
+simple_forms : map is_simple forms ≡ true ∷ true ∷ true ∷ true ∷ true ∷ true ∷ true ∷ false ∷ true ∷ true ∷ true ∷ true ∷ true ∷ false ∷ false ∷ []
 simple_forms = refl
 
-literal_forms : map literal forms ≡ None ∷ Some cue.null ∷ Some (cue.boolean true) ∷ Some (cue.integer (pos 1)) ∷ Some (cue.text A) ∷ None ∷ None ∷ None ∷ None ∷ None ∷ None ∷ None ∷ None ∷ None ∷ []
+literal_forms : map literal forms ≡ None ∷ Some cue.null ∷ Some (cue.boolean true) ∷ Some (cue.integer (pos 1)) ∷ Some (cue.text A) ∷ None ∷ None ∷ None ∷ None ∷ None ∷ None ∷ None ∷ None ∷ None ∷ None ∷ []
 literal_forms = refl
 
-excluding_forms : map excluded forms ≡ None ∷ None ∷ None ∷ None ∷ None ∷ None ∷ None ∷ None ∷ None ∷ Some (cue.integer (pos 1)) ∷ Some (cue.text A) ∷ Some cue.null ∷ None ∷ None ∷ []
+excluding_forms : map excluded forms ≡ None ∷ None ∷ None ∷ None ∷ None ∷ None ∷ None ∷ None ∷ None ∷ Some (cue.integer (pos 1)) ∷ Some (cue.text A) ∷ Some cue.null ∷ None ∷ None ∷ None ∷ []
 excluding_forms = refl
 
 comparing_forms : map compared_with forms
-    ≡ with_nothing ∷ with_nothing ∷ with_nothing ∷ with_integer (pos 1) ∷ with_text A ∷ with_nothing ∷ with_range (pos 0) None ∷ with_nothing ∷ with_integer (pos 1) ∷ with_integer (pos 1) ∷ with_text A ∷ with_nothing ∷ with_nothing ∷ with_nothing ∷ []
+    ≡ with_nothing ∷ with_nothing ∷ with_nothing ∷ with_integer (pos 1) ∷ with_text A ∷ with_nothing ∷ with_range (pos 0) None ∷ with_nothing ∷ with_integer (pos 1) ∷ with_integer (pos 1) ∷ with_text A ∷ with_nothing ∷ with_nothing ∷ with_nothing ∷ with_nothing ∷ []
 comparing_forms = refl
 
 -- ---- heights
 
-heights_are : map height (cue.atom cue.top ∷ cue.atom cue.bottom ∷ cue.atom cue.null ∷ cue.atom (cue.boolean true) ∷ one ∷ cue.atom (cue.text A) ∷ cue.kind cue.int ∷ cue.range (pos 0) None ∷ cue.reference A ∷ cue.atom (cue.bound cue.less (pos 1)) ∷ cue.atom (cue.not_integer (pos 1)) ∷ cue.atom (cue.not_text A) ∷ cue.atom cue.not_null ∷ struct [] ∷ front [] ∷ cue.list cue.no_expressions cue.any ∷ [])
-    ≡ 1 ∷ 1 ∷ 1 ∷ 1 ∷ 1 ∷ 1 ∷ 1 ∷ 1 ∷ 1 ∷ 1 ∷ 1 ∷ 1 ∷ 1 ∷ 1 ∷ 1 ∷ 1 ∷ []
+heights_are : map height (cue.atom cue.top ∷ cue.atom cue.bottom ∷ cue.atom cue.null ∷ cue.atom (cue.boolean true) ∷ one ∷ cue.atom (cue.text A) ∷ cue.kind cue.int ∷ cue.range (pos 0) None ∷ cue.reference A ∷ cue.atom (cue.bound cue.less (pos 1)) ∷ cue.atom (cue.not_integer (pos 1)) ∷ cue.atom (cue.not_text A) ∷ cue.atom cue.not_null ∷ cue.atom (cue.size cue.Elements true (pos 1)) ∷ struct [] ∷ front [] ∷ cue.list cue.no_expressions cue.any ∷ [])
+    ≡ 1 ∷ 1 ∷ 1 ∷ 1 ∷ 1 ∷ 1 ∷ 1 ∷ 1 ∷ 1 ∷ 1 ∷ 1 ∷ 1 ∷ 1 ∷ 1 ∷ 1 ∷ 1 ∷ 1 ∷ []
 heights_are = refl
 
 -- each form with parts, of which the highest counts
@@ -197,7 +197,7 @@ abbrev lone : Expression
 lone = both (one ∷ [])
 
 joined_forms : AllByRecursion IsJoined
-    (cue.atom cue.top ∷ cue.atom cue.bottom ∷ cue.atom cue.null ∷ cue.atom (cue.boolean true) ∷ one ∷ cue.atom (cue.text A) ∷ cue.kind cue.int ∷ cue.range (pos 0) None ∷ cue.reference A ∷ cue.atom (cue.bound cue.less (pos 1)) ∷ cue.atom (cue.not_integer (pos 1)) ∷ cue.atom (cue.not_text A) ∷ cue.atom cue.not_null ∷ struct [] ∷ front [] ∷ cue.list cue.no_expressions cue.any
+    (cue.atom cue.top ∷ cue.atom cue.bottom ∷ cue.atom cue.null ∷ cue.atom (cue.boolean true) ∷ one ∷ cue.atom (cue.text A) ∷ cue.kind cue.int ∷ cue.range (pos 0) None ∷ cue.reference A ∷ cue.atom (cue.bound cue.less (pos 1)) ∷ cue.atom (cue.not_integer (pos 1)) ∷ cue.atom (cue.not_text A) ∷ cue.atom cue.not_null ∷ cue.atom (cue.size cue.Elements true (pos 1)) ∷ struct [] ∷ front [] ∷ cue.list cue.no_expressions cue.any
     ∷ both (one ∷ one ∷ []) ∷ either (one ∷ higher ∷ one ∷ []) ∷ struct (field A cue.regular one ∷ field B cue.optional higher ∷ []) ∷ front (one ∷ higher ∷ []) ∷ rest higher ∷ [])
 joined_forms = search rules
 
@@ -209,8 +209,8 @@ lone_forms = (λ h. h.0, (λ h. h.0, (λ h. h.0, (λ h. h.0, (λ h. h.1.1.0.0, (
 -- ---- references to numbers below a count
 
 -- those without shapes inside, where there is no definition
-plain_shapes : (s : String Global) → map (is_known 0) (Shapes.Top ∷ Shapes.Bottom ∷ Shapes.Null ∷ Shapes.Bool true ∷ Shapes.Int (pos 5) ∷ Shapes.Text s ∷ Shapes.Kind kinds.Int ∷ Shapes.Range (pos 0) None ∷ Shapes.Bound relations.Less (pos 3) ∷ Shapes.NotInt (pos 4) ∷ Shapes.NotText s ∷ Shapes.NotNull ∷ [])
-    ≡ true ∷ true ∷ true ∷ true ∷ true ∷ true ∷ true ∷ true ∷ true ∷ true ∷ true ∷ true ∷ []
+plain_shapes : (s : String Global) → map (is_known 0) (Shapes.Top ∷ Shapes.Bottom ∷ Shapes.Null ∷ Shapes.Bool true ∷ Shapes.Int (pos 5) ∷ Shapes.Text s ∷ Shapes.Kind kinds.Int ∷ Shapes.Range (pos 0) None ∷ Shapes.Bound relations.Less (pos 3) ∷ Shapes.NotInt (pos 4) ∷ Shapes.NotText s ∷ Shapes.NotNull ∷ Shapes.Size cue.Characters true (pos 2) ∷ [])
+    ≡ true ∷ true ∷ true ∷ true ∷ true ∷ true ∷ true ∷ true ∷ true ∷ true ∷ true ∷ true ∷ true ∷ []
 plain_shapes s = search (rules, Shapes.the_lemmas)
 
 -- `_` and the definition at number 2, a declaration of that definition, and no shape

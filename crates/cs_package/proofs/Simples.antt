@@ -67,6 +67,7 @@ simple_is (simple.Excluded l) e h = excluded_simple e (atom_of l) h
 simple_is (simple.Kind k) e h = ap is_simple h
 simple_is (simple.Range least greatest) e h = ap is_simple h
 simple_is (simple.Bound r n) e h = ap is_simple h
+simple_is (simple.Size c b n) e h = ap is_simple h
 
 -- whether it is one without parts, by what it is made of
 abbrev pub is_simple_in : Inside → Bool
@@ -90,6 +91,7 @@ same_simple (simple.Excluded l) e f h k = excluded_other e (atom_of l) h ∙ sym
 same_simple (simple.Kind k) e f h i = h ∙ sym i
 same_simple (simple.Range least greatest) e f h k = h ∙ sym k
 same_simple (simple.Bound r n) e f h k = h ∙ sym k
+same_simple (simple.Size c b n) e f h k = h ∙ sym k
 
 abbrev pub literal_in : Simple → Option Atom
 literal_in (simple.Literal l) = Some (atom_of l)
@@ -114,6 +116,7 @@ simple_literal (simple.Excluded l) e h = excluded_literal e (atom_of l) h
 simple_literal (simple.Kind k) e h = sym (ap literal h)
 simple_literal (simple.Range least greatest) e h = sym (ap literal h)
 simple_literal (simple.Bound r n) e h = sym (ap literal h)
+simple_literal (simple.Size c b n) e h = sym (ap literal h)
 
 pub simple_excluded : (s : Simple) (e : Expression) → IsSimple s e → excluded_in s ≡ excluded e
 simple_excluded simple.Top e h = sym (ap excluded h)
@@ -123,6 +126,7 @@ simple_excluded (simple.Excluded l) e h = sym h
 simple_excluded (simple.Kind k) e h = sym (ap excluded h)
 simple_excluded (simple.Range least greatest) e h = sym (ap excluded h)
 simple_excluded (simple.Bound r n) e h = sym (ap excluded h)
+simple_excluded (simple.Size c b n) e h = sym (ap excluded h)
 
 pub simple_compared : (s : Simple) (e : Expression) → IsSimple s e → compared_in s ≡ compared_with e
 simple_compared simple.Top e h = sym (ap compared_with h)
@@ -132,6 +136,7 @@ simple_compared (simple.Excluded l) e h = excluded_compared e (atom_of l) h
 simple_compared (simple.Kind k) e h = sym (ap compared_with h)
 simple_compared (simple.Range least greatest) e h = sym (ap compared_with h)
 simple_compared (simple.Bound r n) e h = sym (ap compared_with h)
+simple_compared (simple.Size c b n) e h = sym (ap compared_with h)
 
 -- ---- one with parts, or a reference
 

@@ -3,7 +3,9 @@ use Rattle.std.specs.Prelude.{◌≡◌, ℕ, ℤ, Option, List, refl}
 use Rattle.std.proofs.Common.{ap, ap₂, arith}
 use Rattle.std.specs.Coded.{Coded, coded×, coded_ℕ, coded_ℤ, coded_bool, coded_list, coded_option}
 use base.Stored.{Gv, gnil, gnum, gcons}
-use Rattle.cs_grammar.specs.Atom.{Atom, Relation, less, at_most, more, at_least, top, bottom, null, boolean, integer, text, bound, not_integer, not_text, not_null}
+use Rattle.cs_grammar.specs.Atom.{Atom, Relation, less, at_most, more, at_least, top, bottom, null, boolean, integer, text, bound, not_integer, not_text, not_null, size}
+use Rattle.cs_grammar.specs.declared.ast.Counted.{Counted}
+use Rattle.cs_grammar.specs.declared.ast.Counted.TheVariants as counts
 use Rattle.cs_package.specs.Expression.{Kind, int, number, string, bool, DeclarationMark, regular, optional, required, every, Expression, atom, kind, range, reference, conjunction, disjunction, struct, list, Expressions, no_expressions, expression, Declarations, no_declarations, declaration, Rest, closed, any, each}
 use Rattle.cs_package.specs.Environment.{Environment}
 
@@ -18,6 +20,11 @@ of_relation less = gnum 0
 of_relation at_most = gnum 1
 of_relation more = gnum 2
 of_relation at_least = gnum 3
+
+abbrev of_counted : Counted → Gv
+of_counted counts.Characters = gnum 0
+of_counted counts.Elements = gnum 1
+of_counted counts.Keys = gnum 2
 
 abbrev of_mark : DeclarationMark → Gv
 of_mark regular = gnum 0
@@ -39,6 +46,7 @@ of_atom (bound r z) = gcons (gnum 6) (gcons (of_relation r) (coded_ℤ.code z))
 of_atom (not_integer z) = gcons (gnum 7) (coded_ℤ.code z)
 of_atom (not_text s) = gcons (gnum 8) (coded_text.code s)
 of_atom not_null = gcons (gnum 9) gnil
+of_atom (size c b z) = gcons (gnum 10) (gcons (of_counted c) (gcons (coded_bool.code b) (coded_ℤ.code z)))
 
 abbrev mutual
   of_expression : Expression → Gv
@@ -80,6 +88,12 @@ relation-same more more p = refl
 relation-same at_least at_least p = refl
 relation-same _ _ p = cc
 
+counted-same : (a b : Counted) → of_counted a ≡ of_counted b → a ≡ b
+counted-same counts.Characters counts.Characters p = refl
+counted-same counts.Elements counts.Elements p = refl
+counted-same counts.Keys counts.Keys p = refl
+counted-same _ _ p = cc
+
 mark-same : (a b : DeclarationMark) → of_mark a ≡ of_mark b → a ≡ b
 mark-same regular regular p = refl
 mark-same optional optional p = refl
@@ -110,6 +124,11 @@ atom-same (bound r a) (bound s b) p = ap₂ bound (relation-same r s (ap (λ g. 
 atom-same (not_integer a) (not_integer b) p = ap not_integer (coded_ℤ.inj a b (ap second p))
 atom-same (not_text a) (not_text b) p = ap not_text (coded_text.inj a b (ap second p))
 atom-same not_null not_null p = refl
+atom-same (size a b n) (size c d m) p =
+    let counted = counted-same a c (ap (λ g. first (second g)) p) in
+    let is_least = coded_bool.inj b d (ap (λ g. first (second (second g))) p) in
+    let limit = coded_ℤ.inj n m (ap (λ g. second (second (second g))) p) in
+    λ i. size (counted i) (is_least i) (limit i)
 atom-same a b p = (let h = ap (λ g. number_of (first g)) p in absurd (omega (arith, h)))
 
 mutual

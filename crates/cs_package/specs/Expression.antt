@@ -4,7 +4,9 @@ use Rattle.std.specs.Prelude.{ℕ, ℤ, Bool, true, false, List, [], ◌∷◌, 
 use Rattle.cs_grammar.specs.Atom.{Atom}
 use Rattle.cs_grammar.specs.declared.ast.FieldMark.{FieldMark}
 use Rattle.cs_grammar.specs.declared.ast.FieldMark.TheVariants as marks
-pub use Rattle.cs_grammar.specs.Atom.{Relation, less, at_most, more, at_least, top, bottom, null, boolean, integer, text, bound, not_integer, not_text, not_null}
+pub use Rattle.cs_grammar.specs.declared.ast.Counted.{Counted}
+pub use Rattle.cs_grammar.specs.declared.ast.Counted.TheVariants.{Characters, Elements, Keys}
+pub use Rattle.cs_grammar.specs.Atom.{Relation, less, at_most, more, at_least, top, bottom, null, boolean, integer, text, bound, not_integer, not_text, not_null, size}
 
 -- the predeclared kinds
 pub data Kind : Type 0 where

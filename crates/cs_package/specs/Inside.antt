@@ -2,7 +2,7 @@
 use Rattle.std.specs.Prelude.{◌≡◌, ℕ, ℤ, Bool, true, false, List, [], Option, Some, None, get_or, Vec}
 use Rattle.std.specs.declared.alloc.Global.{Global}
 use Rattle.cs_grammar.specs.Atom.{Atom}
-use Rattle.cs_package.specs.Expression.{Expression, atom, kind, range, reference, conjunction, disjunction, struct, list, top, bottom, null, boolean, integer, text, bound, not_integer, not_text, not_null}
+use Rattle.cs_package.specs.Expression.{Expression, atom, kind, range, reference, conjunction, disjunction, struct, list, top, bottom, null, boolean, integer, text, bound, not_integer, not_text, not_null, size}
 use Rattle.cs_package.specs.View.{kind_of, relation_of, operands_at, fields_at, rest_of, is_known}
 use Rattle.cs_package.specs.declared.shape.Shape as Shapes
 use Rattle.cs_package.specs.declared.shape.Shape.{Shape}
@@ -77,6 +77,7 @@ IsSimple (simple.Excluded l) e = excluded e ≡ Some (atom_of l)
 IsSimple (simple.Kind k) e = e ≡ kind (kind_of k)
 IsSimple (simple.Range least greatest) e = e ≡ range least greatest
 IsSimple (simple.Bound r n) e = e ≡ atom (bound (relation_of r) n)
+IsSimple (simple.Size c b n) e = e ≡ atom (size c b n)
 
 -- the expression is made of this, where a number stands for the name at its place
 abbrev pub IsInside : List (List ℕ) → Inside → Expression → Type 0

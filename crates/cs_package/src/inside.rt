@@ -4,7 +4,7 @@ ghost use Rattle.cs_package.specs.Inside.{IsInside, IsMadeOf, IsSimple, is_simpl
 ghost use Rattle.cs_package.specs.Expression.{atom};
 ghost use Rattle.cs_package.specs.View.{expression_of};
 
-use crate::{Kind, Part, Relation, Shape, ShapeEnd};
+use crate::{Counted, Kind, Part, Relation, Shape, ShapeEnd};
 
 /// A literal (CUE, literals).
 #[derive(Clone, Copy, PartialEq, Eq, PartialOrd, Ord)]
@@ -27,9 +27,21 @@ pub enum Simple<'a> {
     Excluded(Literal<'a>),
     Kind(Kind),
     /// The integers from `least` on, up to `greatest` where there is one.
-    Range { least: i64, greatest: Option<i64> },
+    Range {
+        least: i64,
+        greatest: Option<i64>,
+    },
     /// `<n`, `<=n`, `>n` or `>=n`.
-    Bound { relation: Relation, limit: i64 },
+    Bound {
+        relation: Relation,
+        limit: i64,
+    },
+    /// At least so many characters, elements or keys, or at most.
+    Size {
+        counted: Counted,
+        is_least: bool,
+        limit: i64,
+    },
 }
 
 /// What an expression is made of.
@@ -58,7 +70,7 @@ pub enum Inside<'a> {
 /// What an expression compares values with.
 #[derive(Clone, Copy)]
 pub enum Comparison<'a> {
-    /// With nothing: their kinds or their parts decide.
+    /// With nothing: their kinds, their parts or how many of these there are decide.
     Nothing,
     Text(&'a str),
     /// The integer itself, the one that is left out, or the limit of a bound.
@@ -93,6 +105,15 @@ impl Shape {
             Shape::NotInt(n) => Inside::Simple(Simple::Excluded(Literal::Int(*n))),
             Shape::NotText(text) => Inside::Simple(Simple::Excluded(Literal::Text(text.as_str()))),
             Shape::NotNull => Inside::Simple(Simple::Excluded(Literal::Null)),
+            Shape::Size {
+                counted,
+                is_least,
+                limit,
+            } => Inside::Simple(Simple::Size {
+                counted: *counted,
+                is_least: *is_least,
+                limit: *limit,
+            }),
             Shape::And(operands) => Inside::And(operands),
             Shape::Or(operands) => Inside::Or(operands),
             Shape::Struct { parts, opened } => Inside::Struct {
@@ -134,7 +155,8 @@ impl Shape {
             | Simple::Excluded(_)
             | Simple::Kind(_)
             | Simple::Range { .. }
-            | Simple::Bound { .. } => None,
+            | Simple::Bound { .. }
+            | Simple::Size { .. } => None,
         }
     }
 
@@ -153,7 +175,8 @@ impl Shape {
             | Simple::Literal(_)
             | Simple::Kind(_)
             | Simple::Range { .. }
-            | Simple::Bound { .. } => None,
+            | Simple::Bound { .. }
+            | Simple::Size { .. } => None,
         }
     }
 
@@ -170,7 +193,9 @@ impl Shape {
             Simple::Excluded(literal) => literal.comparison(),
             Simple::Range { least, greatest } => Comparison::Range { least, greatest },
             Simple::Bound { limit, .. } => Comparison::Integer(limit),
-            Simple::Top | Simple::Bottom | Simple::Kind(_) => Comparison::Nothing,
+            Simple::Top | Simple::Bottom | Simple::Kind(_) | Simple::Size { .. } => {
+                Comparison::Nothing
+            }
         }
     }
 }

@@ -5,7 +5,7 @@ mod inside;
 mod package;
 mod shape;
 
-pub use cs_grammar::{FieldMark, Relation};
+pub use cs_grammar::{Counted, FieldMark, Relation};
 pub use inside::{Comparison, Inside, Literal, Simple};
 pub use package::{NameTable, Package, package_of};
 pub use shape::{Kind, Part, Shape, ShapeEnd};

@@ -1,5 +1,5 @@
 // Resolved expressions.
-use cs_grammar::{FieldMark, Relation};
+use cs_grammar::{Counted, FieldMark, Relation};
 
 /// A resolved expression: names are replaced by the kinds and ranges that they name, references by the
 /// numbers of definitions, and parentheses are taken away (CUE, expressions).
@@ -15,23 +15,41 @@ pub enum Shape {
     Text(String),
     Kind(Kind),
     /// The integers from `least` on, up to `greatest` where there is one.
-    Range { least: i64, greatest: Option<i64> },
+    Range {
+        least: i64,
+        greatest: Option<i64>,
+    },
     /// A reference to the definition of that number.
     Definition(usize),
-    Bound { relation: Relation, limit: i64 },
+    Bound {
+        relation: Relation,
+        limit: i64,
+    },
     /// `!=` and an integer.
     NotInt(i64),
     /// `!=` and a text.
     NotText(String),
     /// `!=null`.
     NotNull,
+    /// At least so many characters, elements or keys, or at most.
+    Size {
+        counted: Counted,
+        is_least: bool,
+        limit: i64,
+    },
     /// Two or more operands joined by `&`.
     And(Vec<Shape>),
     /// Two or more operands joined by `|`.
     Or(Vec<Shape>),
     /// A struct literal; `opened` where it ends with `...`.
-    Struct { parts: Vec<Part>, opened: bool },
-    List { front: Vec<Shape>, end: ShapeEnd },
+    Struct {
+        parts: Vec<Part>,
+        opened: bool,
+    },
+    List {
+        front: Vec<Shape>,
+        end: ShapeEnd,
+    },
 }
 
 impl Drop for Shape {
@@ -57,6 +75,11 @@ impl Drop for Shape {
             | Shape::NotInt(_)
             | Shape::NotText(_)
             | Shape::NotNull
+            | Shape::Size {
+                counted: _,
+                is_least: _,
+                limit: _,
+            }
             | Shape::And(_)
             | Shape::Or(_)
             | Shape::Struct {

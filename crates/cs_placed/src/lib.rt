@@ -6,6 +6,7 @@ use cs_embeddings::{EmbeddingFault, without_embeddings};
 use cs_grammar::{
     Declaration, Expr, Field, FieldMark, File, ListEnd, Profile, Selector, SyntaxFault, Wide, atom,
 };
+use cs_imports::{ImportFault, have_imports, without_imports};
 use cs_names::{NameFault, have_names, without_names};
 use cs_selectors::{SelectorFault, have_selectors, without_selectors};
 use cs_syntax::parse_file_in;
@@ -16,8 +17,8 @@ use std::str;
 /// another keeps its place.
 #[derive(Drop)]
 pub struct Placed {
-    /// The file of each source, at its place: without names, selectors, conditions and embeddings, and with the marks of defaults. A definition that a name of
-    /// a scope stands for is at the offset at which that is declared, and one that a selector is made where the first such selector is.
+    /// The file of each source, at its place: without imports, names, selectors, conditions and embeddings, and with the marks of defaults. A definition
+    /// that a name of a scope stands for is at the offset at which that is declared, and one that a selector is made where the first such selector is.
     pub files: Vec<File>,
     /// The offset at which each source begins, in their order.
     bases: Vec<usize>,
@@ -46,10 +47,26 @@ pub fn placed_files(alloc: Global, sources: &[&[u8]]) -> Result<Option<Placed>, 
     let Some(Placed { files, bases }) = spelled_files(alloc, sources)? else {
         return Ok(None);
     };
-    let named = named_files(alloc, files)?;
+    let named = named_files(alloc, unimported_files(alloc, files)?)?;
     let unselected = unselected_files(alloc, named)?;
     let files = joined_files(alloc, chosen_files(alloc, unselected)?)?;
     Ok(Some(Placed { files, bases }))
+}
+
+/// Files without imports. Where they stand for none they are themselves, in which a call of a package stands for nothing.
+fn unimported_files(alloc: Global, files: Vec<File>) -> Result<Vec<File>, AllocError> {
+    if !have_imports(&files) {
+        return Ok(files);
+    }
+    match without_imports(alloc, &files) {
+        Ok(unimported) => Ok(unimported),
+        Err(ImportFault::OutOfMemory) => Err(AllocError),
+        Err(
+            ImportFault::LeftOut { .. }
+            | ImportFault::UnknownName { .. }
+            | ImportFault::NamesField { .. },
+        ) => Ok(files),
+    }
 }
 
 /// Files without names that are no definitions. Where they stand for none they are themselves, in which such a name stands for nothing.
@@ -221,6 +238,14 @@ fn shift_form(form: &mut Wide, base: usize) {
             add(at, base);
             shift_selectors(labels, base);
         }
+        Wide::Called { at, .. } => {
+            add(at, base);
+            // The borrow checker takes one of its fields at a time.
+            if let Wide::Called { function, .. } = form {
+                add(&mut function.at, base);
+            }
+        }
+        Wide::Imported { at, .. } => add(at, base),
         Wide::Merged {
             at,
             declarations,

@@ -3,7 +3,7 @@ use Rattle.std.proofs.Common.{◌≡◌, ℕ, Bool, true, false, ◌&&◌, not, 
 use Rattle.std.specs.List.{AllByRecursion}
 use Rattle.std.specs.Option.{IfSome}
 use Rattle.std.specs.Str.{bytes_eq}
-use Rattle.cs_grammar.specs.Tree.{Tree, atom, named, reference, conjunction, disjunction, paren, struct, list, wide, Wide, marked, merged, shut, selected, Declarations, no_declaration, declared, embedded, conditional, Trees, none, more, Fields, no_field, field, End, closed, any, each, DefinitionTree, definition, FileTree, file, package_name, definitions, names}
+use Rattle.cs_grammar.specs.Tree.{Tree, atom, named, reference, conjunction, disjunction, paren, struct, list, wide, Wide, marked, merged, shut, selected, called, imported, Declarations, no_declaration, declared, embedded, conditional, Trees, none, more, Fields, no_field, field, End, closed, any, each, DefinitionTree, definition, FileTree, file, package_name, definitions, names}
 use Rattle.cs_grammar.specs.Written.{Place, by_itself, of_bar, of_amp, AreTwo, IsDefinitionName, IsWritten, IsWrittenWide, AreWritten, AreWrittenFields, AreWrittenDeclarations, IsWrittenEnd, IsWrittenDefinition, IsWrittenClause, IsWrittenFile}
 use Rattle.cs_plain.specs.Bodies.{Body, body_of, bodies_in, bodies_of, values_of}
 use Rattle.cs_plain.specs.Placed.{as_operand, in_parens, as_enclosed, as_alone, in_literal, as_embedded, shaped, in_place, sole_plain, are_none, value_of, fields_hide, declarations_hide, placed, placed_wide, placed_each, placed_fields, placed_declarations, placed_end, placed_definition, kinds_in, placed_here, placed_files, gone_in, is_kept, without_gone, in_places}
@@ -84,6 +84,8 @@ module _ (value : List ℕ → Option Tree) (hides : List ℕ → Bool) (good : 
     wide_written q p (merged o ds b) h = declarations_written (in_literal (declarations_hide value hides ds) q) ds h
     wide_written q p (shut o e) h = placed_written (as_enclosed q) by_itself e (suits_itself (as_enclosed q)) h
     wide_written q p (selected o s ls) h = h
+    wide_written q p (called o s f z) h = h
+    wide_written q p (imported o s) h = h
 
     each_written : (q : Standing) (p : Place) (es : Trees) → Suits q p → AreWritten p es → AreWritten p (placed_each value hides q es)
     each_written q p none k h = tt
@@ -158,6 +160,8 @@ module _ (value : List ℕ → Option Tree) (hides : List ℕ → Bool) (good : 
     wide_selecting q p (merged o ds b) h = declarations_selecting (in_literal (declarations_hide value hides ds) q) ds h
     wide_selecting q p (shut o e) h = placed_selecting (as_enclosed q) by_itself e (suits_itself (as_enclosed q)) h
     wide_selecting q p (selected o s ls) h = h
+    wide_selecting q p (called o s f z) h = h
+    wide_selecting q p (imported o s) h = h
 
     each_selecting : (q : Standing) (p : Place) (es : Trees) → Suits q p → AreWritten p (referring_each head es) → AreWritten p (referring_each head (placed_each value hides q es))
     each_selecting q p none k h = tt

@@ -1,7 +1,7 @@
 -- Where no value is put anywhere, files stay as they are.
 use Rattle.std.proofs.Common.{◌≡◌, ℕ, Bool, true, false, ◌&&◌, not, cond, List, [], ◌∷◌, ◌++◌, Option, None, map, filter, refl, ap, ap₂, ◌∙◌}
 use Rattle.std.specs.List.{flat_map}
-use Rattle.cs_grammar.specs.Tree.{Tree, atom, named, reference, conjunction, disjunction, paren, struct, list, wide, Wide, marked, merged, shut, selected, Declarations, no_declaration, declared, embedded, conditional, Trees, none, more, Fields, no_field, field, End, closed, any, each, DefinitionTree, definition, defined_name, FileTree, file, definitions}
+use Rattle.cs_grammar.specs.Tree.{Tree, atom, named, reference, conjunction, disjunction, paren, struct, list, wide, Wide, marked, merged, shut, selected, called, imported, Declarations, no_declaration, declared, embedded, conditional, Trees, none, more, Fields, no_field, field, End, closed, any, each, DefinitionTree, definition, defined_name, FileTree, file, definitions}
 use Rattle.cs_plain.specs.Bodies.{Body, body_of, bodies_in}
 use Rattle.cs_plain.specs.Placed.{as_operand, in_parens, as_enclosed, as_alone, in_literal, as_embedded, in_place, value_of, fields_hide, declarations_hide, placed, placed_wide, placed_each, placed_fields, placed_declarations, placed_end, placed_definition, placed_file, kinds_in, placed_here, gone_if, gone_in, is_kept, without_gone, keeping, in_places}
 use Rattle.cs_plain.specs.References.{is_reference, is_among, references_in}
@@ -28,6 +28,8 @@ module _ (value : List ℕ → Option Tree) (hides : List ℕ → Bool) (empty :
     wide_stays p (merged o ds b) = ap (λ xs. merged o xs b) (declarations_stay (in_literal (declarations_hide value hides ds) p) ds)
     wide_stays p (shut o e) = ap (shut o) (stays (as_enclosed p) e)
     wide_stays p (selected o s ls) = refl
+    wide_stays p (called o s f z) = refl
+    wide_stays p (imported o s) = refl
 
     each_stays : (p : Standing) (es : Trees) → placed_each value hides p es ≡ es
     each_stays p none = refl

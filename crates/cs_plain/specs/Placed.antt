@@ -3,7 +3,7 @@
 -- field by which such a value names a kind. A definition that nothing refers to any more is gone.
 use Rattle.std.specs.Prelude.{ℕ, Bool, true, false, not, ◌&&◌, ◌||◌, List, [], ◌∷◌, map, filter, Option, Some, None, if◌then◌else◌}
 use Rattle.std.specs.List.{flat_map}
-use Rattle.cs_grammar.specs.Tree.{Label, Tree, atom, named, reference, conjunction, disjunction, paren, struct, list, wide, Wide, marked, merged, shut, selected, Declarations, no_declaration, declared, embedded, conditional, Trees, none, more, Fields, no_field, field, End, closed, any, each, DefinitionTree, definition, defined_name, body, FileTree, file, package_name, definitions, names}
+use Rattle.cs_grammar.specs.Tree.{Label, Tree, atom, named, reference, conjunction, disjunction, paren, struct, list, wide, Wide, marked, merged, shut, selected, called, imported, Declarations, no_declaration, declared, embedded, conditional, Trees, none, more, Fields, no_field, field, End, closed, any, each, DefinitionTree, definition, defined_name, body, FileTree, file, package_name, definitions, names}
 use Rattle.cs_plain.specs.Bodies.{Body, body_of, bodies_in, values_of}
 use Rattle.cs_plain.specs.Plain.{is_single, only_plain, has_mark, kinds}
 use Rattle.cs_plain.specs.References.{is_reference, is_among, references_in}
@@ -117,6 +117,8 @@ module _ (value : List ℕ → Option Tree) (hides : List ℕ → Bool) where
     placed_wide p (merged o ds b) = merged o (placed_declarations (in_literal (declarations_hide ds) p) ds) b
     placed_wide p (shut o e) = shut o (placed (as_enclosed p) e)
     placed_wide p (selected o s ls) = selected o s ls
+    placed_wide p (called o s f z) = called o s f z
+    placed_wide p (imported o s) = imported o s
 
     pub placed_each : Standing → Trees → Trees
     placed_each p none = none

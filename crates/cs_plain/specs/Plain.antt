@@ -1,7 +1,7 @@
 -- Plain values that are put in the places of their names (own rule): what has no parts, a kind, or at most eight of these as operands of `&` or `|`, one of
 -- which may be marked as a default. So what is copied of a value is no larger than that, however many references there are.
 use Rattle.std.specs.Prelude.{ℕ, Bool, true, false, ◌&&◌, ◌||◌, List, [], ◌∷◌, ◌++◌, nat_le, Option, Some, None, suc, zero, if◌then◌else◌}
-use Rattle.cs_grammar.specs.Tree.{Tree, atom, named, reference, conjunction, disjunction, paren, struct, list, wide, Wide, marked, merged, shut, selected, Trees, none, more}
+use Rattle.cs_grammar.specs.Tree.{Tree, atom, named, reference, conjunction, disjunction, paren, struct, list, wide, Wide, marked, merged, shut, selected, called, imported, Trees, none, more}
 
 abbrev pub is_single : Tree → Bool
 is_single (atom a) = true
@@ -23,6 +23,8 @@ is_marked_single (marked o e) = is_single e
 is_marked_single (merged o ds b) = false
 is_marked_single (shut o e) = false
 is_marked_single (selected o s ls) = false
+is_marked_single (called o s f z) = false
+is_marked_single (imported o s) = false
 
 -- an operand of `|`
 abbrev pub is_alternative : Tree → Bool
@@ -72,6 +74,8 @@ is_mark (marked o e) = true
 is_mark (merged o ds b) = false
 is_mark (shut o e) = false
 is_mark (selected o s ls) = false
+is_mark (called o s f z) = false
+is_mark (imported o s) = false
 
 abbrev pub is_marked : Tree → Bool
 is_marked (atom a) = false
@@ -119,6 +123,8 @@ kind_of (wide (marked o e)) = kind_named e
 kind_of (wide (merged o ds b)) = []
 kind_of (wide (shut o e)) = []
 kind_of (wide (selected o s ls)) = []
+kind_of (wide (called o s f z)) = []
+kind_of (wide (imported o s)) = []
 kind_of (named s o) = s ∷ []
 kind_of (atom a) = []
 kind_of (reference s o) = []

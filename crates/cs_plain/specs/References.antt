@@ -7,7 +7,7 @@ use Rattle.std.specs.Cmp.Lexicographic.{slice_cmp}
 use Rattle.std.specs.List.{list_any, flat_map}
 use Rattle.std.specs.Ordering.{nat_cmp}
 use Rattle.std.specs.Str.{bytes_eq}
-use Rattle.cs_grammar.specs.Tree.{Tree, atom, named, reference, conjunction, disjunction, paren, struct, list, wide, Wide, marked, merged, shut, selected, Declarations, no_declaration, declared, embedded, conditional, Trees, none, more, Fields, no_field, field, End, closed, any, each, DefinitionTree, body, FileTree, definitions}
+use Rattle.cs_grammar.specs.Tree.{Tree, atom, named, reference, conjunction, disjunction, paren, struct, list, wide, Wide, marked, merged, shut, selected, called, imported, Declarations, no_declaration, declared, embedded, conditional, Trees, none, more, Fields, no_field, field, End, closed, any, each, DefinitionTree, body, FileTree, definitions}
 
 abbrev pub is_reference : Tree → Bool
 is_reference (atom a) = false
@@ -39,6 +39,8 @@ module _ (all : Bool) where
     references_wide (merged o ds b) = references_declarations ds
     references_wide (shut o e) = references e
     references_wide (selected o s ls) = s ∷ []
+    references_wide (called o s f z) = []
+    references_wide (imported o s) = []
 
     pub references_each : Trees → List (List ℕ)
     references_each none = []

@@ -1,6 +1,6 @@
 -- Files without names that may have selectors: those that can be written down where each selector is a reference.
 use Rattle.std.specs.Prelude.{ℕ, List, map}
-use Rattle.cs_grammar.specs.Tree.{Selector, Tree, atom, named, reference, conjunction, disjunction, paren, struct, list, wide, marked, merged, shut, selected, Declarations, no_declaration, declared, embedded, conditional, Trees, none, more, Fields, no_field, field, End, closed, any, each, DefinitionTree, definition, FileTree, file, package_name, definitions, names}
+use Rattle.cs_grammar.specs.Tree.{Selector, Tree, atom, named, reference, conjunction, disjunction, paren, struct, list, wide, marked, merged, shut, selected, called, imported, Declarations, no_declaration, declared, embedded, conditional, Trees, none, more, Fields, no_field, field, End, closed, any, each, DefinitionTree, definition, FileTree, file, package_name, definitions, names}
 use Rattle.cs_grammar.specs.Written.{IsWrittenFile}
 
 -- the definition that a selector is to refer to, by the name before it and its labels
@@ -20,6 +20,8 @@ module _ (by : List ℕ → List Selector → List ℕ) where
     referring (wide (merged o ds b)) = wide (merged o (referring_declarations ds) b)
     referring (wide (shut o e)) = wide (shut o (referring e))
     referring (wide (selected o s ls)) = reference (by s ls) o
+    referring (wide (called o s f z)) = wide (called o s f z)
+    referring (wide (imported o s)) = wide (imported o s)
 
     pub referring_each : Trees → Trees
     referring_each none = none

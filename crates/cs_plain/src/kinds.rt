@@ -34,7 +34,13 @@ fn kind_of(operand: &Expr) -> Option<&str>
 {
     match operand {
         Expr::Wide(Wide::Marked { value, .. }) => marked_name(value),
-        Expr::Wide(Wide::Merged { .. } | Wide::Shut { .. } | Wide::Selected { .. }) => None,
+        Expr::Wide(
+            Wide::Merged { .. }
+            | Wide::Shut { .. }
+            | Wide::Selected { .. }
+            | Wide::Called { .. }
+            | Wide::Imported { .. },
+        ) => None,
         Expr::Name { .. }
         | atom!()
         | Expr::Reference { .. }

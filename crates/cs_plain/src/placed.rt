@@ -12,7 +12,7 @@ use crate::copies::copy_conditions;
 use crate::plain::{is_single, plain};
 use crate::references::is_reference;
 use crate::standing::Standing;
-use cs_grammar::{Declaration, Expr, Field, ListEnd, Wide, atom, copied_selectors};
+use cs_grammar::{Declaration, Expr, Field, ListEnd, Wide, atom, copied_form};
 use std::alloc::{AllocError, Global};
 use std::collections::BTreeSet;
 
@@ -199,11 +199,8 @@ impl<'a> Placing<'_, '_, 'a> {
                 let value = Box::new(self.alloc, value)?;
                 Ok(Wide::Shut { at, value })
             }
-            Wide::Selected { at, name, labels } => {
-                let at = *at;
-                let name = name.clone()?;
-                let labels = copied_selectors(self.alloc, labels)?;
-                Ok(Wide::Selected { at, name, labels })
+            Wide::Selected { .. } | Wide::Called { .. } | Wide::Imported { .. } => {
+                copied_form(self.alloc, form)
             }
         }
     }

@@ -35,7 +35,13 @@ fn is_marked(expr: &Expr) -> bool
 {
     match expr {
         Expr::Wide(Wide::Marked { .. }) => true,
-        Expr::Wide(Wide::Merged { .. } | Wide::Shut { .. } | Wide::Selected { .. }) => false,
+        Expr::Wide(
+            Wide::Merged { .. }
+            | Wide::Shut { .. }
+            | Wide::Selected { .. }
+            | Wide::Called { .. }
+            | Wide::Imported { .. },
+        ) => false,
         atom!()
         | Expr::Name { .. }
         | Expr::Reference { .. }
@@ -110,7 +116,13 @@ fn alternative(alloc: Global, expr: &Expr) -> Result<Option<Expr>, AllocError>
                 None => Ok(None),
             }
         }
-        Expr::Wide(Wide::Merged { .. } | Wide::Shut { .. } | Wide::Selected { .. }) => Ok(None),
+        Expr::Wide(
+            Wide::Merged { .. }
+            | Wide::Shut { .. }
+            | Wide::Selected { .. }
+            | Wide::Called { .. }
+            | Wide::Imported { .. },
+        ) => Ok(None),
         atom!()
         | Expr::Name { .. }
         | Expr::Reference { .. }

@@ -62,6 +62,8 @@ fn add_wide<'a>(found: &mut Texts<'a>, is_all: bool, form: &'a Wide) -> Result<(
             found.insert(name.as_str())?;
             Ok(())
         }
+        // Never asked for: files come without calls and imports.
+        Wide::Called { .. } | Wide::Imported { .. } => Ok(()),
     }
 }
 

@@ -1,18 +1,20 @@
--- The words of a file nest no deeper than its bodies and the values of its other names are high.
+-- The words of a file of the default profile nest no deeper than its bodies are high.
 use Rattle.std.proofs.Common.{◌≡◌, ℕ, zero, suc, ◌+◌, ◌≤◌, ℤ, List, [], ◌∷◌, Bool, true, false, Option, Some, None, refl, sym, ap, subst, ◌∙◌, arith}
 use Rattle.std.proofs.lemmas.Bool.Decides.{nat_tests}
 use Rattle.std.specs.Prelude.{max, length, ◌||◌}
 use Rattle.std.specs.Option.{option_map}
 use Rattle.cs_grammar.specs.declared.ast.FieldMark.{FieldMark}
-use Rattle.cs_grammar.specs.Words.{Word, Words, name, quoted, open_list, close_list, comma, nl, colon, finish, wide_finish}
+use Rattle.cs_grammar.specs.Words.{Word, Words, name, quoted, open_list, close_list, comma, nl, colon, finish}
 use Rattle.cs_grammar.specs.Atom.{Atom}
 use Rattle.cs_grammar.specs.Tree as T
-use Rattle.cs_grammar.specs.Tree.{Label, Selector, Test, Condition, Tree, Declarations, no_declaration, declared, embedded, conditional, Trees, none, more, Fields, no_field, field, End, DefinitionTree, body, NameTree, FileTree, file, definitions}
-use Rattle.cs_grammar.specs.Spells.{is_string, fields_alone, literal_if, Comma, explicit, inserted, ClosesParen, paren_here, paren_after, ClosesList, list_here, list_after, ClosesStruct, struct_here, struct_after, SpellsNumber, positive, negative, SpellsBound, limit_is, other_number, other_text, other_null, SpellsName, hashed, underscored, SpellsBase, name_base, field_base, SpellsSelector, by_name, by_label, by_text, SpellsSelectors, last_selector, next_selector, SpellsLabel, bare_label, quoted_label, SpellsMark, regular, optional, required, SpellsOpening, unopened, opened, SpellsScalar, scalar_name, scalar_number, scalar_text, SpellsTest, is_true, equal_to, unequal_to, is_absent, is_present, related, SpellsCondition, asked_is, denied_is, SpellsConditions, last_condition, next_condition, SpellsValue, long, short, SpellsField, labelled, every_key, SpellsExpr, one_branch, disjunction_is, SpellsBars, no_bar, a_bar, SpellsBranch, unmarked, marked_is, SpellsConj, one_operand, conjunction_is, SpellsAmps, no_amp, an_amp, SpellsOperand, top_is, bottom_is, reference_is, name_is, number_is, text_is, bound_is, paren_is, struct_is, list_is, call_paren_is, shut_is, local_is, selected_is, wide_struct_is, SpellsWideStruct, no_declarations, wide_dots_alone, some_declarations, SpellsDeclarations, a_field, an_embedding, a_name, a_let, a_conditional, SpellsMore, no_more, next_declaration, SpellsStruct, no_fields, dots_alone, fields, SpellsFields, no_more_fields, next_field, SpellsList, no_elements, rest_alone, elements, SpellsElements, no_more_elements, next_element, SpellsEnd, closed_is, rest_is, SpellsRest, any_is, each_is, SpellsDefinition, defined, SpellsDefinitions, no_definition, next_definition, SpellsFileName, field_name, local_name, bound_name, SpellsWideFile, no_line, definition_line, name_line, SpellsPackage, no_clause, clause, SpellsFile, spelled, wide_spelled}
-use Rattle.cs_grammar.specs.Height.{height, height_all, height_fields, height_declarations, height_end, height_definitions, height_names, file_height}
+use Rattle.cs_grammar.specs.Tree.{Label, Selector, Test, Condition, Tree, Declarations, no_declaration, declared, embedded, conditional, Trees, none, more, Fields, no_field, field, End, DefinitionTree, body, FileTree, file, definitions}
+use Rattle.cs_grammar.specs.Spells.{is_string, fields_alone, literal_if, Comma, explicit, inserted, ClosesParen, paren_here, paren_after, ClosesList, list_here, list_after, ClosesStruct, struct_here, struct_after, SpellsNumber, positive, negative, SpellsBound, limit_is, other_number, other_text, other_null, SpellsName, hashed, underscored, SpellsBase, name_base, field_base, SpellsSelector, by_name, by_label, by_text, SpellsSelectors, last_selector, next_selector, SpellsLabel, bare_label, quoted_label, SpellsMark, regular, optional, required, SpellsOpening, unopened, opened, SpellsScalar, scalar_name, scalar_number, scalar_text, SpellsTest, is_true, equal_to, unequal_to, is_absent, is_present, related, SpellsCondition, asked_is, denied_is, SpellsConditions, last_condition, next_condition, SpellsValue, long, short, SpellsField, labelled, every_key, SpellsExpr, one_branch, disjunction_is, SpellsBars, no_bar, a_bar, SpellsBranch, unmarked, marked_is, SpellsConj, one_operand, conjunction_is, SpellsAmps, no_amp, an_amp, SpellsOperand, top_is, bottom_is, reference_is, name_is, number_is, text_is, bound_is, paren_is, struct_is, list_is, call_paren_is, shut_is, local_is, selected_is, called_is, SpellsArgument, argument_is, wide_struct_is, SpellsWideStruct, no_declarations, wide_dots_alone, some_declarations, SpellsDeclarations, a_field, an_embedding, a_name, a_let, a_conditional, SpellsMore, no_more, next_declaration, SpellsStruct, no_fields, dots_alone, fields, SpellsFields, no_more_fields, next_field, SpellsList, no_elements, rest_alone, elements, SpellsElements, no_more_elements, next_element, SpellsEnd, closed_is, rest_is, SpellsRest, any_is, each_is, SpellsDefinition, defined, SpellsDefinitions, no_definition, next_definition, SpellsPackage, no_clause, clause, SpellsFile, spelled, wide_spelled}
+use Rattle.cs_grammar.specs.Height.{height, height_all, height_fields, height_declarations, height_end, height_definitions, file_height}
 use Rattle.cs_syntax.specs.Nesting.{OpenLevels, ends_with_chained_label, is_short, counted_if, behind, nesting_at, nesting_from, nesting}
 use Rattle.cs_syntax.proofs.NestingBounds.{max_left, max_right, max_both}
 use Rattle.cs_syntax.proofs.NestingCounts.{nesting-cons}
+use Rattle.cs_syntax.proofs.DefaultWords.{Narrow, kept}
+use Rattle.cs_grammar.proofs.Rests.{of_wide_file, of_imports, of_package}
 
 -- ---- levels
 
@@ -121,6 +123,10 @@ selectors_low : {k : ℕ} {ls : List Selector} {ts r : Words} {ns : OpenLevels} 
 selectors_low (last_selector l) h f ws = selector_low l h f ws
 selectors_low (next_selector l ls) h f ws = selector_low l h (selectors_low ls h f) ws
 
+-- an argument is a level
+argument_low : {k n : ℕ} {z : ℤ} {ts r : Words} {ns : OpenLevels} → SpellsArgument z ts r → nesting_at (n ∷ ns) ≤ k → nesting_at (0 ∷ n ∷ ns) ≤ k → Low k (n ∷ ns) r → Low k (n ∷ ns) ts
+argument_low (argument_is fits c) h inside f ws = pass _ h (pass _ inside (paren_low c inside f _))
+
 -- the colon behind such a name isn't short
 scope_value_low : {k n p : ℕ} {s : List ℕ} {ts us : Words} {ns : OpenLevels} → SpellsName s ts (colon p ∷ us) → nesting_at (n ∷ ns) ≤ k → Low k (n ∷ ns) us → Low k (n ∷ ns) ts
 scope_value_low hashed h f ws = pass _ h (pass _ h (f _))
@@ -190,6 +196,8 @@ some_height (T.wide (T.marked o e)) = some_height e
 some_height (T.wide (T.merged o ds b)) = omega arith
 some_height (T.wide (T.shut o e)) = omega arith
 some_height (T.wide (T.selected o s ls)) = omega arith
+some_height (T.wide (T.called o s f z)) = omega arith
+some_height (T.wide (T.imported o s)) = omega arith
 
 -- the fields of declarations are as high as these, where each is a field
 abbrev IsHigh : ℕ → Option Fields → Type 0
@@ -279,6 +287,7 @@ mutual
   operand_deep (shut_is {s} {o} {p} {e} called v c) h le k n ns low f = λ ws. pass _ (omega arith) (bracket _ (height e) le (λ j lj k n ns low f ws. expression_deep v j lj k 0 (n ∷ ns) low (paren_low c (omega arith) f) _) (λ n ns ws. refl) k n ns low f _)
   operand_deep local_is h le k n ns low f = λ ws. pass _ (omega arith) (f _)
   operand_deep (selected_is at b l) h le k n ns low f = base_low b (omega arith) (selectors_low l (omega arith) f)
+  operand_deep (called_is is a) h le k n ns low f = λ ws. pass _ (omega arith) (pass _ (omega arith) (pass _ (omega arith) (argument_low a (omega arith) (omega (arith, low, le, deeper n ns)) f _)))
   operand_deep (wide_struct_is {p} {ds} {b} is v) h le k n ns low f =
       let high : suc (height_declarations ds) ≤ h = omega (arith, le, ap height is, literal_height p ds b (fields_alone ds) (high_alone ds)) in
       bracket _ (height_declarations ds) high (λ j lj k n ns low f ws. wide_struct_deep v j lj k n ns low f _ refl) (λ n ns ws. refl) k n ns low f
@@ -344,18 +353,6 @@ definitions_deep no_definition h le k ns low f = f
 definitions_deep (next_definition {d} {ds} v c vs) h le k ns low f =
     definition_deep v h (max_left (height (body d)) _ le) k 0 ns low (λ n within. comma_low c within (λ ws new. definitions_deep vs h (max_right (height (body d)) _ le) k ns low f ws))
 
-file_name_deep : {x : NameTree} {ts r : Words} → SpellsFileName x ts r → (h : ℕ) → height x.value ≤ h → (k n : ℕ) (ns : OpenLevels) → nesting_at (n ∷ ns) + h ≤ k → AnyLow k ns r → Fresh k (n ∷ ns) ts
-file_name_deep (field_name is v) h le k n ns low f ws new = label_low (n ∷ ns) ws bare_label regular (omega arith) (plain_value h (value_deep v h le) (begins_colon ws) new k n ns low f)
-file_name_deep (local_name v) h le k n ns low f ws new = scope_value_low underscored (omega arith) (value_deep v h le k n ns low f) ws
-file_name_deep (bound_name is v) h le k n ns low f ws new = pass _ (omega arith) (pass _ (omega arith) (pass _ (omega arith) (expression_deep v h le k n ns low (f n (omega arith)) _)))
-
-lines_deep : {ds : List DefinitionTree} {xs : List NameTree} {ts r : Words} → SpellsWideFile ds xs ts r → (h : ℕ) → height_definitions ds ≤ h → height_names xs ≤ h → (k : ℕ) (ns : OpenLevels) → nesting_at (0 ∷ ns) + h ≤ k → Low k (0 ∷ ns) r → Fresh k (0 ∷ ns) ts
-lines_deep no_line h le named k ns low f ws new = f ws
-lines_deep (definition_line {d} v c vs) h le named k ns low f ws new =
-    definition_deep v h (max_left (height (body d)) _ le) k 0 ns low (λ n within. comma_low c within (lines_deep vs h (max_right (height (body d)) _ le) named k ns low f)) ws
-lines_deep (name_line {n = x} v c vs) h le named k ns low f ws new =
-    file_name_deep v h (max_left (height x.value) _ named) k 0 ns low (λ n within. comma_low c within (lines_deep vs h le (max_right (height x.value) _ named) k ns low f)) ws new
-
 clause_low : {c : Option (List ℕ)} {ts r : Words} {k : ℕ} {ns : OpenLevels} → SpellsPackage c ts r → nesting_at (0 ∷ ns) ≤ k → Fresh k (0 ∷ ns) r → Fresh k (0 ∷ ns) ts
 clause_low no_clause h f = f
 clause_low (clause is c) h f = λ ws new. pass _ h (pass _ h (comma_low c h f _))
@@ -363,22 +360,12 @@ clause_low (clause is c) h f = λ ws new. pass _ h (pass _ h (comma_low c h f _)
 left_in : (m n : ℕ) → m ≤ max m n
 left_in m n = grind (arith, nat_tests)
 
-right_in : (m n : ℕ) → n ≤ max m n
-right_in m n = grind (arith, nat_tests)
-
-pub nests_low : {f : FileTree} {ts : Words} → SpellsFile f ts → nesting ts ≤ file_height f
-nests_low {f} {ts} (spelled {c} {ds} {p} k v) =
+pub nests_low : {f : FileTree} {ts : Words} → SpellsFile f ts → Narrow ts → nesting ts ≤ file_height f
+nests_low {f} {ts} (spelled {c} {ds} {p} k v) narrow =
     let h : ℕ = file_height (file c ds []) in
     let high : height_definitions ds ≤ h = left_in (height_definitions ds) 0 in
     let bottom : nesting_at (0 ∷ []) ≡ 0 = omega (arith, nesting-cons 0 []) in
     let end : Low h (0 ∷ []) (finish p ∷ []) = λ ws. pass _ (omega (arith, bottom)) (record { low = omega (arith, bottom) }) in
     let all : Fresh h (0 ∷ []) ts = clause_low k (omega (arith, bottom)) (λ ws new. definitions_deep v h high h [] (omega (arith, bottom)) end ws) in
     (all [] refl).low
-nests_low {f} {ts} (wide_spelled {c} {ds} {ns} {p} k v) =
-    let h : ℕ = file_height (file c ds ns) in
-    let high : height_definitions ds ≤ h = left_in (height_definitions ds) (height_names ns) in
-    let named : height_names ns ≤ h = right_in (height_definitions ds) (height_names ns) in
-    let bottom : nesting_at (0 ∷ []) ≡ 0 = omega (arith, nesting-cons 0 []) in
-    let end : Low h (0 ∷ []) (wide_finish p ∷ []) = λ ws. pass _ (omega (arith, bottom)) (record { low = omega (arith, bottom) }) in
-    let all : Fresh h (0 ∷ []) ts = clause_low k (omega (arith, bottom)) (lines_deep v h high named h [] (omega (arith, bottom)) end) in
-    (all [] refl).low
+nests_low {f} {ts} (wide_spelled is k ms v) h = let never : true ≡ false = (kept (of_wide_file v) (kept (of_imports ms) (kept (of_package k) h))).0 in absurd cc

@@ -1,22 +1,25 @@
 -- The text of files spells them as one.
-use Rattle.std.proofs.Common.{◌≡◌, ℕ, ◌+◌, List, [], ◌∷◌, ◌++◌, length, map, Option, Some, None, codes, refl, sym, subst, append-nil}
+use Rattle.std.proofs.Common.{◌≡◌, ℕ, ◌+◌, List, [], ◌∷◌, ◌++◌, length, map, false, Option, Some, None, codes, refl, sym, ap, ◌∙◌, subst, append-nil}
 use Rattle.std.specs.List.{flat_map, AllByRecursion}
 use Rattle.std.specs.Option.{option_or}
+use Rattle.cs_grammar.specs.declared.ast.Counted.{Counted}
 use Rattle.cs_grammar.specs.declared.line.LineState.TheVariants.{Plain}
 use Rattle.cs_grammar.specs.declared.token.Sort.TheVariants as sorts
 use Rattle.cs_grammar.specs.Cut.{lexeme, Cut, finish}
 use Rattle.cs_grammar.specs.Words as W
 use Rattle.cs_grammar.specs.Words.{Words}
 use Rattle.cs_grammar.specs.Source.{IsSpelledBy}
-use Rattle.cs_grammar.specs.Tree.{Tree, DefinitionTree, definition, body, FileTree, file, definitions}
+use Rattle.cs_grammar.specs.Tree.{Tree, DefinitionTree, definition, body, FileTree, file, definitions, package_name}
 use Rattle.cs_grammar.specs.Spells.{Comma, inserted, long, SpellsDefinition, defined, SpellsDefinitions, no_definition, next_definition, SpellsPackage, no_clause, clause, spelled}
 use Rattle.cs_grammar.specs.DefaultForms.{IsDefault, IsDefaultFile}
 use Rattle.cs_grammar.specs.Written.{by_itself, IsWrittenDefinition, IsWrittenClause, IsWrittenFile}
 use Rattle.cs_print.specs.Printed.{unplaced_definition, unplaced_file, joined_file, first_clause, IsPrinted}
 use Rattle.cs_print.specs.Layout.{definition_text, definitions_text, clause_text, file_text}
+use Rattle.cs_print.specs.Sizes.{have_sizes}
 use Rattle.cs_print.specs.Texts.{HasTexts, FileHasTexts}
 use Rattle.cs_print.proofs.Fronts.{nothing, Front, Then, behind, read, Same, empty, One}
 use Rattle.cs_print.proofs.Tokens.{space_front, line_front, first_line_front, name_front, definition_front}
+use Rattle.cs_print.proofs.Sizeless.{IsSizeless, IsSizelessFile, file_sizeless, no_imports}
 use Rattle.cs_print.proofs.Trees.{At, tree_front, colon_text}
 
 -- a definition and the end of its line
@@ -39,9 +42,9 @@ definition_made s o e ws us k = record {
   same = rw k.2.2.1.same refl;
 }
 
-definition_line : (d : DefinitionTree) → IsWrittenDefinition d → IsDefault (body d) → HasTexts (body d) → Front nothing (definition_text d) Plain Plain (Defined d)
-definition_line (definition s o e) w d x = read (Defined (definition s o e)) (definition_made s o e)
-    (behind {xs = 35 ∷ s} (λ rest ok. refl) (definition_front s w.0) (behind {xs = codes ": "} (λ rest ok. tt) colon_text (behind {ys = codes "\n"} (λ rest ok. refl) (tree_front (codes "\n") refl Plain tt by_itself e w.1 d x) (line_front (codes "\n") refl))))
+definition_line : (names : Counted → List ℕ) (d : DefinitionTree) → IsWrittenDefinition d → IsDefault (body d) → HasTexts (body d) → IsSizeless (body d) → Front nothing (definition_text names d) Plain Plain (Defined d)
+definition_line names (definition s o e) w d x n = read (Defined (definition s o e)) (definition_made s o e)
+    (behind {xs = 35 ∷ s} (λ rest ok. refl) (definition_front s w.0) (behind {xs = codes ": "} (λ rest ok. tt) colon_text (behind {ys = codes "\n"} (λ rest ok. refl) (tree_front names (codes "\n") refl Plain tt by_itself e w.1 d x n) (line_front (codes "\n") refl))))
 
 -- ---- definitions
 
@@ -56,9 +59,9 @@ no_definitions ws us k = record { trees = []; spelled = rw k no_definition; same
 more_definitions : (d : DefinitionTree) (ds : List DefinitionTree) (ws us : Words) → Then (Defined d) (SpeltDefinitions ds) ws us → SpeltDefinitions (d ∷ ds) ws us
 more_definitions d ds ws us k = record { trees = k.1.tree ∷ k.2.trees; spelled = next_definition k.1.spelled k.1.comma k.2.spelled; same = rw (k.1.same, k.2.same) refl }
 
-definitions_front : (ds : List DefinitionTree) → AllByRecursion IsWrittenDefinition ds → AllByRecursion (λ d. IsDefault (body d)) ds → AllByRecursion (λ d. HasTexts (body d)) ds → Front nothing (definitions_text ds) Plain Plain (SpeltDefinitions ds)
-definitions_front [] w y x = read (SpeltDefinitions []) no_definitions empty
-definitions_front (d ∷ ds) w y x = read (SpeltDefinitions (d ∷ ds)) (more_definitions d ds) (behind (λ rest ok. tt) (definition_line d w.0 y.0 x.0) (definitions_front ds w.1 y.1 x.1))
+definitions_front : (names : Counted → List ℕ) (ds : List DefinitionTree) → AllByRecursion IsWrittenDefinition ds → AllByRecursion (λ d. IsDefault (body d)) ds → AllByRecursion (λ d. HasTexts (body d)) ds → AllByRecursion (λ d. IsSizeless (body d)) ds → Front nothing (definitions_text names ds) Plain Plain (SpeltDefinitions ds)
+definitions_front names [] w y x n = read (SpeltDefinitions []) no_definitions empty
+definitions_front names (d ∷ ds) w y x n = read (SpeltDefinitions (d ∷ ds)) (more_definitions d ds) (behind (λ rest ok. tt) (definition_line names d w.0 y.0 x.0 n.0) (definitions_front names ds w.1 y.1 x.1 n.1))
 
 -- ---- the package clause
 
@@ -75,15 +78,19 @@ clause_front (Some s) w = read (SpellsPackage (Some s)) (clause_made s)
 
 -- ---- the file
 
+-- the text of a file without imports
+abbrev plain_text : (Counted → List ℕ) → FileTree → List ℕ
+plain_text names f = clause_text (package_name f) ++ definitions_text names (definitions f)
+
 record SpeltFile (f : FileTree) (source : List ℕ) : Type 0 where
   pub tree : FileTree
   pub spelled : IsSpelledBy source tree
   pub same : unplaced_file tree ≡ unplaced_file f
 
-file_spelt : (f : FileTree) → IsWrittenFile f → IsDefaultFile f → FileHasTexts f → SpeltFile f (file_text f)
-file_spelt (file c ds ns) w d x =
-    let text : List ℕ = clause_text c ++ definitions_text ds in
-    let front = behind {b = nothing} (λ rest ok. tt) (clause_front c w.0) (definitions_front ds w.1 d x) in
+file_spelt : (names : Counted → List ℕ) (f : FileTree) → IsWrittenFile f → IsDefaultFile f → FileHasTexts f → IsSizelessFile f → SpeltFile f (plain_text names f)
+file_spelt names (file c ds ns) w d x n =
+    let text : List ℕ = clause_text c ++ definitions_text names ds in
+    let front = behind {b = nothing} (λ rest ok. tt) (clause_front c w.0) (definitions_front names ds w.1 d x n) in
     let o : ℕ = 0 + length text in
     let cut = front.before 0 [] (lexeme sorts.End [] o ∷ []) tt (finish {o = o} {l = Plain}) in
     record {
@@ -114,7 +121,11 @@ texts_joined : (fs : List FileTree) → AllByRecursion FileHasTexts fs → FileH
 texts_joined [] h = tt
 texts_joined (f ∷ fs) h = all_append (λ d. HasTexts (body d)) (definitions f) (flat_map definitions fs) h.0 (texts_joined fs h.1)
 
-pub printed : (fs : List FileTree) → AllByRecursion IsWrittenFile fs → AllByRecursion IsDefaultFile fs → AllByRecursion FileHasTexts fs → (source : List ℕ) → source ≡ file_text (joined_file fs) → IsPrinted source fs
-printed fs w d x source is =
-    let k = file_spelt (joined_file fs) (written_joined fs w) (default_joined fs d) (texts_joined fs x) in
-    subst (λ s. IsPrinted s fs) (sym is) (record { tree = k.tree; spelled = k.spelled; same = k.same })
+-- what is laid out and has no lengths
+pub printed : (fs : List FileTree) → AllByRecursion IsWrittenFile fs → AllByRecursion IsDefaultFile fs → AllByRecursion FileHasTexts fs → (source : List ℕ) (names : Counted → List ℕ) → source ≡ file_text names (joined_file fs)
+    → have_sizes fs ≡ false → IsPrinted source fs
+printed fs w d x source names is none =
+    let f : FileTree = joined_file fs in
+    let k = file_spelt names f (written_joined fs w) (default_joined fs d) (texts_joined fs x) (file_sizeless f none) in
+    let plain : file_text names f ≡ plain_text names f = ap (λ t. clause_text (package_name f) ++ (t ++ definitions_text names (definitions f))) (no_imports names f none) in
+    subst (λ s. IsPrinted s fs) (sym (is ∙ plain)) (record { tree = k.tree; spelled = k.spelled; same = k.same })

@@ -7,6 +7,7 @@ use Rattle.cs_grammar.specs.Limits.{most_height}
 use Rattle.cs_grammar.specs.Tree.{Tree, atom, named, reference, conjunction, disjunction, paren, struct, list, wide, Trees, none, more, Fields, no_field, field, End, closed, any, each, DefinitionTree, definition, definitions, names, FileTree}
 use Rattle.cs_grammar.specs.Height.{height, height_all, height_fields, height_end, height_definitions, height_names, file_height}
 use Rattle.cs_print.specs.Printed.{unplaced, unplaced_all, unplaced_fields, unplaced_end, unplaced_definition, IsPrinted, IsReadAs}
+use Rattle.cs_syntax.proofs.DefaultWords.{cut_narrow}
 use Rattle.cs_print.proofs.Deep.{nests_low}
 
 mutual
@@ -51,6 +52,6 @@ read_as source fs p low =
     let spelled = p.spelled.spelled in
     record {
       tree = p.tree;
-      spelled = record { tokens = p.spelled.tokens; cut = p.spelled.cut; nested = omega (arith, nests_low spelled, is, low); spelled = spelled; low = omega (arith, is, low) };
+      spelled = record { tokens = p.spelled.tokens; cut = p.spelled.cut; nested = omega (arith, nests_low spelled (cut_narrow p.spelled.cut), is, low); spelled = spelled; low = omega (arith, is, low) };
       same = p.same;
     }

@@ -1,5 +1,5 @@
--- What a source spells in a profile can be written down but for its names and selectors.
-use Rattle.std.proofs.Common.{◌≡◌, ℕ, ℤ, List, Bool, true, false, cond, Option, Some, None, codes, refl, sym, subst, ◌∙◌, inl, inr}
+-- What a source spells in a profile can be written down but for its names, selectors, calls and imports.
+use Rattle.std.proofs.Common.{◌≡◌, ℕ, ℤ, List, [], ◌∷◌, ◌++◌, Bool, true, false, cond, Option, Some, None, codes, refl, sym, subst, ◌∙◌, inl, inr}
 use Rattle.std.specs.Prelude.{◌⊎◌, FitsSigned}
 use Rattle.std.specs.Int.{w64}
 use Rattle.std.specs.Option.{option_map, unwrap_or}
@@ -10,10 +10,10 @@ use Rattle.cs_grammar.specs.declared.profile.Profile.{Profile}
 use Rattle.cs_grammar.specs.Atom as A
 use Rattle.cs_grammar.specs.Source.{IsSpelledByIn}
 use Rattle.cs_grammar.specs.Words.{Words}
-use Rattle.cs_grammar.specs.Tree.{Label, Selector, Test, Condition, Tree, atom, named, reference, conjunction, disjunction, paren, struct, list, wide, marked, merged, shut, selected, Declarations, no_declaration, declared, embedded, conditional, Trees, Fields, field, End, DefinitionTree, NameTree, FileTree}
-use Rattle.cs_grammar.specs.Spells.{is_null, is_reserved, literal_of, fields_alone, literal_if, Comma, explicit, inserted, ClosesParen, paren_here, paren_after, ClosesList, list_here, list_after, ClosesStruct, struct_here, struct_after, SpellsNumber, positive, negative, SpellsBound, limit_is, other_number, other_text, other_null, SpellsName, hashed, underscored, SpellsBase, name_base, field_base, SpellsSelector, by_name, by_label, by_text, SpellsSelectors, last_selector, next_selector, SpellsLabel, bare_label, quoted_label, SpellsMark, regular, optional, required, SpellsOpening, unopened, opened, SpellsScalar, scalar_name, scalar_number, scalar_text, SpellsTest, is_true, equal_to, unequal_to, is_absent, is_present, related, SpellsCondition, asked_is, denied_is, SpellsConditions, last_condition, next_condition, SpellsValue, long, short, SpellsField, labelled, every_key, SpellsExpr, one_branch, disjunction_is, SpellsBars, no_bar, a_bar, SpellsBranch, unmarked, marked_is, SpellsConj, one_operand, conjunction_is, SpellsAmps, no_amp, an_amp, SpellsOperand, top_is, bottom_is, reference_is, name_is, number_is, text_is, bound_is, paren_is, struct_is, list_is, call_paren_is, shut_is, local_is, selected_is, wide_struct_is, SpellsWideStruct, no_declarations, wide_dots_alone, some_declarations, SpellsDeclarations, a_field, an_embedding, a_name, a_let, a_conditional, SpellsMore, no_more, next_declaration, SpellsStruct, no_fields, dots_alone, fields, SpellsFields, no_more_fields, next_field, SpellsList, no_elements, rest_alone, elements, SpellsElements, no_more_elements, next_element, SpellsEnd, closed_is, rest_is, SpellsRest, any_is, each_is, SpellsDefinition, defined, SpellsDefinitions, no_definition, next_definition, SpellsFileName, field_name, local_name, bound_name, SpellsWideFile, no_line, definition_line, name_line, SpellsPackage, no_clause, clause, SpellsFile, spelled, wide_spelled}
-use Rattle.cs_grammar.specs.Written.{Place, by_itself, of_bar, of_amp, IsName, IsTextOrName, IsWrittenAtom, IsWrittenTest, IsWrittenCondition, IsWrittenClause}
-use Rattle.cs_grammar.specs.Namable.{IsScopeName, IsOperandName, IsLabelIn, IsNamableLabel, IsNamableSelector, IsNamable, AreNamableDeclarations, AreNamable, AreNamableFields, IsNamableEnd, IsNamableDefinition, IsNamableName, IsNamableFile}
+use Rattle.cs_grammar.specs.Tree.{Label, Selector, Test, Condition, Tree, atom, named, reference, conjunction, disjunction, paren, struct, list, wide, marked, merged, shut, selected, called, imported, Declarations, no_declaration, declared, embedded, conditional, Trees, Fields, field, End, DefinitionTree, NameTree, FileTree}
+use Rattle.cs_grammar.specs.Spells.{is_null, is_reserved, literal_of, fields_alone, literal_if, Comma, explicit, inserted, ClosesParen, paren_here, paren_after, ClosesList, list_here, list_after, ClosesStruct, struct_here, struct_after, SpellsNumber, positive, negative, SpellsBound, limit_is, other_number, other_text, other_null, SpellsName, hashed, underscored, SpellsBase, name_base, field_base, SpellsSelector, by_name, by_label, by_text, SpellsSelectors, last_selector, next_selector, SpellsLabel, bare_label, quoted_label, SpellsMark, regular, optional, required, SpellsOpening, unopened, opened, SpellsScalar, scalar_name, scalar_number, scalar_text, SpellsTest, is_true, equal_to, unequal_to, is_absent, is_present, related, SpellsCondition, asked_is, denied_is, SpellsConditions, last_condition, next_condition, SpellsValue, long, short, SpellsField, labelled, every_key, SpellsExpr, one_branch, disjunction_is, SpellsBars, no_bar, a_bar, SpellsBranch, unmarked, marked_is, SpellsConj, one_operand, conjunction_is, SpellsAmps, no_amp, an_amp, SpellsOperand, top_is, bottom_is, reference_is, name_is, number_is, text_is, bound_is, paren_is, struct_is, list_is, call_paren_is, shut_is, local_is, selected_is, called_is, SpellsArgument, argument_is, wide_struct_is, SpellsWideStruct, no_declarations, wide_dots_alone, some_declarations, SpellsDeclarations, a_field, an_embedding, a_name, a_let, a_conditional, SpellsMore, no_more, next_declaration, SpellsStruct, no_fields, dots_alone, fields, SpellsFields, no_more_fields, next_field, SpellsList, no_elements, rest_alone, elements, SpellsElements, no_more_elements, next_element, SpellsEnd, closed_is, rest_is, SpellsRest, any_is, each_is, SpellsDefinition, defined, SpellsDefinitions, no_definition, next_definition, SpellsFileName, field_name, local_name, bound_name, SpellsImportSpec, path_alone, named_path, SpellsImportSpecs, no_spec, last_spec, next_spec, SpellsImport, one_import, some_imports, SpellsImports, no_import, next_import, SpellsWideFile, no_line, definition_line, name_line, SpellsPackage, no_clause, clause, SpellsFile, spelled, wide_spelled}
+use Rattle.cs_grammar.specs.Written.{Place, by_itself, of_bar, of_amp, IsName, IsLength, IsTextOrName, IsWrittenAtom, IsWrittenTest, IsWrittenCondition, IsWrittenClause}
+use Rattle.cs_grammar.specs.Namable.{IsScopeName, IsOperandName, IsLabelIn, IsNamableLabel, IsNamableSelector, IsNamable, AreNamableDeclarations, AreNamable, AreNamableFields, IsNamableEnd, IsNamableDefinition, IsImportName, IsNamableName, IsNamableFile}
 use Rattle.cs_print.proofs.GoodWords.{AreGood, words_good}
 
 -- ---- what words spell
@@ -32,6 +32,8 @@ namable_anywhere p (wide (marked o e)) w = namable_anywhere p e w
 namable_anywhere p (wide (merged o ds b)) w = w
 namable_anywhere p (wide (shut o e)) w = w
 namable_anywhere p (wide (selected o s ls)) w = w
+namable_anywhere p (wide (called o s f z)) w = w
+namable_anywhere p (wide (imported o s)) w = w
 
 namable_itself : (t : Tree) → IsNamable of_bar t → IsNamable by_itself t
 namable_itself (atom a) w = w
@@ -46,6 +48,8 @@ namable_itself (wide (marked o e)) w = namable_itself e w
 namable_itself (wide (merged o ds b)) w = w
 namable_itself (wide (shut o e)) w = w
 namable_itself (wide (selected o s ls)) w = w
+namable_itself (wide (called o s f z)) w = w
+namable_itself (wide (imported o s)) w = w
 
 name_namable : (s : List ℕ) (p : ℕ) (e : Tree) → IsName s → is_reserved s ≡ false → e ≡ unwrap_or (literal_of s) (named s p) → IsNamable of_amp e
 name_namable s p e name free is = by (is_null s) (bytes_eq s (codes "true")) (bytes_eq s (codes "false")) refl refl refl
@@ -160,6 +164,9 @@ selectors_left (next_selector l ls) g =
     let b = selectors_left ls a.1 in
     ((a.0, b.0), b.1)
 
+argument_left : {z : ℤ} {ws us : Words} → SpellsArgument z ws us → AreGood ws → IsLength z × AreGood us
+argument_left (argument_is fits c) g = (fits, paren_left c g.1.1)
+
 -- ---- literals
 
 -- the fields of declarations, where each is a field
@@ -243,6 +250,7 @@ mutual
       let a = base_left b g in
       let l = selectors_left ls a.1 in
       ((a.0, l.0), l.1)
+  operand_left (called_is h a) g = let b = argument_left a g.1.1.1 in (((g.0, h.0.0, h.0.1), (refl, h.1), b.0), b.1)
   operand_left (wide_struct_is {p} {ds} {b} is k) g =
       let a = declarations_inside_left k g.1 in
       (subst (IsNamable of_amp) (sym is) (literal_namable p ds b (fields_alone ds) a.0 (namable_alone ds a.0)), a.1)
@@ -332,9 +340,9 @@ definitions_left (next_definition k c ks) g =
     ((a.0, b.0), b.1)
 
 file_name_left : {x : NameTree} {ws us : Words} → SpellsFileName x ws us → AreGood ws → IsNamableName x × AreGood us
-file_name_left (field_name is k) g = let v = value_left k g.1.1 in ((inl g.0, v.0), v.1)
-file_name_left (local_name k) g = let v = value_left k g.1.1 in ((inr g.0, v.0), v.1)
-file_name_left (bound_name is k) g = let v = expression_left k g.1.1.1 in ((g.1.0, v.0), v.1)
+file_name_left (field_name is k) g = let v = value_left k g.1.1 in (inl (inl g.0, v.0), v.1)
+file_name_left (local_name k) g = let v = value_left k g.1.1 in (inl (inr g.0, v.0), v.1)
+file_name_left (bound_name is k) g = let v = expression_left k g.1.1.1 in (inl (g.1.0, v.0), v.1)
 
 lines_left : {ds : List DefinitionTree} {xs : List NameTree} {ws us : Words} → SpellsWideFile ds xs ws us → AreGood ws → AllByRecursion IsNamableDefinition ds × AllByRecursion IsNamableName xs
 lines_left no_line g = (tt, tt)
@@ -347,13 +355,46 @@ lines_left (name_line k c ks) g =
     let b = lines_left ks (comma_left c a.1) in
     (b.0, (a.0, b.1))
 
+-- ---- imports
+
+all_append : {A : Type 0} (P : A → Type 0) (xs ys : List A) → AllByRecursion P xs → AllByRecursion P ys → AllByRecursion P (xs ++ ys)
+all_append P [] ys h k = k
+all_append P (x ∷ xs) ys h k = (h.0, all_append P xs ys h.1 k)
+
+spec_left : {o : ℕ} {x : NameTree} {ws us : Words} → SpellsImportSpec o x ws us → AreGood ws → IsImportName x × AreGood us
+spec_left (path_alone {s} {o} {p}) g = ((p, s, refl, refl, inr refl), g.1)
+spec_left (named_path {s} {path} {o} {p}) g = ((p, path, refl, refl, inl g.0), g.1.1)
+
+specs_left : {xs : List NameTree} {ws us : Words} → SpellsImportSpecs xs ws us → AreGood ws → AllByRecursion IsNamableName xs × AreGood us
+specs_left no_spec g = (tt, g.1)
+specs_left (last_spec at k) g = let a = spec_left k g in ((inr a.0, tt), a.1.1)
+specs_left (next_spec at k c ks) g =
+    let a = spec_left k g in
+    let b = specs_left ks (comma_left c a.1) in
+    ((inr a.0, b.0), b.1)
+
+import_left : {xs : List NameTree} {ws us : Words} → SpellsImport xs ws us → AreGood ws → AllByRecursion IsNamableName xs × AreGood us
+import_left (one_import is k) g = let a = spec_left k g.1 in ((inr a.0, tt), a.1)
+import_left (some_imports is ks) g = specs_left ks g.1.1
+
+imports_left : {xs : List NameTree} {ws us : Words} → SpellsImports xs ws us → AreGood ws → AllByRecursion IsNamableName xs × AreGood us
+imports_left no_import g = (tt, g)
+imports_left (next_import {ks} {ns} {ms} is k c more) g =
+    let a = import_left k g in
+    let b = imports_left more (comma_left c a.1) in
+    (subst (λ xs. AllByRecursion IsNamableName xs) (sym is) (all_append IsNamableName ns ms a.0 b.0), b.1)
+
 clause_left : {c : Option (List ℕ)} {ws us : Words} → SpellsPackage c ws us → AreGood ws → IsWrittenClause c × AreGood us
 clause_left no_clause g = (tt, g)
 clause_left (clause is c) g = (g.1.0, comma_left c g.1.1)
 
 file_namable : {f : FileTree} {ws : Words} → SpellsFile f ws → AreGood ws → IsNamableFile f
 file_namable (spelled k ks) g = let c = clause_left k g in (c.0, (definitions_left ks c.1).0, tt)
-file_namable (wide_spelled k ks) g = let c = clause_left k g in let x = lines_left ks c.1 in (c.0, x.0, x.1)
+file_namable (wide_spelled {ks} {ms} is k i l) g =
+    let c = clause_left k g in
+    let a = imports_left i c.1 in
+    let x = lines_left l a.1 in
+    (c.0, x.0, subst (λ ns. AllByRecursion IsNamableName ns) (sym is) (all_append IsNamableName ms ks a.0 x.1))
 
 pub namable : (p : Profile) (source : List ℕ) (f : FileTree) → IsSpelledByIn p source f → IsNamableFile f
 namable p source f k = file_namable k.spelled (words_good p k.cut)

@@ -11,10 +11,10 @@ use Rattle.cs_grammar.specs.Atom as A
 use Rattle.cs_grammar.specs.Source.{IsSpelledBy}
 use Rattle.cs_grammar.specs.TokenWords.{words}
 use Rattle.cs_grammar.specs.Words.{Word, Words}
-use Rattle.cs_grammar.specs.Tree.{Label, Selector, Tree, atom, named, reference, conjunction, disjunction, paren, struct, list, wide, marked, merged, shut, selected, Trees, Fields, End, DefinitionTree, NameTree, FileTree}
-use Rattle.cs_grammar.specs.Spells.{is_null, is_reserved, literal_of, Comma, explicit, inserted, ClosesParen, paren_here, paren_after, ClosesList, list_here, list_after, ClosesStruct, struct_here, struct_after, SpellsNumber, positive, negative, SpellsBound, limit_is, other_number, other_text, other_null, SpellsBase, SpellsSelector, by_name, by_label, by_text, SpellsSelectors, last_selector, next_selector, SpellsLabel, bare_label, quoted_label, SpellsMark, regular, optional, required, SpellsOpening, unopened, opened, SpellsValue, long, short, SpellsField, labelled, every_key, SpellsExpr, one_branch, disjunction_is, SpellsBars, no_bar, a_bar, SpellsBranch, unmarked, marked_is, SpellsConj, one_operand, conjunction_is, SpellsAmps, no_amp, an_amp, SpellsOperand, top_is, bottom_is, reference_is, name_is, number_is, text_is, bound_is, paren_is, struct_is, list_is, call_paren_is, shut_is, local_is, selected_is, wide_struct_is, SpellsStruct, no_fields, dots_alone, fields, SpellsFields, no_more_fields, next_field, SpellsList, no_elements, rest_alone, elements, SpellsElements, no_more_elements, next_element, SpellsEnd, closed_is, rest_is, SpellsRest, any_is, each_is, SpellsDefinition, defined, SpellsDefinitions, no_definition, next_definition, SpellsWideFile, SpellsPackage, no_clause, clause, SpellsFile, spelled, wide_spelled}
+use Rattle.cs_grammar.specs.Tree.{Label, Selector, Tree, atom, named, reference, conjunction, disjunction, paren, struct, list, wide, marked, merged, shut, selected, called, imported, Trees, Fields, End, DefinitionTree, FileTree}
+use Rattle.cs_grammar.specs.Spells.{is_null, is_reserved, literal_of, Comma, explicit, inserted, ClosesParen, paren_here, paren_after, ClosesList, list_here, list_after, ClosesStruct, struct_here, struct_after, SpellsNumber, positive, negative, SpellsBound, limit_is, other_number, other_text, other_null, SpellsBase, SpellsSelector, by_name, by_label, by_text, SpellsSelectors, last_selector, next_selector, SpellsLabel, bare_label, quoted_label, SpellsMark, regular, optional, required, SpellsOpening, unopened, opened, SpellsValue, long, short, SpellsField, labelled, every_key, SpellsExpr, one_branch, disjunction_is, SpellsBars, no_bar, a_bar, SpellsBranch, unmarked, marked_is, SpellsConj, one_operand, conjunction_is, SpellsAmps, no_amp, an_amp, SpellsOperand, top_is, bottom_is, reference_is, name_is, number_is, text_is, bound_is, paren_is, struct_is, list_is, call_paren_is, shut_is, local_is, selected_is, called_is, wide_struct_is, SpellsStruct, no_fields, dots_alone, fields, SpellsFields, no_more_fields, next_field, SpellsList, no_elements, rest_alone, elements, SpellsElements, no_more_elements, next_element, SpellsEnd, closed_is, rest_is, SpellsRest, any_is, each_is, SpellsDefinition, defined, SpellsDefinitions, no_definition, next_definition, SpellsPackage, no_clause, clause, SpellsFile, spelled, wide_spelled}
 use Rattle.cs_grammar.specs.Written.{Place, by_itself, of_bar, of_amp, IsName, IsTextOrName, IsWrittenLabel, IsWritten, AreWritten, AreWrittenFields, IsWrittenEnd, IsWrittenDefinition, IsWrittenClause, IsWrittenFile}
-use Rattle.cs_grammar.proofs.Rests.{IsRest, whole, behind, of_base, of_wide_file}
+use Rattle.cs_grammar.proofs.Rests.{IsRest, whole, behind, of_base, of_wide_file, of_imports}
 use Rattle.cs_syntax.proofs.DefaultWords.{Narrow, cut_narrow}
 use Rattle.cs_print.proofs.GoodWords.{Good, AreGood, words_good}
 
@@ -52,6 +52,8 @@ written_anywhere p (wide (marked o e)) w = written_anywhere p e w
 written_anywhere p (wide (merged o ds b)) w = w
 written_anywhere p (wide (shut o e)) w = w
 written_anywhere p (wide (selected o s ls)) w = w
+written_anywhere p (wide (called o s f z)) w = w
+written_anywhere p (wide (imported o s)) w = w
 
 written_itself : (t : Tree) → IsWritten of_bar t → IsWritten by_itself t
 written_itself (atom a) w = w
@@ -66,6 +68,8 @@ written_itself (wide (marked o e)) w = written_itself e w
 written_itself (wide (merged o ds b)) w = w
 written_itself (wide (shut o e)) w = w
 written_itself (wide (selected o s ls)) w = w
+written_itself (wide (called o s f z)) w = w
+written_itself (wide (imported o s)) w = w
 
 name_written : (s : List ℕ) (p : ℕ) (e : Tree) → IsName s → is_reserved s ≡ false → e ≡ unwrap_or (literal_of s) (named s p) → IsWritten of_amp e
 name_written s p e name free is = by (is_null s) (bytes_eq s (codes "true")) (bytes_eq s (codes "false")) refl refl refl
@@ -196,6 +200,7 @@ mutual
   operand_left (shut_is s k c) g = let never : true ≡ false = g.1.0.narrow.0 in absurd cc
   operand_left local_is g = let never : true ≡ false = g.0.narrow.0 in absurd cc
   operand_left (selected_is at b ls) g = absurd (no_selectors ls (base_left b g))
+  operand_left (called_is is a) g = let never : true ≡ false = g.1.0.narrow.0 in absurd cc
   operand_left (wide_struct_is is k) g = let never : true ≡ false = g.0.narrow.0 in absurd cc
 
   struct_fields_left : {fs : Fields} {b : Bool} {ws us : Words} → SpellsStruct fs b ws us → ArePlain ws → AreWrittenFields fs × ArePlain us
@@ -253,12 +258,9 @@ clause_left : {c : Option (List ℕ)} {ws us : Words} → SpellsPackage c ws us 
 clause_left no_clause g = (tt, g)
 clause_left (clause is c) g = (g.1.0.good, comma_left c g.1.1)
 
-wide_file_left : {ds : List DefinitionTree} {xs : List NameTree} {ws us : Words} → SpellsWideFile ds xs ws us → ArePlain ws → ArePlain us
-wide_file_left ls g = left_plain (of_wide_file ls) g
-
 file_written : {f : FileTree} {ws : Words} → SpellsFile f ws → ArePlain ws → IsWrittenFile f
 file_written (spelled k ks) g = let c = clause_left k g in (c.0, (definitions_left ks c.1).0, refl)
-file_written (wide_spelled k ks) g = let never : true ≡ false = (wide_file_left ks (clause_left k g).1).0.narrow.0 in absurd cc
+file_written (wide_spelled is k ms ks) g = let never : true ≡ false = (left_plain (of_wide_file ks) (left_plain (of_imports ms) (clause_left k g).1)).0.narrow.0 in absurd cc
 
 pub written : (source : List ℕ) (f : FileTree) → IsSpelledBy source f → IsWrittenFile f
 written source f k = file_written k.spelled (both_plain (words k.tokens) (words_good profiles.Default k.cut) (cut_narrow k.cut))

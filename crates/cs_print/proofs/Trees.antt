@@ -6,6 +6,7 @@ use Rattle.std.specs.Int.{w64}
 use Rattle.std.specs.Prelude.{FitsSigned, IsUtf8, ◌==◌}
 use Rattle.std.specs.List.{list_all}
 use Rattle.cs_place.specs.Shown.{quoted}
+use Rattle.cs_grammar.specs.declared.ast.Counted.{Counted}
 use Rattle.cs_grammar.specs.declared.ast.FieldMark.{FieldMark}
 use Rattle.cs_grammar.specs.declared.ast.FieldMark.TheVariants.{Regular, Optional, Required, Every}
 use Rattle.cs_grammar.specs.declared.line.LineState.{LineState}
@@ -25,6 +26,7 @@ use Rattle.cs_print.proofs.Fronts.{nothing, a_plain, a_stop, Follows, Front, The
 use Rattle.cs_print.proofs.Tokens.{open_struct_front, close_struct_front, open_list_front, close_list_front, open_paren_front, close_paren_front, comma_front, colon_front, question_front, dots_front, unequal_front, bang_front, amp_front, bar_front, less_front, more_front, at_most_front, at_least_front, space_front, is_line, line_front, first_line_front, name_front, definition_front, top_front, bottom_front}
 use Rattle.cs_print.proofs.Integers.{IsNoMinus, integer_front, integer_plain}
 use Rattle.cs_print.proofs.Quoted.{quoted_front}
+use Rattle.cs_print.proofs.Sizeless.{IsSizelessAtom, IsSizeless, AreSizeless, FieldsAreSizeless, IsSizelessEnd}
 
 -- the words spell what is t apart from offsets
 pub record Spelt {T : Type 0} (unplaced : T → T) (S : T → Words → Words → Type 0) (t : T) (ws us : Words) : Type 0 where
@@ -66,18 +68,19 @@ relation_front {l} A.at_most z fits = behind (λ rest ok. tt) at_most_front (lim
 relation_front {l} A.more z fits = behind (λ rest ok. limit_plain z fits rest) more_front (limit_front z fits)
 relation_front {l} A.at_least z fits = behind (λ rest ok. tt) at_least_front (limit_front z fits)
 
-atom_front : (l : LineState) → IsNoMinus l → (p : Place) (a : Atom) → IsWrittenAtom a → HasText a → Front a_stop (atom_text a) l WantsComma (At p (atom a))
-atom_front l u p A.top w h = read (At p (atom A.top)) (λ ws us k. itself p _ ws us (rw k.1 top_is)) top_front
-atom_front l u p A.bottom w h = read (At p (atom A.bottom)) (λ ws us k. itself p _ ws us (rw k.1 bottom_is)) (asked bottom_front)
-atom_front l u p A.null w h = read (At p (atom A.null)) (λ ws us k. itself p _ ws us (rw k.1 (name_is refl refl))) (name_front (codes "null") refl)
-atom_front l u p (A.boolean true) w h = read (At p (atom (A.boolean true))) (λ ws us k. itself p _ ws us (rw k.1 (name_is refl refl))) (name_front (codes "true") refl)
-atom_front l u p (A.boolean false) w h = read (At p (atom (A.boolean false))) (λ ws us k. itself p _ ws us (rw k.1 (name_is refl refl))) (name_front (codes "false") refl)
-atom_front l u p (A.integer z) w h = read (At p (atom (A.integer z))) (λ ws us k. itself p _ ws us (number_is k)) (integer_front l u z w)
-atom_front l u p (A.text s) w h = read (At p (atom (A.text s))) (λ ws us k. itself p _ ws us (rw k.1 text_is)) (quoted_front s h)
-atom_front l u p (A.bound r z) w h = read (At p (atom (A.bound r z))) (λ ws us k. itself p _ ws us (rw k.1.1 (bound_is (limit_is k.2)))) (relation_front r z w)
-atom_front l u p (A.not_integer z) w h = read (At p (atom (A.not_integer z))) (λ ws us k. itself p _ ws us (rw k.1.1 (bound_is (other_number k.2)))) (behind {xs = 33 ∷ 61 ∷ []} (λ rest ok. tt) unequal_front (integer_front Plain tt z w))
-atom_front l u p (A.not_text s) w h = read (At p (atom (A.not_text s))) (λ ws us k. itself p _ ws us (rw (k.1.1, k.2.1) (bound_is other_text))) (behind {xs = 33 ∷ 61 ∷ []} (λ rest ok. tt) unequal_front (quoted_front s h))
-atom_front l u p A.not_null w h = read (At p (atom A.not_null)) (λ ws us k. itself p _ ws us (rw (k.1.1, k.2.1) (bound_is (other_null refl)))) (behind {xs = 33 ∷ 61 ∷ []} (λ rest ok. tt) unequal_front (name_front (codes "null") refl))
+atom_front : (names : Counted → List ℕ) → (l : LineState) → IsNoMinus l → (p : Place) (a : Atom) → IsWrittenAtom a → HasText a → IsSizelessAtom a → Front a_stop (atom_text names a) l WantsComma (At p (atom a))
+atom_front names l u p A.top w h n = read (At p (atom A.top)) (λ ws us k. itself p _ ws us (rw k.1 top_is)) top_front
+atom_front names l u p A.bottom w h n = read (At p (atom A.bottom)) (λ ws us k. itself p _ ws us (rw k.1 bottom_is)) (asked bottom_front)
+atom_front names l u p A.null w h n = read (At p (atom A.null)) (λ ws us k. itself p _ ws us (rw k.1 (name_is refl refl))) (name_front (codes "null") refl)
+atom_front names l u p (A.boolean true) w h n = read (At p (atom (A.boolean true))) (λ ws us k. itself p _ ws us (rw k.1 (name_is refl refl))) (name_front (codes "true") refl)
+atom_front names l u p (A.boolean false) w h n = read (At p (atom (A.boolean false))) (λ ws us k. itself p _ ws us (rw k.1 (name_is refl refl))) (name_front (codes "false") refl)
+atom_front names l u p (A.integer z) w h n = read (At p (atom (A.integer z))) (λ ws us k. itself p _ ws us (number_is k)) (integer_front l u z w)
+atom_front names l u p (A.text s) w h n = read (At p (atom (A.text s))) (λ ws us k. itself p _ ws us (rw k.1 text_is)) (quoted_front s h)
+atom_front names l u p (A.bound r z) w h n = read (At p (atom (A.bound r z))) (λ ws us k. itself p _ ws us (rw k.1.1 (bound_is (limit_is k.2)))) (relation_front r z w)
+atom_front names l u p (A.not_integer z) w h n = read (At p (atom (A.not_integer z))) (λ ws us k. itself p _ ws us (rw k.1.1 (bound_is (other_number k.2)))) (behind {xs = 33 ∷ 61 ∷ []} (λ rest ok. tt) unequal_front (integer_front Plain tt z w))
+atom_front names l u p (A.not_text s) w h n = read (At p (atom (A.not_text s))) (λ ws us k. itself p _ ws us (rw (k.1.1, k.2.1) (bound_is other_text))) (behind {xs = 33 ∷ 61 ∷ []} (λ rest ok. tt) unequal_front (quoted_front s h))
+atom_front names l u p (A.size c b z) w h n = absurd n
+atom_front names l u p A.not_null w h n = read (At p (atom A.not_null)) (λ ws us k. itself p _ ws us (rw (k.1.1, k.2.1) (bound_is (other_null refl)))) (behind {xs = 33 ∷ 61 ∷ []} (λ rest ok. tt) unequal_front (name_front (codes "null") refl))
 
 named_front : {l : LineState} (p : Place) (s : List ℕ) (o : ℕ) → IsName s → is_reserved s ≡ false → literal_of s ≡ None → Front a_stop s l WantsComma (At p (named s o))
 named_front {l} p s o name free other = read (At p (named s o)) (λ ws us k. anywhere p _ ws us (record { tree = named s k.0; spelled = rw k.1 (name_is {s = s} {e = named s k.0} {p = k.0} free (rw other refl)); same = refl })) (name_front s name)
@@ -101,9 +104,9 @@ comma_between = read (One W.comma) (λ ws us k. (k.1.0, rw k.1.1 (rw k.2 refl)))
     (behind {xs = 44 ∷ []} {ys = 32 ∷ []} (λ rest ok. tt) comma_front (space_front 32 refl))
 
 -- what is behind an operand ends it
-parts_stop : (line between : List ℕ) → ((rest : List ℕ) → Follows a_stop (between ++ rest)) → (es : Trees) → Links a_stop a_stop (behind_text line between es)
-parts_stop line between stop none rest ok = ok
-parts_stop line between stop (more e es) rest ok = subst (Follows a_stop) (sym (append_assoc between (tree_text line e ++ behind_text line between es) rest)) (stop ((tree_text line e ++ behind_text line between es) ++ rest))
+parts_stop : (names : Counted → List ℕ) → (line between : List ℕ) → ((rest : List ℕ) → Follows a_stop (between ++ rest)) → (es : Trees) → Links a_stop a_stop (behind_text names line between es)
+parts_stop names line between stop none rest ok = ok
+parts_stop names line between stop (more e es) rest ok = subst (Follows a_stop) (sym (append_assoc between (tree_text names line e ++ behind_text names line between es) rest)) (stop ((tree_text names line e ++ behind_text names line between es) ++ rest))
 
 no_amps : (ws us : Words) → Same ws us → Spelt unplaced_all SpellsAmps none ws us
 no_amps ws us k = record { tree = none; spelled = rw k no_amp; same = refl }
@@ -207,9 +210,9 @@ inner_line (x ∷ xs) h = let p = and_parts (x == 10) (list_all (λ y. y == 9) x
     tabs [] k = refl
     tabs (y ∷ ys) k = let q = and_parts (y == 9) (list_all (λ z. z == 9) ys) k in rw (q.0, tabs ys q.1) refl
 
-lines_stop : (line : List ℕ) → is_line line ≡ true → (fs : Fields) → Links a_stop a_stop (lines_text line fs)
-lines_stop line h no_field rest ok = ok
-lines_stop line h (field l m e fs) rest ok = subst (Follows a_stop) (sym (append_assoc line (head_text l.text l.quotes m ++ (tree_text line e ++ lines_text line fs)) rest)) (line_stop line h ((head_text l.text l.quotes m ++ (tree_text line e ++ lines_text line fs)) ++ rest))
+lines_stop : (names : Counted → List ℕ) → (line : List ℕ) → is_line line ≡ true → (fs : Fields) → Links a_stop a_stop (lines_text names line fs)
+lines_stop names line h no_field rest ok = ok
+lines_stop names line h (field l m e fs) rest ok = subst (Follows a_stop) (sym (append_assoc line (head_text l.text l.quotes m ++ (tree_text names line e ++ lines_text names line fs)) rest)) (line_stop line h ((head_text l.text l.quotes m ++ (tree_text names line e ++ lines_text names line fs)) ++ rest))
 
 -- the words of a field behind its line
 record SpeltField (l : Label) (m : FieldMark) (e : Tree) (ws us : Words) : Type 0 where
@@ -261,12 +264,12 @@ fields_made l m e fs b ws us k =
     let f = field_made l m e k.0 k.2.2.0 (k.2.0, k.2.1, k.2.2.1) in
     record { tree = field l f.mark f.tree k.2.2.2.1.tree; spelled = rw k.1 (fields f.spelled k.2.2.2.1.spelled k.2.2.2.2); same = rw (f.same_mark, f.same, k.2.2.2.1.same) refl }
 
-first_field : (line : List ℕ) → is_line line ≡ true → (b : Bool) (l : Label) (m : FieldMark) (e : Tree) (fs : Fields) → IsWrittenLabel l m → l.asked ≡ false → IsUtf8 l.text
-    → Front a_stop (tree_text (inner line) e) Plain WantsComma (At by_itself e) → Front a_stop (lines_text (inner line) fs) WantsComma WantsComma (Spelt unplaced_fields SpellsFields fs)
-    → Front nothing (lines_text (inner line) (field l m e fs) ++ closing_text line b false) Plain WantsComma (Then Same (Then (Headed l m) (Then (At by_itself e) (Then (Spelt unplaced_fields SpellsFields fs) (SpellsOpening b)))))
-first_field line h b l m e fs w a x f g = read (Then Same (Then (Headed l m) (Then (At by_itself e) (Then (Spelt unplaced_fields SpellsFields fs) (SpellsOpening b)))))
+first_field : (names : Counted → List ℕ) → (line : List ℕ) → is_line line ≡ true → (b : Bool) (l : Label) (m : FieldMark) (e : Tree) (fs : Fields) → IsWrittenLabel l m → l.asked ≡ false → IsUtf8 l.text
+    → Front a_stop (tree_text names (inner line) e) Plain WantsComma (At by_itself e) → Front a_stop (lines_text names (inner line) fs) WantsComma WantsComma (Spelt unplaced_fields SpellsFields fs)
+    → Front nothing (lines_text names (inner line) (field l m e fs) ++ closing_text line b false) Plain WantsComma (Then Same (Then (Headed l m) (Then (At by_itself e) (Then (Spelt unplaced_fields SpellsFields fs) (SpellsOpening b)))))
+first_field names line h b l m e fs w a x f g = read (Then Same (Then (Headed l m) (Then (At by_itself e) (Then (Spelt unplaced_fields SpellsFields fs) (SpellsOpening b)))))
     (λ ws us k. (k.1.0, k.1.1, (k.1.2.0, k.1.2.1, (k.1.2.2.0, k.1.2.2.1, (k.0, k.1.2.2.2, k.2)))))
-    (behind (closing_stop line h b l m e fs) (behind (λ rest ok. tt) (first_line_front (inner line) (inner_line line h)) (behind (λ rest ok. tt) (head_front l m w a x) (behind (lines_stop (inner line) (inner_line line h) fs) f g))) (closing_front line h b l m e fs))
+    (behind (closing_stop line h b l m e fs) (behind (λ rest ok. tt) (first_line_front (inner line) (inner_line line h)) (behind (λ rest ok. tt) (head_front l m w a x) (behind (lines_stop names (inner line) (inner_line line h) fs) f g))) (closing_front line h b l m e fs))
 
 struct_made : (p : Place) (o : ℕ) (fs : Fields) (b : Bool) (ws us : Words) → Then (One W.open_struct) (SpeltStruct fs b) ws us → At p (struct o fs b) ws us
 unfolding SpeltStruct
@@ -293,44 +296,44 @@ closes_list o us ws e = rw e list_here
 any_text : Front nothing (codes "...]") Plain WantsComma (Then (One W.dots) (One W.close_list))
 any_text = behind {xs = codes "..."} {ys = codes "]"} (λ rest ok. tt) dots_front close_list_front
 
-each_text : (line : List ℕ) (e : Tree) → Front a_stop (tree_text line e) WantsComma WantsComma (At by_itself e) → Front nothing (codes "..." ++ (tree_text line e ++ codes "]")) Plain WantsComma (Then (One W.dots) (Then (At by_itself e) (One W.close_list)))
-each_text line e f = behind {xs = codes "..."} (λ rest ok. tt) dots_front (behind {ys = codes "]"} (λ rest ok. refl) f close_list_front)
+each_text : (names : Counted → List ℕ) → (line : List ℕ) (e : Tree) → Front a_stop (tree_text names line e) WantsComma WantsComma (At by_itself e) → Front nothing (codes "..." ++ (tree_text names line e ++ codes "]")) Plain WantsComma (Then (One W.dots) (Then (At by_itself e) (One W.close_list)))
+each_text names line e f = behind {xs = codes "..."} (λ rest ok. tt) dots_front (behind {ys = codes "]"} (λ rest ok. refl) f close_list_front)
 
 -- the ends of a list with no element and of one with elements
-record EndFronts (line : List ℕ) (end : End) : Type 0 where
-  pub first : Front nothing (end_text line [] end) Plain WantsComma (first_end end)
-  pub later : Front nothing (end_text line (codes ", ") end) WantsComma WantsComma (later_end end)
+record EndFronts (names : Counted → List ℕ) (line : List ℕ) (end : End) : Type 0 where
+  pub first : Front nothing (end_text names line [] end) Plain WantsComma (first_end end)
+  pub later : Front nothing (end_text names line (codes ", ") end) WantsComma WantsComma (later_end end)
 
-closed_fronts : (line : List ℕ) → EndFronts line closed
+closed_fronts : (names : Counted → List ℕ) → (line : List ℕ) → EndFronts names line closed
 unfolding first_end later_end
-closed_fronts line = record {
+closed_fronts names line = record {
   first = read (first_end closed) (λ ws us k. record { tree = closed; spelled = rw k.1 no_elements; same = refl }) close_list_front;
   later = read (later_end closed) (λ ws us k. record { tree = closed; spelled = closed_is (closes_list k.0 us ws k.1); same = refl }) close_list_front;
 }
 
-any_fronts : (line : List ℕ) → EndFronts line any
+any_fronts : (names : Counted → List ℕ) → (line : List ℕ) → EndFronts names line any
 unfolding first_end later_end
-any_fronts line = record {
+any_fronts names line = record {
   first = read (first_end any) (λ ws us k. record { tree = any; spelled = rw k.1.1 (rest_alone (any_is (closes_list k.2.0 us k.0 k.2.1))); same = refl }) any_text;
   later = read (later_end any) (λ ws us k. record { tree = any; spelled = rw (k.1.1, k.2.1.1) (rest_is (any_is (closes_list k.2.2.0 us k.2.0 k.2.2.1))); same = refl }) (behind {xs = codes ", "} {ys = codes "...]"} (λ rest ok. tt) comma_between any_text);
 }
 
-each_fronts : (line : List ℕ) (e : Tree) → Front a_stop (tree_text line e) WantsComma WantsComma (At by_itself e) → EndFronts line (each e)
+each_fronts : (names : Counted → List ℕ) → (line : List ℕ) (e : Tree) → Front a_stop (tree_text names line e) WantsComma WantsComma (At by_itself e) → EndFronts names line (each e)
 unfolding first_end later_end
-each_fronts line e f = record {
-  first = read (first_end (each e)) (λ ws us k. record { tree = each k.2.1.tree; spelled = rw k.1.1 (rest_alone (each_is k.2.1.spelled (closes_list k.2.2.0 us k.2.0 k.2.2.1))); same = rw k.2.1.same refl }) (each_text line e f);
-  later = read (later_end (each e)) (λ ws us k. record { tree = each k.2.2.1.tree; spelled = rw (k.1.1, k.2.1.1) (rest_is (each_is k.2.2.1.spelled (closes_list k.2.2.2.0 us k.2.2.0 k.2.2.2.1))); same = rw k.2.2.1.same refl }) (behind {xs = codes ", "} (λ rest ok. tt) comma_between (each_text line e f));
+each_fronts names line e f = record {
+  first = read (first_end (each e)) (λ ws us k. record { tree = each k.2.1.tree; spelled = rw k.1.1 (rest_alone (each_is k.2.1.spelled (closes_list k.2.2.0 us k.2.0 k.2.2.1))); same = rw k.2.1.same refl }) (each_text names line e f);
+  later = read (later_end (each e)) (λ ws us k. record { tree = each k.2.2.1.tree; spelled = rw (k.1.1, k.2.1.1) (rest_is (each_is k.2.2.1.spelled (closes_list k.2.2.2.0 us k.2.2.0 k.2.2.2.1))); same = rw k.2.2.1.same refl }) (behind {xs = codes ", "} (λ rest ok. tt) comma_between (each_text names line e f));
 }
 
 -- the elements of a list, where it has some
-abbrev ElementsFront : List ℕ → Trees → Type 0
-ElementsFront line none = Unit {0}
-ElementsFront line (more e es) = Front a_stop (parted_text line (codes ", ") (more e es)) Plain WantsComma (Then (At by_itself e) (Spelt unplaced_all SpellsElements es))
+abbrev ElementsFront : (names : Counted → List ℕ) → List ℕ → Trees → Type 0
+ElementsFront names line none = Unit {0}
+ElementsFront names line (more e es) = Front a_stop (parted_text names line (codes ", ") (more e es)) Plain WantsComma (Then (At by_itself e) (Spelt unplaced_all SpellsElements es))
 
-later_stop : (line : List ℕ) (end : End) → Links a_stop nothing (end_text line (codes ", ") end)
-later_stop line closed rest ok = refl
-later_stop line any rest ok = refl
-later_stop line (each e) rest ok = refl
+later_stop : (names : Counted → List ℕ) → (line : List ℕ) (end : End) → Links a_stop nothing (end_text names line (codes ", ") end)
+later_stop names line closed rest ok = refl
+later_stop names line any rest ok = refl
+later_stop names line (each e) rest ok = refl
 
 list_made : (p : Place) (e : Tree) (es : Trees) (end : End) (ws us : Words) → Then (One W.open_list) (Then (Then (At by_itself e) (Spelt unplaced_all SpellsElements es)) (later_end end)) ws us → At p (list (more e es) end) ws us
 unfolding later_end
@@ -343,57 +346,57 @@ no_list_made : (p : Place) (end : End) (ws us : Words) → Then (One W.open_list
 unfolding first_end
 no_list_made p end ws us k = anywhere p (list none end) ws us (record { tree = list none k.2.tree; spelled = rw k.1.1 (list_is k.2.spelled); same = rw k.2.same refl })
 
-list_front : (l : LineState) (line : List ℕ) (p : Place) (es : Trees) (end : End) → ElementsFront line es → EndFronts line end → Front nothing (tree_text line (list es end)) l WantsComma (At p (list es end))
-list_front l line p none end es ends = read (At p (list none end)) (no_list_made p end) (behind {xs = codes "["} (λ rest ok. tt) open_list_front ends.first)
-list_front l line p (more e es) end f ends = read (At p (list (more e es) end)) (list_made p e es end) (behind {xs = codes "["} (λ rest ok. tt) open_list_front (behind (later_stop line end) f ends.later))
+list_front : (names : Counted → List ℕ) → (l : LineState) (line : List ℕ) (p : Place) (es : Trees) (end : End) → ElementsFront names line es → EndFronts names line end → Front nothing (tree_text names line (list es end)) l WantsComma (At p (list es end))
+list_front names l line p none end es ends = read (At p (list none end)) (no_list_made p end) (behind {xs = codes "["} (λ rest ok. tt) open_list_front ends.first)
+list_front names l line p (more e es) end f ends = read (At p (list (more e es) end)) (list_made p e es end) (behind {xs = codes "["} (λ rest ok. tt) open_list_front (behind (later_stop names line end) f ends.later))
 
 -- ---- trees
 
 mutual
-  pub tree_front : (line : List ℕ) → is_line line ≡ true → (l : LineState) → IsNoMinus l → (p : Place) (t : Tree) → IsWritten p t → IsDefault t → HasTexts t → Front a_stop (tree_text line t) l WantsComma (At p t)
-  tree_front line h l u p (atom a) w d x = atom_front l u p a w x
-  tree_front line h l u p (named s o) w d x = named_front p s o w.0 w.1 w.2
-  tree_front line h l u p (reference s o) w d x = reference_front p s o w
-  tree_front line h l u p (conjunction es) w d x = amps_front line h l u p w.0 es w.1 w.2 d x
-  tree_front line h l u p (disjunction es) w d x = bars_front line h l u p w.0 es w.1 w.2 d x
-  tree_front line h l u p (paren e) w d x = asked (read (At p (paren e)) (paren_made p e) (behind {xs = codes "("} (λ rest ok. tt) open_paren_front (behind {ys = codes ")"} (λ rest ok. refl) (tree_front line h Plain tt by_itself e w d x) close_paren_front)))
-  tree_front line h l u p (struct o fs b) w d x = asked (read (At p (struct o fs b)) (struct_made p o fs b) (behind {xs = codes "{"} (λ rest ok. tt) open_struct_front (struct_front line h b fs w d x)))
-  tree_front line h l u p (list es end) w d x = asked (list_front l line p es end (elements_front line h es w.0 d.0 x.0) (end_fronts line h end w.1 d.1 x.1))
-  tree_front line h l u p (wide v) w d x = absurd d
+  pub tree_front : (names : Counted → List ℕ) → (line : List ℕ) → is_line line ≡ true → (l : LineState) → IsNoMinus l → (p : Place) (t : Tree) → IsWritten p t → IsDefault t → HasTexts t → IsSizeless t → Front a_stop (tree_text names line t) l WantsComma (At p t)
+  tree_front names line h l u p (atom a) w d x n = atom_front names l u p a w x n
+  tree_front names line h l u p (named s o) w d x n = named_front p s o w.0 w.1 w.2
+  tree_front names line h l u p (reference s o) w d x n = reference_front p s o w
+  tree_front names line h l u p (conjunction es) w d x n = amps_front names line h l u p w.0 es w.1 w.2 d x n
+  tree_front names line h l u p (disjunction es) w d x n = bars_front names line h l u p w.0 es w.1 w.2 d x n
+  tree_front names line h l u p (paren e) w d x n = asked (read (At p (paren e)) (paren_made p e) (behind {xs = codes "("} (λ rest ok. tt) open_paren_front (behind {ys = codes ")"} (λ rest ok. refl) (tree_front names line h Plain tt by_itself e w d x n) close_paren_front)))
+  tree_front names line h l u p (struct o fs b) w d x n = asked (read (At p (struct o fs b)) (struct_made p o fs b) (behind {xs = codes "{"} (λ rest ok. tt) open_struct_front (struct_front names line h b fs w d x n)))
+  tree_front names line h l u p (list es end) w d x n = asked (list_front names l line p es end (elements_front names line h es w.0 d.0 x.0 n.0) (end_fronts names line h end w.1 d.1 x.1 n.1))
+  tree_front names line h l u p (wide v) w d x n = absurd d
 
-  amps_front : (line : List ℕ) → is_line line ≡ true → (l : LineState) → IsNoMinus l → (p : Place) → TakesAmps p → (es : Trees) → AreTwo es → AreWritten of_amp es → AreDefault es → HaveTexts es → Front a_stop (parted_text line (codes " & ") es) l WantsComma (At p (conjunction es))
-  amps_front line h l u p takes none two w d x = absurd two
-  amps_front line h l u p takes (more e es) two w d x = read (At p (conjunction (more e es))) (conjunction_made p takes e es two) (behind (parts_stop line (codes " & ") (λ rest. refl) es) (tree_front line h l u of_amp e w.0 d.0 x.0) (more_amps_front line h es w.1 d.1 x.1))
+  amps_front : (names : Counted → List ℕ) → (line : List ℕ) → is_line line ≡ true → (l : LineState) → IsNoMinus l → (p : Place) → TakesAmps p → (es : Trees) → AreTwo es → AreWritten of_amp es → AreDefault es → HaveTexts es → AreSizeless es → Front a_stop (parted_text names line (codes " & ") es) l WantsComma (At p (conjunction es))
+  amps_front names line h l u p takes none two w d x n = absurd two
+  amps_front names line h l u p takes (more e es) two w d x n = read (At p (conjunction (more e es))) (conjunction_made p takes e es two) (behind (parts_stop names line (codes " & ") (λ rest. refl) es) (tree_front names line h l u of_amp e w.0 d.0 x.0 n.0) (more_amps_front names line h es w.1 d.1 x.1 n.1))
 
-  more_amps_front : (line : List ℕ) → is_line line ≡ true → (es : Trees) → AreWritten of_amp es → AreDefault es → HaveTexts es → Front a_stop (behind_text line (codes " & ") es) WantsComma WantsComma (Spelt unplaced_all SpellsAmps es)
-  more_amps_front line h none w d x = read (Spelt unplaced_all SpellsAmps none) no_amps empty
-  more_amps_front line h (more e es) w d x = read (Spelt unplaced_all SpellsAmps (more e es)) (more_amps e es) (behind {xs = codes " & "} (λ rest ok. tt) amp_between (behind (parts_stop line (codes " & ") (λ rest. refl) es) (tree_front line h Plain tt of_amp e w.0 d.0 x.0) (more_amps_front line h es w.1 d.1 x.1)))
+  more_amps_front : (names : Counted → List ℕ) → (line : List ℕ) → is_line line ≡ true → (es : Trees) → AreWritten of_amp es → AreDefault es → HaveTexts es → AreSizeless es → Front a_stop (behind_text names line (codes " & ") es) WantsComma WantsComma (Spelt unplaced_all SpellsAmps es)
+  more_amps_front names line h none w d x n = read (Spelt unplaced_all SpellsAmps none) no_amps empty
+  more_amps_front names line h (more e es) w d x n = read (Spelt unplaced_all SpellsAmps (more e es)) (more_amps e es) (behind {xs = codes " & "} (λ rest ok. tt) amp_between (behind (parts_stop names line (codes " & ") (λ rest. refl) es) (tree_front names line h Plain tt of_amp e w.0 d.0 x.0 n.0) (more_amps_front names line h es w.1 d.1 x.1 n.1)))
 
-  bars_front : (line : List ℕ) → is_line line ≡ true → (l : LineState) → IsNoMinus l → (p : Place) → TakesBars p → (es : Trees) → AreTwo es → AreWritten of_bar es → AreDefault es → HaveTexts es → Front a_stop (parted_text line (codes " | ") es) l WantsComma (At p (disjunction es))
-  bars_front line h l u p takes none two w d x = absurd two
-  bars_front line h l u p takes (more e es) two w d x = read (At p (disjunction (more e es))) (disjunction_made p takes e es two) (behind (parts_stop line (codes " | ") (λ rest. refl) es) (tree_front line h l u of_bar e w.0 d.0 x.0) (more_bars_front line h es w.1 d.1 x.1))
+  bars_front : (names : Counted → List ℕ) → (line : List ℕ) → is_line line ≡ true → (l : LineState) → IsNoMinus l → (p : Place) → TakesBars p → (es : Trees) → AreTwo es → AreWritten of_bar es → AreDefault es → HaveTexts es → AreSizeless es → Front a_stop (parted_text names line (codes " | ") es) l WantsComma (At p (disjunction es))
+  bars_front names line h l u p takes none two w d x n = absurd two
+  bars_front names line h l u p takes (more e es) two w d x n = read (At p (disjunction (more e es))) (disjunction_made p takes e es two) (behind (parts_stop names line (codes " | ") (λ rest. refl) es) (tree_front names line h l u of_bar e w.0 d.0 x.0 n.0) (more_bars_front names line h es w.1 d.1 x.1 n.1))
 
-  more_bars_front : (line : List ℕ) → is_line line ≡ true → (es : Trees) → AreWritten of_bar es → AreDefault es → HaveTexts es → Front a_stop (behind_text line (codes " | ") es) WantsComma WantsComma (Spelt unplaced_all SpellsBars es)
-  more_bars_front line h none w d x = read (Spelt unplaced_all SpellsBars none) no_bars empty
-  more_bars_front line h (more e es) w d x = read (Spelt unplaced_all SpellsBars (more e es)) (more_bars e es) (behind {xs = codes " | "} (λ rest ok. tt) bar_between (behind (parts_stop line (codes " | ") (λ rest. refl) es) (tree_front line h Plain tt of_bar e w.0 d.0 x.0) (more_bars_front line h es w.1 d.1 x.1)))
+  more_bars_front : (names : Counted → List ℕ) → (line : List ℕ) → is_line line ≡ true → (es : Trees) → AreWritten of_bar es → AreDefault es → HaveTexts es → AreSizeless es → Front a_stop (behind_text names line (codes " | ") es) WantsComma WantsComma (Spelt unplaced_all SpellsBars es)
+  more_bars_front names line h none w d x n = read (Spelt unplaced_all SpellsBars none) no_bars empty
+  more_bars_front names line h (more e es) w d x n = read (Spelt unplaced_all SpellsBars (more e es)) (more_bars e es) (behind {xs = codes " | "} (λ rest ok. tt) bar_between (behind (parts_stop names line (codes " | ") (λ rest. refl) es) (tree_front names line h Plain tt of_bar e w.0 d.0 x.0 n.0) (more_bars_front names line h es w.1 d.1 x.1 n.1)))
 
-  elements_front : (line : List ℕ) → is_line line ≡ true → (es : Trees) → AreWritten by_itself es → AreDefault es → HaveTexts es → ElementsFront line es
-  elements_front line h none w d x = tt
-  elements_front line h (more e es) w d x = behind (parts_stop line (codes ", ") (λ rest. refl) es) (tree_front line h Plain tt by_itself e w.0 d.0 x.0) (more_elements_front line h es w.1 d.1 x.1)
+  elements_front : (names : Counted → List ℕ) → (line : List ℕ) → is_line line ≡ true → (es : Trees) → AreWritten by_itself es → AreDefault es → HaveTexts es → AreSizeless es → ElementsFront names line es
+  elements_front names line h none w d x n = tt
+  elements_front names line h (more e es) w d x n = behind (parts_stop names line (codes ", ") (λ rest. refl) es) (tree_front names line h Plain tt by_itself e w.0 d.0 x.0 n.0) (more_elements_front names line h es w.1 d.1 x.1 n.1)
 
-  more_elements_front : (line : List ℕ) → is_line line ≡ true → (es : Trees) → AreWritten by_itself es → AreDefault es → HaveTexts es → Front a_stop (behind_text line (codes ", ") es) WantsComma WantsComma (Spelt unplaced_all SpellsElements es)
-  more_elements_front line h none w d x = read (Spelt unplaced_all SpellsElements none) no_elements_left empty
-  more_elements_front line h (more e es) w d x = read (Spelt unplaced_all SpellsElements (more e es)) (more_elements e es) (behind {xs = codes ", "} (λ rest ok. tt) comma_between (behind (parts_stop line (codes ", ") (λ rest. refl) es) (tree_front line h Plain tt by_itself e w.0 d.0 x.0) (more_elements_front line h es w.1 d.1 x.1)))
+  more_elements_front : (names : Counted → List ℕ) → (line : List ℕ) → is_line line ≡ true → (es : Trees) → AreWritten by_itself es → AreDefault es → HaveTexts es → AreSizeless es → Front a_stop (behind_text names line (codes ", ") es) WantsComma WantsComma (Spelt unplaced_all SpellsElements es)
+  more_elements_front names line h none w d x n = read (Spelt unplaced_all SpellsElements none) no_elements_left empty
+  more_elements_front names line h (more e es) w d x n = read (Spelt unplaced_all SpellsElements (more e es)) (more_elements e es) (behind {xs = codes ", "} (λ rest ok. tt) comma_between (behind (parts_stop names line (codes ", ") (λ rest. refl) es) (tree_front names line h Plain tt by_itself e w.0 d.0 x.0 n.0) (more_elements_front names line h es w.1 d.1 x.1 n.1)))
 
-  end_fronts : (line : List ℕ) → is_line line ≡ true → (end : End) → IsWrittenEnd end → IsDefaultEnd end → EndHasTexts end → EndFronts line end
-  end_fronts line h closed w d x = closed_fronts line
-  end_fronts line h any w d x = any_fronts line
-  end_fronts line h (each e) w d x = each_fronts line e (tree_front line h WantsComma tt by_itself e w d x)
+  end_fronts : (names : Counted → List ℕ) → (line : List ℕ) → is_line line ≡ true → (end : End) → IsWrittenEnd end → IsDefaultEnd end → EndHasTexts end → IsSizelessEnd end → EndFronts names line end
+  end_fronts names line h closed w d x n = closed_fronts names line
+  end_fronts names line h any w d x n = any_fronts names line
+  end_fronts names line h (each e) w d x n = each_fronts names line e (tree_front names line h WantsComma tt by_itself e w d x n)
 
-  struct_front : (line : List ℕ) → is_line line ≡ true → (b : Bool) (fs : Fields) → AreWrittenFields fs → AreDefaultFields fs → FieldsHaveTexts fs → Front nothing (lines_text (inner line) fs ++ closing_text line b (is_no_field fs)) Plain WantsComma (SpeltStruct fs b)
-  struct_front line h b no_field w d x = empty_struct line b
-  struct_front line h b (field l m e fs) w d x = read (SpeltStruct (field l m e fs) b) (fields_made l m e fs b) (first_field line h b l m e fs w.0 d.0 x.0 (tree_front (inner line) (inner_line line h) Plain tt by_itself e w.1 d.1 x.1) (fields_front (inner line) (inner_line line h) fs w.2 d.2 x.2))
+  struct_front : (names : Counted → List ℕ) → (line : List ℕ) → is_line line ≡ true → (b : Bool) (fs : Fields) → AreWrittenFields fs → AreDefaultFields fs → FieldsHaveTexts fs → FieldsAreSizeless fs → Front nothing (lines_text names (inner line) fs ++ closing_text line b (is_no_field fs)) Plain WantsComma (SpeltStruct fs b)
+  struct_front names line h b no_field w d x n = empty_struct line b
+  struct_front names line h b (field l m e fs) w d x n = read (SpeltStruct (field l m e fs) b) (fields_made l m e fs b) (first_field names line h b l m e fs w.0 d.0 x.0 (tree_front names (inner line) (inner_line line h) Plain tt by_itself e w.1 d.1 x.1 n.0) (fields_front names (inner line) (inner_line line h) fs w.2 d.2 x.2 n.1))
 
-  fields_front : (line : List ℕ) → is_line line ≡ true → (fs : Fields) → AreWrittenFields fs → AreDefaultFields fs → FieldsHaveTexts fs → Front a_stop (lines_text line fs) WantsComma WantsComma (Spelt unplaced_fields SpellsFields fs)
-  fields_front line h no_field w d x = read (Spelt unplaced_fields SpellsFields no_field) no_fields_left empty
-  fields_front line h (field l m e fs) w d x = read (Spelt unplaced_fields SpellsFields (field l m e fs)) (more_fields l m e fs) (behind (λ rest ok. tt) (line_front line h) (behind (λ rest ok. tt) (head_front l m w.0 d.0 x.0) (behind (lines_stop line h fs) (tree_front line h Plain tt by_itself e w.1 d.1 x.1) (fields_front line h fs w.2 d.2 x.2))))
+  fields_front : (names : Counted → List ℕ) → (line : List ℕ) → is_line line ≡ true → (fs : Fields) → AreWrittenFields fs → AreDefaultFields fs → FieldsHaveTexts fs → FieldsAreSizeless fs → Front a_stop (lines_text names line fs) WantsComma WantsComma (Spelt unplaced_fields SpellsFields fs)
+  fields_front names line h no_field w d x n = read (Spelt unplaced_fields SpellsFields no_field) no_fields_left empty
+  fields_front names line h (field l m e fs) w d x n = read (Spelt unplaced_fields SpellsFields (field l m e fs)) (more_fields l m e fs) (behind (λ rest ok. tt) (line_front line h) (behind (λ rest ok. tt) (head_front l m w.0 d.0 x.0) (behind (lines_stop names line h fs) (tree_front names line h Plain tt by_itself e w.1 d.1 x.1 n.0) (fields_front names line h fs w.2 d.2 x.2 n.1))))

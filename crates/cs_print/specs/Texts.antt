@@ -1,7 +1,7 @@
 -- The texts in a tree are UTF-8, as those of the code are; for contracts of private functions alone.
 use Rattle.std.specs.Prelude.{IsUtf8}
 use Rattle.std.specs.List.{AllByRecursion}
-use Rattle.cs_grammar.specs.Atom.{Atom, top, bottom, null, boolean, integer, text, bound, not_integer, not_text, not_null}
+use Rattle.cs_grammar.specs.Atom.{Atom, top, bottom, null, boolean, integer, text, bound, not_integer, not_text, not_null, size}
 use Rattle.cs_grammar.specs.Tree.{Tree, atom, named, reference, conjunction, disjunction, paren, struct, list, wide, Trees, none, more, Fields, no_field, field, End, closed, any, each, body, FileTree, definitions}
 
 abbrev pub HasText : Atom → Type 0
@@ -15,6 +15,7 @@ HasText (integer z) = Unit {0}
 HasText (bound r z) = Unit {0}
 HasText (not_integer z) = Unit {0}
 HasText not_null = Unit {0}
+HasText (size c b z) = Unit {0}
 
 abbrev mutual
   pub HasTexts : Tree → Type 0

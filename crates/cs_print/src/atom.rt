@@ -2,9 +2,10 @@
 ghost use Rattle.std.specs.Prelude.{◌≡◌, ◌++◌, codes, OnOk, string_bytes};
 ghost use Rattle.std.specs.Fmt.{signed_decimal};
 ghost use Rattle.cs_grammar.specs.View.{relation_of};
-ghost use Rattle.cs_print.specs.Layout.{relation_text, limit_text, truth_text, head_text};
+ghost use Rattle.cs_print.specs.Layout.{relation_text, limit_text, truth_text, call_text, head_text};
 
-use cs_grammar::{FieldMark, Relation};
+use cs_grammar::{Counted, FieldMark, Relation};
+use cs_imports::function_name;
 use cs_place::put_quoted;
 use itoa::Buffer;
 use std::alloc::AllocError;
@@ -46,6 +47,25 @@ pub(crate) fn put_bound(out: &mut String, relation: Relation, limit: i64) -> Res
         Relation::AtLeast => ">=",
     })?;
     put_limit(out, limit)
+}
+
+/// Puts a length: a call of a function of its package, by the name that the package has in the text.
+pub(crate) fn put_size(
+    out: &mut String,
+    name: &str,
+    counted: Counted,
+    is_least: bool,
+    limit: i64,
+) -> Result<(), AllocError>
+    ensures { OnOk result (string_bytes out.new
+        ≡ string_bytes out.old ++ call_text name.now counted is_least limit) }
+{
+    out.push_str(name)?;
+    out.push_str(".")?;
+    out.push_str(function_name(counted, is_least))?;
+    out.push_str("(")?;
+    put_integer(out, limit)?;
+    out.push_str(")")
 }
 
 /// Puts a label, its mark and the colon (CUE, structs).

@@ -1,11 +1,13 @@
 // Expressions, field after field and part after part.
 ghost use Rattle.std.specs.Prelude.{◌≡◌, ◌++◌, map, OnOk, string_bytes};
 ghost use Rattle.cs_grammar.specs.View.{expr_view, exprs_view, end_view, fields_view};
+ghost use Rattle.cs_print.specs.Tables.{names_of};
 ghost use Rattle.cs_print.specs.Texts.{HasTexts, HaveTexts, FieldsHaveTexts, EndHasTexts};
 ghost use Rattle.cs_print.specs.Layout as Layout;
 ghost use Rattle.cs_print.specs.Layout.{tree_text, parted_text, behind_text, end_text, parting_text, closing_text, lines_text, is_no_field, is_no_element};
 
-use crate::atom::{put_bound, put_head, put_integer, put_truth};
+use crate::atom::{put_bound, put_head, put_integer, put_size, put_truth};
+use crate::packages::Packages;
 use cs_grammar::{Expr, Field, ListEnd};
 use cs_place::put_quoted;
 use std::alloc::{AllocError, Global};
@@ -14,12 +16,13 @@ use std::alloc::{AllocError, Global};
 #[cycle(print)]
 pub(crate) fn put_expr(
     alloc: Global,
+    packages: &Packages,
     line: &str,
     out: &mut String,
     expr: &Expr,
 ) -> Result<(), AllocError>
     ensures text { OnOk result (string_bytes out.new
-        ≡ string_bytes out.old ++ tree_text line.now (expr_view expr.now)) }
+        ≡ string_bytes out.old ++ tree_text (names_of packages.now) line.now (expr_view expr.now)) }
     ensures utf8 { OnOk result (HasTexts (expr_view expr.now)) }
 {
     match expr {
@@ -44,21 +47,33 @@ pub(crate) fn put_expr(
             put_quoted(out, text)
         }
         Expr::NotNull => out.push_str("!=null"),
-        Expr::And(operands) => put_parted(alloc, line, " & ", out, operands),
-        Expr::Or(operands) => put_parted(alloc, line, " | ", out, operands),
+        Expr::Size {
+            counted,
+            is_least,
+            limit,
+        } => put_size(out, packages.of(*counted), *counted, *is_least, *limit),
+        Expr::And(operands) => put_parted(alloc, packages, line, " & ", out, operands),
+        Expr::Or(operands) => put_parted(alloc, packages, line, " | ", out, operands),
         Expr::Paren(inside) => {
             out.push_str("(")?;
-            put_expr(alloc, line, out, inside)?;
+            put_expr(alloc, packages, line, out, inside)?;
             out.push_str(")")
         }
         Expr::Struct { fields, opened, .. } => {
             out.push_str("{")?;
-            put_struct(alloc, line, out, fields, *opened)
+            put_struct(alloc, packages, line, out, fields, *opened)
         }
         Expr::List { front, end } => {
             out.push_str("[")?;
-            put_parted(alloc, line, ", ", out, front)?;
-            put_end(alloc, line, before_rest(are_no_elements(front)), out, end)
+            put_parted(alloc, packages, line, ", ", out, front)?;
+            put_end(
+                alloc,
+                packages,
+                line,
+                before_rest(are_no_elements(front)),
+                out,
+                end,
+            )
         }
         // No form of the wide profile stands in the files of `source_of`.
         Expr::Wide(_) => Ok(()),
@@ -69,22 +84,23 @@ pub(crate) fn put_expr(
 #[cycle(print)]
 fn put_parted(
     alloc: Global,
+    packages: &Packages,
     line: &str,
     between: &str,
     out: &mut String,
     parts: &[Expr],
 ) -> Result<(), AllocError>
     ensures text { OnOk result (string_bytes out.new
-        ≡ string_bytes out.old ++ parted_text line.now between.now (exprs_view parts.now)) }
+        ≡ string_bytes out.old ++ parted_text (names_of packages.now) line.now between.now (exprs_view parts.now)) }
     ensures utf8 { OnOk result (HaveTexts (exprs_view parts.now)) }
 {
     let Some((first, rest)) = parts.split_first() else {
         return Ok(());
     };
-    put_expr(alloc, line, out, first)?;
+    put_expr(alloc, packages, line, out, first)?;
     for part in rest {
         out.push_str(between)?;
-        put_expr(alloc, line, out, part)?;
+        put_expr(alloc, packages, line, out, part)?;
     }
     Ok(())
 }
@@ -93,13 +109,14 @@ fn put_parted(
 #[cycle(print)]
 fn put_end(
     alloc: Global,
+    packages: &Packages,
     line: &str,
     between: &str,
     out: &mut String,
     end: &ListEnd,
 ) -> Result<(), AllocError>
     ensures text { OnOk result (string_bytes out.new
-        ≡ string_bytes out.old ++ end_text line.now between.now (end_view end.now)) }
+        ≡ string_bytes out.old ++ end_text (names_of packages.now) line.now between.now (end_view end.now)) }
     ensures utf8 { OnOk result (EndHasTexts (end_view end.now)) }
 {
     match end {
@@ -111,7 +128,7 @@ fn put_end(
         ListEnd::Each(each) => {
             out.push_str(between)?;
             out.push_str("...")?;
-            put_expr(alloc, line, out, each)?;
+            put_expr(alloc, packages, line, out, each)?;
             out.push_str("]")
         }
     }
@@ -142,19 +159,20 @@ fn before_rest(is_first: bool) -> &'static str
 #[cycle(print)]
 fn put_struct(
     alloc: Global,
+    packages: &Packages,
     line: &str,
     out: &mut String,
     fields: &[Field],
     opened: bool,
 ) -> Result<(), AllocError>
     ensures text { OnOk result (string_bytes out.new ≡ string_bytes out.old
-        ++ (lines_text (Layout.inner line.now) (fields_view fields.now)
+        ++ (lines_text (names_of packages.now) (Layout.inner line.now) (fields_view fields.now)
         ++ closing_text line.now opened (is_no_field (fields_view fields.now)))) }
     ensures utf8 { OnOk result (FieldsHaveTexts (fields_view fields.now)) }
 {
     let mut inner = String::from_str(alloc, line)?;
     inner.push_str("\t")?;
-    put_fields(alloc, &inner, out, fields)?;
+    put_fields(alloc, packages, &inner, out, fields)?;
     put_closing(line, &inner, out, opened, are_no_fields(fields))
 }
 
@@ -187,18 +205,19 @@ fn put_closing(
 #[cycle(print)]
 fn put_fields(
     alloc: Global,
+    packages: &Packages,
     line: &str,
     out: &mut String,
     fields: &[Field],
 ) -> Result<(), AllocError>
     ensures text { OnOk result (string_bytes out.new
-        ≡ string_bytes out.old ++ lines_text line.now (fields_view fields.now)) }
+        ≡ string_bytes out.old ++ lines_text (names_of packages.now) line.now (fields_view fields.now)) }
     ensures utf8 { OnOk result (FieldsHaveTexts (fields_view fields.now)) }
 {
     for field in fields {
         out.push_str(line)?;
         put_head(out, &field.label, field.quoted, field.mark)?;
-        put_expr(alloc, line, out, &field.value)?;
+        put_expr(alloc, packages, line, out, &field.value)?;
     }
     Ok(())
 }

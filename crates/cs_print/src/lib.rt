@@ -4,8 +4,15 @@
 mod atom;
 mod expression;
 mod file;
+mod imports;
+mod labels;
+mod packages;
+mod sizes;
 mod written;
 
-pub use cs_grammar::{Definition, Expr, Field, FieldMark, File, ListEnd, Relation};
+pub use cs_grammar::{Counted, Definition, Expr, Field, FieldMark, File, ListEnd, Relation};
 pub use file::source_of;
-pub use written::{printed_sources_are_read, spelled_files_are_namable, spelled_files_are_written};
+pub use written::{
+    printed_sources_are_read, spelled_files_are_namable, spelled_files_are_written,
+    spelled_files_have_no_sizes,
+};

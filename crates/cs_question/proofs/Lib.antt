@@ -9,10 +9,12 @@ pub mod Unfolded
 pub mod Seen
 pub mod Marked
 pub mod Compared
+pub mod Counted
 pub mod OtherTexts
 pub mod Answered
 pub mod Listed
 pub mod Mapped
+pub mod KeyCounts
 pub mod Taken
 pub mod Rooted
 pub mod Declared

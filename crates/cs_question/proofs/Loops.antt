@@ -1,6 +1,6 @@
 -- One more element of a loop, and elements that are read.
-use Rattle.std.proofs.Common.{◌≡◌, ℕ, zero, suc, ◌+◌, ◌<◌, ◌≤◌, Bool, true, false, ◌&&◌, ◌||◌, ◌⊎◌, inl, inr, List, [], ◌∷◌, ◌++◌, Option, Some, None, Bor, length, map, take, get_or, add-one, refl, sym, ap, ◌∙◌, subst, arith}
-use Rattle.std.specs.Prelude.{slice_get, IsNone, IsSome, is_some}
+use Rattle.std.proofs.Common.{◌≡◌, ℕ, zero, suc, ◌+◌, ◌<◌, ◌≤◌, Bool, true, false, ◌&&◌, ◌||◌, ◌⊎◌, inl, inr, List, [], ◌∷◌, ◌++◌, Some, None, Bor, length, map, take, get_or, add-one, refl, sym, ap, ◌∙◌, subst, arith}
+use Rattle.std.specs.Prelude.{slice_get}
 use Rattle.std.specs.Slice.{IsItemAt}
 use Rattle.std.specs.List.{list_all, list_any, AllByRecursion as Each}
 use Rattle.std.proofs.lemmas.Bool.{and_parts, and_from, or_cases}
@@ -11,7 +11,7 @@ use Rattle.std.proofs.lemmas.List.Folds.{list_all-append, list_any-append, list_
 use Rattle.cs_document.proofs.Each.{each_append, each_front, each_back}
 use Rattle.cs_document.proofs.Maps.{take_at}
 use Rattle.cs_question.specs.Spread.{SomeOf}
-use Rattle.cs_question.proofs.Some.{some_split}
+use Rattle.cs_question.proofs.Some.{some_split, or_right}
 
 -- what a read past the end of a list of literals would be
 abbrev pub first_literal : Literal
@@ -84,7 +84,7 @@ each_read P xs i d l h k = each_one xs i (get_or xs i d) l (get_or_default xs i 
 
 -- ---- the same, with what is made of each element
 
-any_mapped : {X Y : Type 0} (p : Y → Bool) (f : X → Y) (xs : List X) → list_any p (map f xs) ≡ list_any (λ x. p (f x)) xs
+pub any_mapped : {X Y : Type 0} (p : Y → Bool) (f : X → Y) (xs : List X) → list_any p (map f xs) ≡ list_any (λ x. p (f x)) xs
 any_mapped p f [] = refl
 any_mapped p f (x ∷ xs) = ap (λ b. p (f x) || b) (any_mapped p f xs)
 
@@ -126,6 +126,22 @@ module _ {X Y : Type 0} (v : X → Y) (xs : List X) (i : ℕ) where
 -- the same of the elements themselves
 pub some_or : {X : Type 0} (P : X → Type 0) (xs : List X) (i : ℕ) (d : X) → i < length xs → (C : Type 0) → (SomeOf P (take i xs) → C) → (P (get_or xs i d) → C) → SomeOf P (take (i + 1) xs) → C
 some_or P xs i d l C a b h = elim (some_more xs i (get_or xs i d) l (get_or_default xs i d (get_or xs i d) l) P h) [ inl k ↦ a k | inr k ↦ b k ]
+
+-- a test of some element of the list itself, and of one that was put behind it
+pub any_or : {X : Type 0} (f : X → Bool) (xs : List X) (i : ℕ) (d : X) → i < length xs → (C : Type 0) → (list_any f (take i xs) ≡ true → C) → (f (get_or xs i d) ≡ true → C) → list_any f (take (i + 1) xs) ≡ true → C
+any_or f xs i d l C a b h = elim (any_more xs i (get_or xs i d) l (get_or_default xs i d (get_or xs i d) l) f h) [ inl k ↦ a k | inr k ↦ b k ]
+
+pub any_pushed : {X : Type 0} (f : X → Bool) (xs : List X) (x : X) → list_any f xs ≡ true → list_any f (xs ++ x ∷ []) ≡ true
+any_pushed f xs x h = list_any-append f xs (x ∷ []) ∙ ap (λ b. b || list_any f (x ∷ [])) h
+
+pub any_last : {X : Type 0} (f : X → Bool) (xs : List X) (x : X) → f x ≡ true → list_any f (xs ++ x ∷ []) ≡ true
+any_last f xs x h = list_any-append f xs (x ∷ []) ∙ or_right (list_any f xs) (f x || false) (ap (λ b. b || false) h)
+
+pub any_split : {X : Type 0} (f : X → Bool) (xs : List X) (x : X) → list_any f (xs ++ x ∷ []) ≡ true → (list_any f xs ≡ true) ⊎ (f x ≡ true)
+any_split f xs x h = elim (or_cases (list_any f xs) (f x || false) (sym (list_any-append f xs (x ∷ [])) ∙ h)) [
+  | inl k ↦ inl k
+  | inr k ↦ inr (elim (or_cases (f x) false k) [ inl j ↦ j | inr j ↦ cc ])
+]
 
 pub each_then : {X : Type 0} (P : X → Type 0) (xs : List X) (i : ℕ) (d : X) → i < length xs → (C : Type 0) → (Each P (take i xs) → P (get_or xs i d) → C) → Each P (take (i + 1) xs) → C
 each_then P xs i d l C f h = let p = each_more xs i (get_or xs i d) l (get_or_default xs i d (get_or xs i d) l) P h in f p.0 p.1

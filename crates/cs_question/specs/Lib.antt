@@ -7,6 +7,7 @@ pub mod NoInstance
 pub mod Nodes
 pub mod Between
 pub mod Asked
+pub mod Counts
 pub mod Outlines
 pub mod Truth
 pub mod Cases

@@ -1,5 +1,5 @@
 -- What is seen of a document by its outline.
-use Rattle.std.specs.Prelude.{◌≡◌, ◌++◌, ℕ, ℤ, pos, ◌≤ℤ◌, ◌+ℤ◌, ◌-ℤ◌, int_lt, Bool, true, false, List, Option, Some, None, slice_get}
+use Rattle.std.specs.Prelude.{◌≡◌, ◌++◌, ◌||◌, ℕ, ℤ, pos, ◌≤ℤ◌, ◌+ℤ◌, ◌-ℤ◌, int_lt, Bool, true, false, List, Option, Some, None, is_some, slice_get}
 use Rattle.std.specs.Bool.{beq}
 use Rattle.std.specs.Int.{w64}
 use Rattle.std.specs.Prelude.{FitsSigned}
@@ -7,10 +7,13 @@ use Rattle.std.specs.Borrow.{Bor}
 use Rattle.std.specs.Str.{bytes_eq}
 use Rattle.std.specs.List.{list_all, AllByRecursion}
 use Rattle.cs_document.specs.Opened.{a_null, a_boolean, an_integer, a_text, a_list, an_object}
+use Rattle.cs_document.specs.Sizes.{text_length}
+use Rattle.cs_package.specs.Expression.{Counted, Characters}
 use Rattle.cs_instance.specs.Constraint.{Outline, Constraint, simple, all_of, any_of, object_of, list_of}
 use Rattle.cs_question.specs.declared.nodes.Literal.{Literal}
 use Rattle.cs_question.specs.declared.nodes.Node.{Node}
 use Rattle.cs_question.specs.declared.nodes.Nodes.{Nodes}
+use Rattle.cs_question.specs.Counts.{limit_at, count_fits}
 use Rattle.cs_question.specs.Nodes.{asked_of, nodes_on}
 
 -- whether maps are meant, and lists
@@ -53,6 +56,13 @@ may ns o l = agrees l.holds (node_verdict (slice_get (nodes_on ns l.side) l.rule
 abbrev pub may_all : Nodes → Outline → List Literal → Bool
 may_all ns o ls = list_all (may ns o) ls
 
+-- a document of that outline may be as a literal says, unless that is about such a limit
+abbrev pub may_but : Nodes → Counted → Outline → Literal → Bool
+may_but ns c o l = is_some (limit_at ns c l) || may ns o l
+
+abbrev pub may_all_but : Nodes → Counted → Outline → List Literal → Bool
+may_all_but ns c o ls = list_all (may_but ns c o) ls
+
 -- integers that are on the same side of each mark
 abbrev pub SameSides : List ℤ → ℤ → ℤ → Type 0
 SameSides marks z w = AllByRecursion (λ k. (int_lt z k ≡ int_lt w k) × (int_lt k z ≡ int_lt k w)) marks
@@ -80,11 +90,15 @@ IsNoneBeside ns ls k = (z : ℤ) → FitsSigned w64 z → (k -ℤ pos 1) ≤ℤ 
 abbrev pub SameTexts : List (Bor (List ℕ)) → List ℕ → List ℕ → Type 0
 SameTexts marks s t = AllByRecursion (λ u. bytes_eq u.now s ≡ bytes_eq u.now t) marks
 
+-- a literal doesn't tell two texts apart that both have as many characters as it admits, if it says that of any
+abbrev pub IsNotTold : Nodes → List ℕ → List ℕ → Literal → Type 0
+IsNotTold ns s t l = count_fits ns Characters (text_length s) l ≡ true → count_fits ns Characters (text_length t) l ≡ true → may ns (a_text s) l ≡ may ns (a_text t) l
+
 abbrev pub AreMarkedTexts : Nodes → List Literal → List (Bor (List ℕ)) → Type 0
-AreMarkedTexts ns ls marks = (s t : List ℕ) → SameTexts marks s t → AllByRecursion (λ l. may ns (a_text s) l ≡ may ns (a_text t) l) ls
+AreMarkedTexts ns ls marks = (s t : List ℕ) → SameTexts marks s t → AllByRecursion (IsNotTold ns s t) ls
 
 abbrev pub IsOneMarkedText : Nodes → Literal → List (Bor (List ℕ)) → Type 0
-IsOneMarkedText ns l marks = (s t : List ℕ) → SameTexts marks s t → may ns (a_text s) l ≡ may ns (a_text t) l
+IsOneMarkedText ns l marks = (s t : List ℕ) → SameTexts marks s t → IsNotTold ns s t l
 
 abbrev pub HasMoreTexts : List (Bor (List ℕ)) → List (Bor (List ℕ)) → Type 0
 HasMoreTexts ks ms = (ts : List (Bor (List ℕ))) × (ms ≡ ks ++ ts)

@@ -1,12 +1,14 @@
 -- The parts of a list or a map by their places, and what is asked of them.
-use Rattle.std.specs.Prelude.{◌≡◌, ◌⊎◌, ℕ, Bool, true, false, not, List, [], ◌∷◌, Option, Some, None, IsSome, IsNone, IfSome, IsSomeAnd, map, take, drop, slice_get}
+use Rattle.std.specs.Prelude.{◌≡◌, ◌⊎◌, ℕ, Bool, true, false, not, List, [], ◌∷◌, Option, Some, None, IsSome, IsNone, IfSome, IsSomeAnd, map, length, take, drop, slice_get}
 use Rattle.std.specs.Borrow.{Bor}
 use Rattle.std.specs.List.{AllByRecursion, list_any, filter}
 use Rattle.std.specs.Str.{bytes_eq}
 use Rattle.cs_document.specs.Document.{Document, Members, Entry, AreMembers, entries, under}
+use Rattle.cs_question.specs.declared.counts.Counts.{Counts}
 use Rattle.cs_question.specs.declared.nodes.Literal.{Literal}
 use Rattle.cs_question.specs.declared.places.Key.TheVariants as key
 use Rattle.cs_question.specs.declared.places.Key.{Key}
+use Rattle.cs_question.specs.declared.places.Demands.{Demands}
 use Rattle.cs_question.specs.declared.places.Place.{Place}
 use Rattle.cs_question.specs.declared.places.Further as further
 use Rattle.cs_question.specs.declared.places.Way.{Way}
@@ -15,6 +17,7 @@ use Rattle.cs_question.specs.declared.places.State.{State}
 use Rattle.cs_question.specs.declared.table.Table.{Table}
 use Rattle.cs_question.specs.Nodes.{Judgement}
 use Rattle.cs_question.specs.Asked.{meets, meets_all}
+use Rattle.cs_question.specs.Counts.{is_count}
 use Rattle.cs_question.specs.Truth.{IsInner, Truth}
 
 pub data KeyName : Type 0 where
@@ -103,6 +106,12 @@ under_name ms (index i) = None
 
 abbrev pub spread_map : List (Bor (List ℕ)) → List (Entry Document) → Spread
 spread_map ls ms = record { at = under_name ms; further = others ls ms }
+
+-- no map whose values are as the places ask, and further ones as is asked of them, has as many keys as there may be
+abbrev pub NoKeys : Table → Demands → List (Bor (List ℕ)) → Counts → Type 0
+NoKeys table d ls c =
+    table.is_final ≡ true → (t : Truth table.entries.items) (ms : Members) → AreMembers ms → HoldsPlaces t.J t.n (spread_map ls (entries ms)) d.places.items
+    → HoldsFurther t.J t.n (spread_map ls (entries ms)) d.further → is_count c (length (entries ms)) ≡ true → ⊥
 
 -- places hold what a map has there, where they did before and that is so of the map
 abbrev pub KeepsPlaces : List Place → List Place → (Judgement → List (Entry Document) → Type 0) → Type 0

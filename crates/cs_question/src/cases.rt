@@ -53,7 +53,10 @@ fn alike<'n>(
 }
 
 /// A scalar that is all that is asked.
-fn scalar_of(nodes: &Nodes<'_>, asked: &[Literal]) -> Made<Option<Doc>>
+///
+/// # Errors
+/// `TooManyCases` where a limit is met.
+fn scalar_of(nodes: &Nodes<'_>, asked: &[Literal], effort: &mut Effort) -> Searched<Option<Doc>>
     ensures { IfOk result (λ o. IsNone o → NoScalar nodes.now asked.now) }
 {
     if may_meet_all(nodes, asked, &Item::Null) {
@@ -68,7 +71,7 @@ fn scalar_of(nodes: &Nodes<'_>, asked: &[Literal]) -> Made<Option<Doc>>
     if let Some(integer) = integer_of(nodes, asked)? {
         return Ok(Some(Doc::Int(integer)));
     }
-    Ok(text_of(nodes, asked)?.map(|text| Doc::Text(text)))
+    Ok(text_of(nodes, asked, effort)?.map(|text| Doc::Text(text)))
 }
 
 /// A document that is all that is asked, where no rule asks others of the same document.
@@ -80,7 +83,7 @@ fn document_of<'a>(
 ) -> Searched<Option<Found<'a>>>
     ensures { IfOk result (λ o. IsNone o → NoDocument nodes.now table.now asked.now) }
 {
-    if let Some(doc) = scalar_of(nodes, asked)? {
+    if let Some(doc) = scalar_of(nodes, asked, effort)? {
         return Ok(Some(Found::Scalar(doc)));
     }
     if let Some(list) = list_of(nodes, table, asked, effort)? {

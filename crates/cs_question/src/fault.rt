@@ -19,7 +19,8 @@ pub enum QuestionFault {
     /// A package doesn't declare its root.
     UnknownRoot,
     /// No answer was found within the limits: 100,000 questions, 5,000,000 steps, and in a document 100,000 values and
-    /// 127 levels.
+    /// 127 levels, or 4,096 characters, elements or keys because of a limit of these; or not with as few or as many keys as
+    /// are asked for.
     TooManyCases,
 }
 

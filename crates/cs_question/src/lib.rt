@@ -2,7 +2,9 @@
 #![tactic(auto)]
 
 mod cases;
+mod counts;
 mod fault;
+mod filling;
 mod lists;
 mod maps;
 mod nodes;

@@ -4,17 +4,19 @@ ghost use Rattle.std.specs.List.{AllByRecursion};
 ghost use Rattle.cs_document.specs.Document.{Document, Documents, list, elements};
 ghost use Rattle.cs_instance.specs.Constraint.{elements_hold};
 ghost use Rattle.cs_question.specs.Asked.{meets, meets_all};
+ghost use Rattle.cs_question.specs.Counts.{is_count};
 ghost use Rattle.cs_question.specs.Elements.{element_at, fits, IsFrom, IsOfLength, NoLength};
 ghost use Rattle.cs_question.specs.Nodes.{Judgement, IsMeaning, end_of};
 ghost use Rattle.cs_question.specs.Spread.{HoldsPlaces, IsFurther, AreTaken, AddsWays, spread_list};
 ghost use Rattle.cs_question.specs.Truth.{NoList, IsInner};
 
-use crate::fault::{Effort, Made, Searched};
+use crate::counts::{Counts, MOST_COUNTED, counts_of, may_meet_all_but};
+use crate::fault::{Effort, Made, SearchFault, Searched};
 use crate::nodes::{Literal, Node, NodeEnd, Nodes, add, part_of};
 use crate::places::{Demands, Further, Key, Place, Way, choice};
-use crate::scalars::may_meet_all;
 use crate::table::{Found, Table};
 use cs_flat::Item;
+use cs_package::Counted;
 use std::alloc::Global;
 
 /// How many looks of a rule at a place are a step.
@@ -213,7 +215,86 @@ fn list_of_length<'a>(
     Ok(chosen.map(|chosen| Found::List(chosen.parts)))
 }
 
+/// A list of that length that is all that is asked, if there may be so many elements.
+fn list_within<'a>(
+    nodes: &Nodes<'a>,
+    table: &Table<'_>,
+    asked: &[Literal],
+    count: usize,
+    counts: Counts,
+    effort: &mut Effort,
+) -> Searched<Option<Found<'a>>>
+    ensures { IfOk result (λ o. IsNone o → NoLength nodes.now table.now asked.now (λ n. (n ≡ count) × (is_count counts n ≡ true))) }
+{
+    if !counts.has(count) {
+        return Ok(None);
+    }
+    list_of_length(nodes, table, asked, count, false, effort)
+}
+
+/// A list of some length of these that is all that is asked.
+fn list_among<'a>(
+    nodes: &Nodes<'a>,
+    table: &Table<'_>,
+    asked: &[Literal],
+    first: usize,
+    end: usize,
+    effort: &mut Effort,
+) -> Searched<Option<Found<'a>>>
+    ensures { IfOk result (λ o. IsNone o → NoLength nodes.now table.now asked.now (λ n. (first ≤ n) × (n < end))) }
+{
+    for length in first..end {
+        if let Some(list) = list_of_length(nodes, table, asked, length, false, effort)? {
+            return Ok(Some(list));
+        }
+    }
+    Ok(None)
+}
+
+/// Whether a list that was found has as many elements as there may be.
+fn is_counted(found: &Option<Found<'_>>, counts: Counts) -> bool {
+    match found {
+        Some(Found::List(parts)) => counts.has(parts.len()),
+        Some(Found::Scalar(_) | Found::Map { .. }) | None => false,
+    }
+}
+
+/// A list that is longer than so many elements and all that is asked, if there may be as many elements as it has. Where the first
+/// one that is found has too many of them, each of the lengths that there may be is tried.
+///
+/// # Errors
+/// `TooManyCases` where each has more than 4,096 elements because of a limit of them.
+fn longer_list<'a>(
+    nodes: &Nodes<'a>,
+    table: &Table<'_>,
+    asked: &[Literal],
+    front: usize,
+    counts: Counts,
+    effort: &mut Effort,
+) -> Searched<Option<Found<'a>>>
+    ensures { IfOk result (λ o. IsNone o → NoLength nodes.now table.now asked.now (λ n. (front < n) × (is_count counts n ≡ true))) }
+{
+    let next = front.saturating_add(1);
+    let Some(first) = counts.first_from(next) else {
+        return Ok(None);
+    };
+    if first > next && first > MOST_COUNTED {
+        return Err(SearchFault::TooManyCases);
+    }
+    let found = list_of_length(nodes, table, asked, first - 1, true, effort)?;
+    if found.is_none() || is_counted(&found, counts) {
+        return Ok(found);
+    }
+    let Some(end) = counts.end else {
+        return Err(SearchFault::TooManyCases);
+    };
+    list_among(nodes, table, asked, first, end, effort)
+}
+
 /// A list that is all that is asked.
+///
+/// # Errors
+/// `TooManyCases` where a limit is met.
 pub(crate) fn list_of<'a>(
     nodes: &Nodes<'a>,
     table: &Table<'_>,
@@ -222,17 +303,18 @@ pub(crate) fn list_of<'a>(
 ) -> Searched<Option<Found<'a>>>
     ensures { IfOk result (λ o. IsNone o → NoList nodes.now table.now asked.now) }
 {
-    if !may_meet_all(nodes, asked, &Item::List(&[])) {
+    if !may_meet_all_but(nodes, Counted::Elements, &Item::List(&[]), asked) {
         return Ok(None);
     }
+    let counts = counts_of(nodes, asked, Counted::Elements);
     let front = longest_front(nodes, asked);
     for length in 0..front {
-        if let Some(list) = list_of_length(nodes, table, asked, length, false, effort)? {
+        if let Some(list) = list_within(nodes, table, asked, length, counts, effort)? {
             return Ok(Some(list));
         }
     }
-    if let Some(list) = list_of_length(nodes, table, asked, front, false, effort)? {
+    if let Some(list) = list_within(nodes, table, asked, front, counts, effort)? {
         return Ok(Some(list));
     }
-    list_of_length(nodes, table, asked, front, true, effort)
+    longer_list(nodes, table, asked, front, counts, effort)
 }

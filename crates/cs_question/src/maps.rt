@@ -11,13 +11,15 @@ ghost use Rattle.cs_question.specs.Spread.{KeepsPlaces, FailsBy, IsFurther, Adds
 ghost use Rattle.cs_question.specs.Asked.{meets, meets_all};
 ghost use Rattle.cs_question.specs.Truth.{NoMap};
 
+use crate::counts::{counts_of, may_meet_all_but};
 use crate::fault::{Effort, Made, Searched};
+use crate::filling::with_keys;
 use crate::nodes::{Literal, Node, Nodes, add, part_of};
 use crate::places::{Demands, Further, Key, Place, Way, choice, take};
-use crate::scalars::may_meet_all;
 use crate::table::{Found, Table};
 use cs_flat::Item;
 use cs_instance::{Field, Fields, is_for_every_key, may_be_absent};
+use cs_package::Counted;
 use std::alloc::Global;
 
 /// Whether some declaration is for every key.
@@ -259,6 +261,10 @@ fn demands_of<'a>(nodes: &Nodes<'a>, asked: &[Literal], labels: &[&'a str]) -> M
 }
 
 /// A map that is all that is asked.
+///
+/// # Errors
+/// `TooManyCases` where a limit is met, or where what is chosen for all else has too few or too many keys, and it isn't sure that
+/// there is no other choice.
 pub(crate) fn map_of<'a>(
     nodes: &Nodes<'a>,
     table: &Table<'_>,
@@ -267,11 +273,15 @@ pub(crate) fn map_of<'a>(
 ) -> Searched<Option<Found<'a>>>
     ensures { IfOk result (λ o. IsNone o → NoMap nodes.now table.now asked.now) }
 {
-    if !may_meet_all(nodes, asked, &Item::Object(&[])) {
+    if !may_meet_all_but(nodes, Counted::Keys, &Item::Object(&[]), asked) {
         return Ok(None);
     }
+    let counts = counts_of(nodes, asked, Counted::Keys);
     let labels = labels_of(nodes, asked)?;
     let demands = demands_of(nodes, asked, &labels)?;
-    let chosen = choice(table, &demands, effort)?;
-    Ok(chosen.map(|chosen| Found::Map { chosen, labels }))
+    let Some(chosen) = choice(table, &demands, effort)? else {
+        return Ok(None);
+    };
+    let counted = with_keys(table, &demands, &labels, chosen, counts, effort)?;
+    Ok(counted.map(|chosen| Found::Map { chosen, labels }))
 }

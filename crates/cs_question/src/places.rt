@@ -1,9 +1,9 @@
 // Places in a list or a map, what is asked of the values there, and the search for ways in which a list or a map fails to meet rules.
-ghost use Rattle.std.specs.Prelude.{◌≡◌, ℕ, [], IfOk, IsNone, IsTrue, OnOk};
+ghost use Rattle.std.specs.Prelude.{◌≡◌, ℕ, [], None, IfOk, IsNone, IsTrue, OnOk};
 ghost use Rattle.std.specs.List.{AllByRecursion};
 ghost use Rattle.cs_question.specs.Nodes.{Judgement};
 ghost use Rattle.cs_question.specs.Spread.{Spread, SomeOf, ByTable, HoldsPlace, HoldsPlaces, HoldsState, HoldsFurther, PutsState};
-ghost use Rattle.cs_question.specs.Spread.{AreTaken, IsTaken, IsBehind};
+ghost use Rattle.cs_question.specs.Spread.{AreTaken, IsTaken, IsSuch, IsBehind};
 
 use crate::fault::{Effort, MOST_STEPS, Made, SearchFault, Searched};
 use crate::nodes::{Literal, add, with};
@@ -182,6 +182,20 @@ fn first_free(
     Ok(None)
 }
 
+/// Whether there can't be any value at none of the places.
+pub(crate) fn has_no_further(
+    table: &Table<'_>,
+    further: &Further,
+    effort: &mut Effort,
+) -> Made<bool>
+    ensures { IfOk result (λ b. IsTrue b → ByTable table.now (λ t s. HoldsFurther t.J t.n s further.now → SomeOf (IsSuch t.J None) s.further → ⊥)) }
+{
+    if further.is_barred {
+        return Ok(true);
+    }
+    table.is_shut(&further.asked, effort)
+}
+
 /// How many of the ways are open, counted no further than to a number.
 fn count_open(
     table: &Table<'_>,
@@ -355,12 +369,15 @@ fn chosen_of<'a>(
 ) -> Made<Chosen<'a>> {
     let mut keys = Vec::new(alloc);
     let mut parts = Vec::new(alloc);
+    let mut spare = Vec::new(alloc);
     for place in places {
         if place.is_needed {
             keys.push(place.key)?;
             parts.push(place.asked)?;
+        } else if !place.is_barred {
+            spare.push((place.key, place.asked))?;
         }
     }
     parts.append(&mut further)?;
-    Ok(Chosen { keys, parts })
+    Ok(Chosen { keys, parts, spare })
 }

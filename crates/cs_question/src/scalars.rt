@@ -1,21 +1,29 @@
 // What rules say of a document by its outline: its kind, and the value of a scalar; and an integer and a text that are all that is asked.
-ghost use Rattle.std.specs.Prelude.{◌≡◌, ℤ, false, FitsSigned, IfOk, IsNone, OnOk, ◌<◌, ℕ, List, length, string_bytes, All};
+ghost use Rattle.std.specs.Prelude.{◌≡◌, ℤ, true, false, not, FitsSigned, IfOk, IfSome, IsNone, OnOk, ◌<◌, ℕ, List, length, string_bytes, All};
 ghost use Rattle.std.specs.Int.{w64};
+ghost use Rattle.std.specs.Str.{bytes_eq};
 ghost use Rattle.cs_flat.specs.View.{item_view};
 ghost use Rattle.cs_instance.specs.Constraint.{outline};
 ghost use Rattle.cs_document.specs.Opened.{an_integer, a_text};
 ghost use Rattle.cs_package.specs.Expression.{range};
 ghost use Rattle.cs_instance.specs.Steps.{test_of};
+ghost use Rattle.cs_question.specs.Counts as specs;
+ghost use Rattle.cs_question.specs.Counts.{is_count};
 ghost use Rattle.cs_question.specs.Nodes.{asked_of};
 ghost use Rattle.cs_question.specs.Outlines.{verdict_of, may, may_all, AreMarked, IsToldBy, HasMore, IsNoneBeside, IsOneMarked, AreMarkedTexts};
 ghost use Rattle.cs_question.specs.Outlines.{IsOneMarkedText, HasMoreTexts};
 
-use crate::fault::Made;
+use crate::counts::{Counts, MOST_COUNTED, counts_of};
+use crate::fault::{Effort, Made, SearchFault, Searched};
 use crate::nodes::{Literal, Node, Nodes};
+use cs_document::text_length;
 use cs_flat::Item;
 use cs_instance::holds_simply;
-use cs_package::{Comparison, Shape};
+use cs_package::{Comparison, Counted, Shape};
 use std::alloc::Global;
+
+/// How many looks at a character of a text, or at one of the texts that it is compared with, are a step.
+const LOOKS_OF_STEP: usize = 1024;
 
 /// Whether a document of that outline meets a rule, where that is seen.
 fn verdict(node: &Node<'_>, item: &Item<'_>) -> Option<bool>
@@ -34,7 +42,7 @@ fn verdict(node: &Node<'_>, item: &Item<'_>) -> Option<bool>
 }
 
 /// Whether a document of that outline may be what is asked.
-fn may_meet(nodes: &Nodes<'_>, literal: Literal, item: &Item<'_>) -> bool
+pub(crate) fn may_meet(nodes: &Nodes<'_>, literal: Literal, item: &Item<'_>) -> bool
     ensures { result ≡ may nodes.now (outline (item_view item.now)) literal }
 {
     match nodes.of(literal) {
@@ -164,8 +172,99 @@ pub(crate) fn other_text(alloc: Global, marks: &[&str]) -> Made<String>
     Ok(text)
 }
 
+/// A text of so many characters, the first one of which is given.
+fn text_with(alloc: Global, first: char, length: usize) -> Made<String> {
+    let mut text = String::with_capacity(alloc, length)?;
+    for place in 0..length {
+        text.push(if place == 0 { first } else { 'a' })?;
+    }
+    Ok(text)
+}
+
+/// Whether a text is another one than a mark.
+fn is_other(mark: &str, text: &str) -> bool
+    ensures { result ≡ not (bytes_eq mark.now text.now) }
+{
+    mark != text
+}
+
+/// Whether a text is none of these.
+fn is_none_of(marks: &[&str], text: &str) -> bool
+    ensures { result ≡ specs.is_none_of marks.now text.now }
+{
+    marks.iter().all(|mark| is_other(mark, text))
+}
+
+/// Whether a text is none of these, and has as many characters as there may be.
+fn is_another(marks: &[&str], counts: Counts, text: &str) -> bool
+    ensures { result ≡ specs.is_another marks.now counts text.now }
+{
+    is_none_of(marks, text) && counts.has(text_length(text))
+}
+
+/// A text of so many characters that is none of these: they differ from it in its first one, or in how many there are.
+///
+/// # Errors
+/// `TooManyCases` where it would have more than 4,096 characters, or where each text is one of these that begins with one of as
+/// many characters as they are.
+fn text_beside(
+    alloc: Global,
+    marks: &[&str],
+    counts: Counts,
+    length: usize,
+    effort: &mut Effort,
+) -> Searched<String>
+    ensures { IfOk result (λ t. specs.is_another marks.now counts (string_bytes t) ≡ true) }
+{
+    if length > MOST_COUNTED {
+        return Err(SearchFault::TooManyCases);
+    }
+    let code = 'a' as usize;
+    for code in code..=code.saturating_add(marks.len()) {
+        effort.take(length.saturating_add(marks.len()) / LOOKS_OF_STEP)?;
+        if let Some(first) = u32::try_from(code).ok().and_then(char::from_u32) {
+            let text = text_with(alloc, first, length)?;
+            if is_another(marks, counts, &text) {
+                return Ok(text);
+            }
+        }
+    }
+    Err(SearchFault::TooManyCases)
+}
+
+/// A text of as many characters as there may be that is none of these: a longer one, where there may be any number of them, and
+/// else the shortest one that isn't empty. None where there may be no number of them.
+///
+/// # Errors
+/// `TooManyCases` where it would have more than 4,096 characters, or none was found.
+#[tactic(auto, using(crate::proofs::OtherTexts::longer_is_another))]
+fn another_text(
+    alloc: Global,
+    marks: &[&str],
+    counts: Counts,
+    effort: &mut Effort,
+) -> Searched<Option<String>>
+    ensures some { IfOk result (λ o. IfSome o (λ t. specs.is_another marks.now counts (string_bytes t) ≡ true)) }
+    ensures none { IfOk result (λ o. IsNone o → (n : ℕ) → is_count counts n ≡ false) }
+{
+    if counts.is_any() {
+        return Ok(Some(other_text(alloc, marks)?));
+    }
+    let Some(length) = counts.first_from(1).or(counts.first_from(0)) else {
+        return Ok(None);
+    };
+    Ok(Some(text_beside(alloc, marks, counts, length, effort)?))
+}
+
 /// A text that is all that is asked: one that rules compare with, or one that is none of these.
-pub(crate) fn text_of(nodes: &Nodes<'_>, asked: &[Literal]) -> Made<Option<String>>
+///
+/// # Errors
+/// `TooManyCases` where it would have more than 4,096 characters because of a limit of them.
+pub(crate) fn text_of(
+    nodes: &Nodes<'_>,
+    asked: &[Literal],
+    effort: &mut Effort,
+) -> Searched<Option<String>>
     ensures { IfOk result (λ o. IsNone o → (t : List ℕ) → may_all nodes.now (a_text t) asked.now ≡ false) }
 {
     let marks = texts_of(nodes, asked)?;
@@ -174,7 +273,13 @@ pub(crate) fn text_of(nodes: &Nodes<'_>, asked: &[Literal]) -> Made<Option<Strin
             return Ok(Some(String::from_str(nodes.alloc, *mark)?));
         }
     }
-    let other = other_text(nodes.alloc, &marks)?;
+    let counts = counts_of(nodes, asked, Counted::Characters);
+    let Some(other) = another_text(nodes.alloc, &marks, counts, effort)? else {
+        return Ok(None);
+    };
+    if !counts.is_any() {
+        effort.take(asked.len().saturating_mul(other.len()) / LOOKS_OF_STEP)?;
+    }
     if may_meet_all(nodes, asked, &Item::Text(other.as_str())) {
         return Ok(Some(other));
     }

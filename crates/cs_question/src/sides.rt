@@ -34,7 +34,7 @@ pub(crate) fn sign_of<'a>(node: &Node<'a>) -> Option<Sign<'a>> {
             Simple::Literal(literal) => Some(Sign::Literal(literal)),
             Simple::Range { least, greatest } => Some(Sign::Range(least, greatest)),
             Simple::Top | Simple::Bottom | Simple::Excluded(_) => None,
-            Simple::Kind(_) | Simple::Bound { .. } => None,
+            Simple::Kind(_) | Simple::Bound { .. } | Simple::Size { .. } => None,
         },
         Node::Within { least, greatest } => Some(Sign::Range(*least, *greatest)),
         Node::All(_) | Node::Any(_) | Node::Struct { .. } | Node::List { .. } => None,

@@ -26,6 +26,8 @@ const MOST_OF_ALL: usize = 3_000_000;
 pub(crate) struct Chosen<'a> {
     pub(crate) keys: Vec<Key<'a>>,
     pub(crate) parts: Vec<Vec<Literal>>,
+    /// The places where a value may be and needn't, with what is asked there.
+    pub(crate) spare: Vec<(Key<'a>, Vec<Literal>)>,
 }
 
 /// A document of which the parts are looked for, each with what is asked of it.

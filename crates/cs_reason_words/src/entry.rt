@@ -1,4 +1,5 @@
 // Reasons in words: what is wrong with a value, where that is, what of it is told once, and in which order.
+use crate::lengths::plural_ending;
 use crate::walk::{Branch, Way, Words, above};
 use crate::wording::{Kinds, MOST_WANTED, put_between, put_more};
 use cs_flat::{Flat, Item};
@@ -117,7 +118,7 @@ impl<'t> Finding<'t> {
     /// That a list has fewer elements than it has to have.
     pub fn few(alloc: Global, list: Item<'_>, least: usize) -> Made<Finding<'t>> {
         let count = element_count(list);
-        let ending = if count == 1 { "" } else { "s" };
+        let ending = plural_ending(count == 1);
         let text = format!(in alloc; "found {count} element{ending}, want at least {least}")?;
         Ok(Finding::here("few", text))
     }

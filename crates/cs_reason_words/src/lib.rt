@@ -3,6 +3,7 @@
 
 mod entry;
 mod form;
+mod lengths;
 mod walk;
 mod wording;
 
@@ -13,5 +14,6 @@ pub use entry::{
     position_in,
 };
 pub use form::{put_lines, put_told, report_verdict};
+pub use lengths::{Asked, LEAST, Lengths, MOST, plural_ending};
 pub use walk::{Way, Words, chain_to, put_step, told_by, walk_to};
 pub use wording::{Kinds, MOST_WANTED, put_between, put_more};

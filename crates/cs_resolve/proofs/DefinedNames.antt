@@ -4,7 +4,7 @@ use Rattle.std.specs.List.{AllByRecursion}
 use Rattle.cs_grammar.specs.Tree.{DefinitionTree, defined_name, NameTree, FileTree, definitions}
 use Rattle.cs_grammar.specs.Words.{Word, Words, definition_name}
 use Rattle.cs_grammar.specs.Spells.{SpellsDefinition, defined, SpellsDefinitions, no_definition, next_definition, SpellsWideFile, no_line, definition_line, name_line, SpellsFile, spelled, wide_spelled}
-use Rattle.cs_grammar.proofs.Rests.{IsRest, whole, behind, then, of_comma, of_definition, of_file_name, of_package}
+use Rattle.cs_grammar.proofs.Rests.{IsRest, whole, behind, then, of_comma, of_definition, of_file_name, of_package, of_imports}
 
 module _ (P : Word → Type 0) where
   abbrev Each : Words → Type 0
@@ -33,4 +33,4 @@ module _ (P : Word → Type 0) where
 
     pub of_file : {f : FileTree} {ts : Words} → SpellsFile f ts → Each ts → AllByRecursion Named (definitions f)
     of_file (spelled p k) h = of_definitions k (each_rest (of_package p) h)
-    of_file (wide_spelled p k) h = of_wide_file k (each_rest (of_package p) h)
+    of_file (wide_spelled is p i k) h = of_wide_file k (each_rest (then (of_package p) (of_imports i)) h)

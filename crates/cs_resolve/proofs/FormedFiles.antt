@@ -9,7 +9,7 @@ use Rattle.cs_grammar.specs.Tree as T
 use Rattle.cs_grammar.specs.Tree.{Label, Tree, Trees, Fields, Declarations, End, DefinitionTree, defined_name, body, NameTree, FileTree, definitions}
 use Rattle.cs_grammar.specs.Words.{Words}
 use Rattle.cs_grammar.specs.Written.{Place, IsWritten, AreWritten, AreWrittenFields, IsWrittenEnd, IsWrittenDefinition, IsWrittenFile}
-use Rattle.cs_grammar.specs.Spells.{is_null, literal_of, fields_alone, literal_if, SpellsBound, limit_is, other_number, other_text, other_null, SpellsValue, long, short, SpellsField, labelled, every_key, SpellsExpr, one_branch, disjunction_is, SpellsBars, no_bar, a_bar, SpellsBranch, unmarked, marked_is, SpellsConj, one_operand, conjunction_is, SpellsAmps, no_amp, an_amp, SpellsOperand, top_is, bottom_is, reference_is, name_is, number_is, text_is, bound_is, paren_is, struct_is, list_is, call_paren_is, shut_is, local_is, selected_is, wide_struct_is, SpellsWideStruct, no_declarations, wide_dots_alone, some_declarations, SpellsDeclarations, a_field, an_embedding, a_name, a_let, a_conditional, SpellsMore, no_more, next_declaration, SpellsStruct, no_fields, dots_alone, fields, SpellsFields, no_more_fields, next_field, SpellsList, no_elements, rest_alone, elements, SpellsElements, no_more_elements, next_element, SpellsEnd, closed_is, rest_is, SpellsRest, any_is, each_is, SpellsDefinition, defined, SpellsDefinitions, no_definition, next_definition, SpellsWideFile, no_line, definition_line, name_line, SpellsFile, spelled, wide_spelled}
+use Rattle.cs_grammar.specs.Spells.{is_null, literal_of, fields_alone, literal_if, SpellsBound, limit_is, other_number, other_text, other_null, SpellsValue, long, short, SpellsField, labelled, every_key, SpellsExpr, one_branch, disjunction_is, SpellsBars, no_bar, a_bar, SpellsBranch, unmarked, marked_is, SpellsConj, one_operand, conjunction_is, SpellsAmps, no_amp, an_amp, SpellsOperand, top_is, bottom_is, reference_is, name_is, number_is, text_is, bound_is, paren_is, struct_is, list_is, call_paren_is, shut_is, local_is, selected_is, called_is, wide_struct_is, SpellsWideStruct, no_declarations, wide_dots_alone, some_declarations, SpellsDeclarations, a_field, an_embedding, a_name, a_let, a_conditional, SpellsMore, no_more, next_declaration, SpellsStruct, no_fields, dots_alone, fields, SpellsFields, no_more_fields, next_field, SpellsList, no_elements, rest_alone, elements, SpellsElements, no_more_elements, next_element, SpellsEnd, closed_is, rest_is, SpellsRest, any_is, each_is, SpellsDefinition, defined, SpellsDefinitions, no_definition, next_definition, SpellsWideFile, no_line, definition_line, name_line, SpellsFile, spelled, wide_spelled}
 use Rattle.cs_grammar.specs.declared.ast.FieldMark.{FieldMark}
 use Rattle.cs_grammar.specs.declared.ast.FieldMark.TheVariants.{Regular}
 use Rattle.cs_package.specs.Environment.{IsDefinitionName}
@@ -93,6 +93,7 @@ mutual
   of_operand (shut_is s e c) = tt
   of_operand local_is = tt
   of_operand (selected_is o b l) = tt
+  of_operand (called_is f a) = tt
   of_operand (wide_struct_is {p} {ds} {b} is s) = subst IsWellFormed (sym is) (of_literal p ds b (fields_alone ds) (of_wide_struct s))
 
   of_wide_struct : {ds : Declarations} {b : Bool} {ts r : Words} → SpellsWideStruct ds b ts r → AreFormedAlone (fields_alone ds)
@@ -154,7 +155,7 @@ of_wide_file (name_line n c k) h = of_wide_file k h
 
 of_file : {f : FileTree} {ts : Words} → SpellsFile f ts → AreNamed (definitions f) → IsWellFormedFile f
 of_file (spelled p ds) h = of_definitions ds h
-of_file (wide_spelled p ls) h = of_wide_file ls h
+of_file (wide_spelled is p i ls) h = of_wide_file ls h
 
 of_source : (f : FileTree) → (t : List ℕ) × IsSpelledBy t f → IsWellFormedFile f
 of_source f h = of_file h.1.spelled (names-spelled h.0 f h.1)

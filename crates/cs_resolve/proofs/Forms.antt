@@ -2,7 +2,8 @@
 use Rattle.std.proofs.Common.{◌≡◌, ℕ, ◌-◌, ◌^◌, true, false, List, [], ◌∷◌, map, Option, Some, None, pos, neg_ℤ, codes, inl, inr, refl, arith}
 use Rattle.cs_grammar.specs.Tree.{Label, written_label, Tree, atom, named, reference, conjunction, disjunction, paren, struct, list, wide, marked, none, more, no_field, field, closed, any, each, DefinitionTree, definition, FileTree, file}
 use Rattle.cs_grammar.specs.Atom as atoms
-use Rattle.cs_grammar.specs.Atom.{top, bottom, null, boolean, integer, text, bound, not_integer, not_text, not_null}
+use Rattle.cs_grammar.specs.Atom.{top, bottom, null, boolean, integer, text, bound, not_integer, not_text, not_null, size}
+use Rattle.cs_grammar.specs.declared.ast.Counted.TheVariants.{Elements}
 use Rattle.cs_grammar.specs.declared.ast.FieldMark.TheVariants.{Regular, Optional, Required}
 use Rattle.cs_package.specs.Expression as cue
 use Rattle.cs_package.specs.Expression.{Expression, Expressions}
@@ -34,7 +35,7 @@ quoted_a = written_label (codes "a") true
 abbrev leaves : List Tree
 leaves =
     atom top ∷ atom bottom ∷ atom null ∷ atom (boolean true) ∷ atom (integer (pos 1)) ∷ atom (text (codes "s")) ∷ named (codes "int") 4 ∷ reference (codes "A") 5
-    ∷ atom (bound atoms.more (pos 1)) ∷ atom (not_integer (pos 1)) ∷ atom (not_text (codes "s")) ∷ atom not_null ∷ []
+    ∷ atom (bound atoms.more (pos 1)) ∷ atom (not_integer (pos 1)) ∷ atom (not_text (codes "s")) ∷ atom not_null ∷ atom (size Elements false (pos 3)) ∷ []
 
 -- the forms that have: `_ & e`, `_ | e`, `(e)`, `{a: e}`, `{b: _, a: e, ...}`, `[_, e]`, `[e, ...]` and `[...e]`
 abbrev around : Tree → List Tree
@@ -108,7 +109,7 @@ no_digit_first h = let e = h.0.0 in cc
 -- ---- the opening rule
 
 -- a reference alone among the leaves isn't plain
-holds_of_leaves : map has_literal_or_reference leaves ≡ false ∷ false ∷ false ∷ false ∷ false ∷ false ∷ false ∷ true ∷ false ∷ false ∷ false ∷ false ∷ []
+holds_of_leaves : map has_literal_or_reference leaves ≡ false ∷ false ∷ false ∷ false ∷ false ∷ false ∷ false ∷ true ∷ false ∷ false ∷ false ∷ false ∷ false ∷ []
 holds_of_leaves = refl
 
 -- a struct literal isn't plain, and the other forms are where what is inside is
@@ -121,7 +122,7 @@ holds_of_reference = refl
 holds_of_empty : map has_literal_or_reference (empty ∷ list none closed ∷ list none any ∷ []) ≡ true ∷ false ∷ false ∷ []
 holds_of_empty = refl
 
-literals_of_leaves : map literals leaves ≡ [] ∷ [] ∷ [] ∷ [] ∷ [] ∷ [] ∷ [] ∷ [] ∷ [] ∷ [] ∷ [] ∷ [] ∷ []
+literals_of_leaves : map literals leaves ≡ [] ∷ [] ∷ [] ∷ [] ∷ [] ∷ [] ∷ [] ∷ [] ∷ [] ∷ [] ∷ [] ∷ [] ∷ [] ∷ []
 literals_of_leaves = refl
 
 -- a literal that doesn't end with `...`, and one that does
@@ -136,7 +137,7 @@ literals_of_forms : map literals (around empty)
     ≡ (shut 7 ∷ []) ∷ (shut 7 ∷ []) ∷ (shut 7 ∷ []) ∷ (shut 1 ∷ shut 7 ∷ []) ∷ (open_at 1 ∷ shut 7 ∷ []) ∷ (shut 7 ∷ []) ∷ (shut 7 ∷ []) ∷ (shut 7 ∷ []) ∷ []
 literals_of_forms = refl
 
-conjunctions_of_leaves : map (conjunctions no_refinements) leaves ≡ [] ∷ [] ∷ [] ∷ [] ∷ [] ∷ [] ∷ [] ∷ [] ∷ [] ∷ [] ∷ [] ∷ [] ∷ []
+conjunctions_of_leaves : map (conjunctions no_refinements) leaves ≡ [] ∷ [] ∷ [] ∷ [] ∷ [] ∷ [] ∷ [] ∷ [] ∷ [] ∷ [] ∷ [] ∷ [] ∷ [] ∷ []
 conjunctions_of_leaves = refl
 
 -- `null & 1`
@@ -173,7 +174,7 @@ literal_in_file_1 = refl
 
 -- ---- scopes
 
-places_of_leaves : map (places []) leaves ≡ [] ∷ [] ∷ [] ∷ [] ∷ [] ∷ [] ∷ (a_name [] (codes "int") 4 ∷ []) ∷ (a_reference (codes "A") 5 ∷ []) ∷ [] ∷ [] ∷ [] ∷ [] ∷ []
+places_of_leaves : map (places []) leaves ≡ [] ∷ [] ∷ [] ∷ [] ∷ [] ∷ [] ∷ (a_name [] (codes "int") 4 ∷ []) ∷ (a_reference (codes "A") 5 ∷ []) ∷ [] ∷ [] ∷ [] ∷ [] ∷ [] ∷ []
 places_of_leaves = refl
 
 -- a name that stands in so many literals, innermost first
@@ -207,7 +208,7 @@ faults_in_order = refl
 
 resolved_leaves : map (resolved no_refinements) leaves
     ≡ cue.atom cue.top ∷ cue.atom cue.bottom ∷ cue.atom cue.null ∷ cue.atom (cue.boolean true) ∷ cue.atom (cue.integer (pos 1)) ∷ cue.atom (cue.text (codes "s")) ∷ cue.kind cue.int ∷ cue.reference (codes "A")
-    ∷ cue.atom (cue.bound cue.more (pos 1)) ∷ cue.atom (cue.not_integer (pos 1)) ∷ cue.atom (cue.not_text (codes "s")) ∷ cue.atom cue.not_null ∷ []
+    ∷ cue.atom (cue.bound cue.more (pos 1)) ∷ cue.atom (cue.not_integer (pos 1)) ∷ cue.atom (cue.not_text (codes "s")) ∷ cue.atom cue.not_null ∷ cue.atom (cue.size Elements false (pos 3)) ∷ []
 resolved_leaves = refl
 
 abbrev two : Expressions

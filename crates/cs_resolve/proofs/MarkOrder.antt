@@ -8,10 +8,10 @@ use Rattle.cs_grammar.specs.Source.{IsSpelledBy}
 use Rattle.cs_grammar.specs.Tree.{Label, scoped_label, Tree, atom, null, boolean, named, reference, conjunction, disjunction, paren, struct, list, Trees, none, more, Declarations, Fields, no_field, field, End, closed, any, each, DefinitionTree, body, NameTree, FileTree, definitions}
 use Rattle.cs_grammar.specs.Words as W
 use Rattle.cs_grammar.specs.Words.{Words}
-use Rattle.cs_grammar.specs.Spells.{is_null, literal_of, start_at, fields_alone, literal_if, SpellsBound, limit_is, other_number, other_text, other_null, SpellsLabel, bare_label, quoted_label, SpellsMark, regular, optional, required, SpellsValue, long, short, SpellsField, labelled, every_key, SpellsExpr, one_branch, disjunction_is, SpellsBars, no_bar, a_bar, SpellsBranch, unmarked, marked_is, SpellsConj, one_operand, conjunction_is, SpellsAmps, no_amp, an_amp, SpellsOperand, top_is, bottom_is, reference_is, name_is, number_is, text_is, bound_is, paren_is, struct_is, list_is, call_paren_is, shut_is, local_is, selected_is, wide_struct_is, SpellsWideStruct, no_declarations, wide_dots_alone, some_declarations, SpellsDeclarations, a_field, an_embedding, a_name, a_let, a_conditional, SpellsMore, no_more, next_declaration, SpellsStruct, no_fields, dots_alone, fields, SpellsFields, no_more_fields, next_field, SpellsList, no_elements, rest_alone, elements, SpellsElements, no_more_elements, next_element, SpellsEnd, closed_is, rest_is, SpellsRest, any_is, each_is, SpellsDefinition, defined, SpellsDefinitions, no_definition, next_definition, SpellsWideFile, no_line, definition_line, name_line, SpellsFile, spelled, wide_spelled}
+use Rattle.cs_grammar.specs.Spells.{is_null, literal_of, start_at, fields_alone, literal_if, SpellsBound, limit_is, other_number, other_text, other_null, SpellsLabel, bare_label, quoted_label, SpellsMark, regular, optional, required, SpellsValue, long, short, SpellsField, labelled, every_key, SpellsExpr, one_branch, disjunction_is, SpellsBars, no_bar, a_bar, SpellsBranch, unmarked, marked_is, SpellsConj, one_operand, conjunction_is, SpellsAmps, no_amp, an_amp, SpellsOperand, top_is, bottom_is, reference_is, name_is, number_is, text_is, bound_is, paren_is, struct_is, list_is, call_paren_is, shut_is, local_is, selected_is, called_is, wide_struct_is, SpellsWideStruct, no_declarations, wide_dots_alone, some_declarations, SpellsDeclarations, a_field, an_embedding, a_name, a_let, a_conditional, SpellsMore, no_more, next_declaration, SpellsStruct, no_fields, dots_alone, fields, SpellsFields, no_more_fields, next_field, SpellsList, no_elements, rest_alone, elements, SpellsElements, no_more_elements, next_element, SpellsEnd, closed_is, rest_is, SpellsRest, any_is, each_is, SpellsDefinition, defined, SpellsDefinitions, no_definition, next_definition, SpellsWideFile, no_line, definition_line, name_line, SpellsFile, spelled, wide_spelled}
 use Rattle.cs_grammar.specs.declared.ast.FieldMark.{FieldMark}
 use Rattle.cs_grammar.specs.declared.ast.FieldMark.TheVariants.{Regular, Optional, Required, Every}
-use Rattle.cs_grammar.proofs.Rests.{IsRest, whole, behind, of_comma, of_paren, of_list_end, of_struct_end, of_number, of_mark, of_opening, of_base, of_selectors, of_scope_name, of_file_name, of_package, of_conj as of_marked, of_declarations as of_declared}
+use Rattle.cs_grammar.proofs.Rests.{IsRest, whole, behind, of_comma, of_paren, of_list_end, of_struct_end, of_number, of_mark, of_opening, of_base, of_selectors, of_argument, of_scope_name, of_file_name, of_package, of_imports, of_conj as of_marked, of_declarations as of_declared}
 use Rattle.cs_resolve.proofs.WordOrder.{From, later, at_least, past, tail, from_cut}
 
 -- ---- marks
@@ -199,6 +199,7 @@ mutual
   of_operand (shut_is s e c) h = no_offsets (then (of_expr e (tail (tail h))) (of_paren c))
   of_operand local_is h = put (at_least h) (still (past h))
   of_operand (selected_is o b l) h = still (rest (of_selectors l) (rest (of_base b) h))
+  of_operand (called_is f a) h = still (rest (of_argument a) (tail (tail (tail h))))
   of_operand {o = from} (wide_struct_is {p} {ds} {b} {e} {ts} {r} is s) h =
       subst (λ (t : Tree). Spans from (marks t) r) (sym is) (of_literal p ds b (fields_alone ds) (put (at_least h) (of_wide_struct s (past h))))
 
@@ -268,7 +269,7 @@ of_wide_file (name_line n c k) h = of_wide_file k (rest (of_comma c) (rest (of_f
 
 of_file : {f : FileTree} {o : ℕ} {ts : Words} → SpellsFile f ts → From o ts → (p : ℕ) × Within o (marks_of (definitions f)) p
 of_file (spelled p k) h = let s = of_definitions k (rest (of_package p) h) in (s.end, s.within)
-of_file (wide_spelled p k) h = let s = of_wide_file k (rest (of_package p) h) in (s.end, s.within)
+of_file (wide_spelled is p i k) h = let s = of_wide_file k (rest (of_imports i) (rest (of_package p) h)) in (s.end, s.within)
 
 -- the offsets of a file that a source spells rise
 pub marks-rise : (t : List ℕ) (f : FileTree) → IsSpelledBy t f → (p : ℕ) × Within 0 (marks_of (definitions f)) p

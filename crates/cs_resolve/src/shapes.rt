@@ -80,6 +80,15 @@ fn atom_shape(expr: &Expr) -> Result<Shape, ResolveFault>
         Expr::NotInt(value) => Ok(Shape::NotInt(*value)),
         Expr::NotText(text) => Ok(Shape::NotText(text.clone()?)),
         Expr::NotNull => Ok(Shape::NotNull),
+        Expr::Size {
+            counted,
+            is_least,
+            limit,
+        } => Ok(Shape::Size {
+            counted: *counted,
+            is_least: *is_least,
+            limit: *limit,
+        }),
         Expr::Name { .. }
         | Expr::Reference { .. }
         | Expr::And(_)

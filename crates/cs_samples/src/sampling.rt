@@ -28,11 +28,12 @@ pub struct SampleTexts {
 /// and at most as many as are asked for; and how many others were found. Hidden characters stand in them as escapes.
 ///
 /// Valid ones: an instance first, and then one for each alternative, each optional key with and without, each end of a range, the
-/// least length of a list and the next one, and a further key where one is allowed. Invalid ones: for each kind, literal and bound,
-/// each required key, each length of a list, and each struct that allows no further key, one that is no instance for this alone,
-/// where there is one; any that is no instance where there is none of these. Each definition is sampled at the first place that
-/// refers to it. Where that gives no document that just fails, the definition is changed for all places that refer to it. A further
-/// key is called `key`. There is no valid one, where one is asked for, only if nothing is an instance of the root.
+/// least length of a list and the next one, as many characters, elements or keys as a limit of them says, and a further key where
+/// one is allowed. Invalid ones: for each kind, literal, bound and limit, each required key, each length of a list, and each struct
+/// that allows no further key, one that is no instance for this alone, where there is one; any that is no instance where there is
+/// none of these. Each definition is sampled at the first place that refers to it. Where that gives no document that just fails, the
+/// definition is changed for all places that refer to it. A further key is called `key`. There is no valid one, where one is asked
+/// for, only if nothing is an instance of the root.
 ///
 /// They come in turns. Each rule gets its first turn before any gets its second one, and in a turn each definition that the root
 /// reaches gives one, before any gives a second one; those of a definition come from the outside in.

@@ -1,7 +1,7 @@
 -- Files without selectors have none with values in their places.
 use Rattle.std.proofs.Common.{◌≡◌, ℕ, Bool, true, false, ◌&&◌, not, cond, List, [], ◌∷◌, map, filter, Option, Some, None, refl, subst}
 use Rattle.std.specs.List.{list_any}
-use Rattle.cs_grammar.specs.Tree.{Tree, atom, named, reference, conjunction, disjunction, paren, struct, list, wide, marked, merged, shut, selected, Declarations, no_declaration, declared, embedded, conditional, Trees, none, more, Fields, no_field, field, End, closed, any, each, DefinitionTree, definition, body, FileTree, file}
+use Rattle.cs_grammar.specs.Tree.{Tree, atom, named, reference, conjunction, disjunction, paren, struct, list, wide, marked, merged, shut, selected, called, imported, Declarations, no_declaration, declared, embedded, conditional, Trees, none, more, Fields, no_field, field, End, closed, any, each, DefinitionTree, definition, body, FileTree, file}
 use Rattle.cs_names.proofs.Truths.{neither, left_of, right_of}
 use Rattle.cs_plain.specs.Bodies.{Body, body_of, bodies_in, values_of}
 use Rattle.cs_plain.specs.Placed.{as_operand, in_parens, as_enclosed, as_alone, in_literal, as_embedded, fits, shaped, in_place, sole_plain, are_none, value_of, fields_hide, declarations_hide, placed, placed_each, placed_fields, placed_declarations, placed_end, placed_definition, kinds_in, placed_here, placed_files, gone_in, is_kept, without_gone, in_places}
@@ -50,6 +50,8 @@ alternative_has_none (wide (marked o e)) h = single_has_none e h
 alternative_has_none (wide (merged o ds b)) h = cc
 alternative_has_none (wide (shut o e)) h = cc
 alternative_has_none (wide (selected o s ls)) h = cc
+alternative_has_none (wide (called o s f z)) h = cc
+alternative_has_none (wide (imported o s)) h = cc
 
 alternatives_have_none : (es : Trees) → are_alternatives es ≡ true → some_has es ≡ false
 alternatives_have_none none h = refl
@@ -127,6 +129,8 @@ module _ (value : List ℕ → Option Tree) (hides : List ℕ → Bool) (well : 
     placed_has_none p (wide (merged o ds b)) h = declarations_have_none (in_literal (declarations_hide value hides ds) p) ds h
     placed_has_none p (wide (shut o e)) h = placed_has_none (as_enclosed p) e h
     placed_has_none p (wide (selected o s ls)) h = h
+    placed_has_none p (wide (called o s f z)) h = refl
+    placed_has_none p (wide (imported o s)) h = refl
 
     each_has_none : (p : Standing) (es : Trees) → some_has es ≡ false → some_has (placed_each value hides p es) ≡ false
     each_has_none p none h = refl

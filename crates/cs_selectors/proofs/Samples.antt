@@ -1,13 +1,16 @@
 -- Samples, worked by the definitions: files with selectors, and what they stand for or what is at fault.
-use Rattle.std.proofs.Common.{◌≡◌, ℕ, true, false, List, [], ◌∷◌, codes, None, refl, sym, ap, ◌∙◌}
+use Rattle.std.proofs.Common.{◌≡◌, ℕ, pos, true, false, List, [], ◌∷◌, codes, None, refl, sym, ap, ◌∙◌}
 use Rattle.std.specs.Fmt.{digits}
-use Rattle.cs_grammar.specs.Tree.{Selector, written_label, Tree, named, reference, conjunction, paren, struct, wide, selected, none, more, Fields, no_field, field, definition, DefinitionTree, FileTree, file}
+use Rattle.cs_grammar.specs.Atom.{size}
+use Rattle.cs_grammar.specs.Tree.{Selector, written_label, Tree, atom, named, reference, conjunction, paren, struct, wide, selected, called, none, more, Fields, no_field, field, definition, DefinitionTree, FileTree, file}
 use Rattle.cs_grammar.specs.Spells.{every_label}
+use Rattle.cs_grammar.specs.declared.ast.Counted.TheVariants.{Characters, Keys}
 use Rattle.cs_grammar.specs.declared.ast.FieldMark.TheVariants.{Regular, Optional, Every}
 use Rattle.cs_names.specs.Lifted.{all_definitions}
 use Rattle.cs_names.proofs.Free.{first_number}
 use Rattle.cs_plain.specs.Placed.{in_places}
 use Rattle.cs_selectors.specs.Given.{Given, is_taken, given_names, gifts}
+use Rattle.cs_selectors.specs.Having.{have_selectors}
 use Rattle.cs_selectors.specs.Selectors.{selector_faults, unselected_from, unselected_files}
 use Rattle.cs_selectors.specs.declared.lack.Lack.TheVariants.{LeftOut, Unknown, NotRegular}
 
@@ -57,6 +60,24 @@ one_label : Stands (of (P (from (codes "B") (label x ∷ [])) ∷ B (own x int n
     (of (P int ∷ B (own x int no_field) ∷ []))
 one_label = (refl, refl)
 
+-- `#B: {x: strings.MinRunes(2)}`, without the call: a length is plain
+abbrev two_characters : Tree
+two_characters = atom (size Characters true (pos 2))
+
+of_length : Stands (of (P (from (codes "B") (label x ∷ [])) ∷ B (own x two_characters no_field) ∷ []))
+    (of (P two_characters ∷ B (own x two_characters no_field) ∷ []))
+of_length = (refl, refl)
+
+-- `#P: strings.MinRunes(2)`, with the call, which no program hands on: it is no selector
+abbrev call_files : List FileTree
+call_files = of (P (wide (called 4 (codes "strings") (label (codes "MinRunes")) (pos 2))) ∷ [])
+
+call_is_no_selector : have_selectors call_files ≡ false
+call_is_no_selector = refl
+
+call_stays : Stands call_files call_files
+call_stays = (refl, refl)
+
 -- `#P: #B.x.y` and `#B: {x: {y: #B.x}}`: one of the other, in the order of the text
 two_labels : Stands (of (P (from (codes "B") (label x ∷ label y ∷ [])) ∷ B (own x (struct 66 (own y (from (codes "B") (label x ∷ [])) no_field) false) no_field) ∷ []))
     (of (P (reference (codes "B_x_y") 4) ∷ B (own x (struct 66 (own y (reference (codes "B_x") 4) no_field) false) no_field)
@@ -100,6 +121,10 @@ every_label_alone = refl
 
 optional : selector_faults (of (P (from (codes "B") (label x ∷ [])) ∷ B (field (written_label x false) Optional int no_field) ∷ [])) ≡ ((0, 4), NotRegular) ∷ []
 optional = refl
+
+-- `#B: struct.MinFields(1)` declares no key
+length_declares_none : selector_faults (of (P (from (codes "B") (label x ∷ [])) ∷ definition (codes "B") 60 (atom (size Keys true (pos 1))) ∷ [])) ≡ ((0, 4), Unknown) ∷ []
+length_declares_none = refl
 
 -- `#B: {x: int}` has nothing under `x`, and `#B: #C` doesn't tell what it has
 nothing_under : selector_faults (of (P (from (codes "B") (label x ∷ label y ∷ [])) ∷ B (own x int no_field) ∷ [])) ≡ ((0, 4), Unknown) ∷ []

@@ -2,7 +2,7 @@
 use Rattle.std.proofs.Common.{◌≡◌, ℕ, suc, Bool, true, false, ◌==◌, cond, List, [], ◌∷◌, ◌++◌, map, length, refl, sym, ap, ap₂, ◌∙◌, arith}
 use Rattle.std.proofs.lemmas.List.{append-nil}
 use Rattle.std.specs.List.{AllByRecursion, list_any, flat_map}
-use Rattle.cs_grammar.specs.Tree.{Selector, Tree, atom, named, reference, conjunction, disjunction, paren, struct, list, wide, marked, merged, shut, selected, Declarations, no_declaration, declared, embedded, conditional, Trees, none, more, Fields, no_field, field, End, closed, any, each, DefinitionTree, definition, body, FileTree, file}
+use Rattle.cs_grammar.specs.Tree.{Selector, Tree, atom, named, reference, conjunction, disjunction, paren, struct, list, wide, marked, merged, shut, selected, called, imported, Declarations, no_declaration, declared, embedded, conditional, Trees, none, more, Fields, no_field, field, End, closed, any, each, DefinitionTree, definition, body, FileTree, file}
 use Rattle.cs_grammar.specs.Written.{Place, by_itself, of_bar, of_amp, IsWritten, AreWritten, AreWrittenFields, AreWrittenDeclarations, IsWrittenEnd, IsWrittenDefinition, IsWrittenFile}
 use Rattle.cs_names.specs.Lifted.{all_definitions}
 use Rattle.cs_names.proofs.Truths.{neither, left_of, right_of}
@@ -37,6 +37,8 @@ module _ (i : ℕ) where
     unused (wide (merged o ds b)) h = declarations_unused ds h
     unused (wide (shut o e)) h = unused e h
     unused (wide (selected o s ls)) h = cc
+    unused (wide (called o s f z)) h = refl
+    unused (wide (imported o s)) h = refl
 
     each_unused : (es : Trees) → some_has es ≡ false → uses_each i es ≡ []
     each_unused none h = refl
@@ -85,6 +87,8 @@ module _ (by : List ℕ → List Selector → List ℕ) where
     stays (wide (merged o ds b)) h = ap (λ xs. wide (merged o xs b)) (declarations_stay ds h)
     stays (wide (shut o e)) h = ap (λ x. wide (shut o x)) (stays e h)
     stays (wide (selected o s ls)) h = cc
+    stays (wide (called o s f z)) h = refl
+    stays (wide (imported o s)) h = refl
 
     each_stays : (es : Trees) → some_has es ≡ false → referring_each by es ≡ es
     each_stays none h = refl
@@ -143,6 +147,8 @@ mutual
   has_none p (wide (merged o ds b)) h = declarations_have_none ds h
   has_none p (wide (shut o e)) h = has_none by_itself e h
   has_none p (wide (selected o s ls)) h = absurd h
+  has_none p (wide (called o s f z)) h = refl
+  has_none p (wide (imported o s)) h = refl
 
   each_has_none : (p : Place) (es : Trees) → AreWritten p es → some_has es ≡ false
   each_has_none p none h = refl
@@ -188,6 +194,8 @@ module _ (by : List ℕ → List Selector → List ℕ) where
     left_none (wide (merged o ds b)) = declarations_left_none ds
     left_none (wide (shut o e)) = left_none e
     left_none (wide (selected o s ls)) = refl
+    left_none (wide (called o s f z)) = refl
+    left_none (wide (imported o s)) = refl
 
     each_left_none : (es : Trees) → some_has (referring_each by es) ≡ false
     each_left_none none = refl

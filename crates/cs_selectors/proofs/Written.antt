@@ -5,7 +5,7 @@ use Rattle.std.proofs.lemmas.List.{append_assoc, append-nil}
 use Rattle.std.specs.Option.{unwrap_or}
 use Rattle.std.specs.Str.{bytes_eq}
 use Rattle.cs_grammar.specs.Spelling.{is_name_byte}
-use Rattle.cs_grammar.specs.Tree.{Selector, Tree, atom, named, reference, conjunction, disjunction, paren, struct, list, wide, marked, merged, shut, selected, Declarations, no_declaration, declared, embedded, conditional, Trees, none, more, Fields, no_field, field, End, closed, any, each, DefinitionTree, definition, FileTree, file}
+use Rattle.cs_grammar.specs.Tree.{Selector, Tree, atom, named, reference, conjunction, disjunction, paren, struct, list, wide, marked, merged, shut, selected, called, imported, Declarations, no_declaration, declared, embedded, conditional, Trees, none, more, Fields, no_field, field, End, closed, any, each, DefinitionTree, definition, FileTree, file}
 use Rattle.cs_grammar.specs.View.{Seen}
 use Rattle.cs_grammar.specs.Written.{Place, by_itself, of_bar, of_amp, AreTwo, IsDefinitionName, IsWritten, AreWritten, AreWrittenFields, AreWrittenDeclarations, IsWrittenEnd, IsWrittenDefinition, IsWrittenFile}
 use Rattle.cs_names.specs.Having.{is_hidden}
@@ -45,6 +45,8 @@ module _ (by : List ℕ → List Selector → List ℕ) (good : (s : List ℕ) (
     retold p (wide (merged o ds b)) h = declarations_retold ds h
     retold p (wide (shut o e)) h = retold by_itself e h
     retold p (wide (selected o s ls)) h = good s ls h
+    retold p (wide (called o s f z)) h = h
+    retold p (wide (imported o s)) h = h
 
     each_retold : (p : Place) (es : Trees) → AreWritten p (referring_each head es) → AreWritten p (referring_each by es)
     each_retold p none h = tt
@@ -154,6 +156,8 @@ module _ (i : ℕ) where
     heads p (wide (merged o ds b)) h = declarations_heads ds h
     heads p (wide (shut o e)) h = heads by_itself e h
     heads p (wide (selected o s ls)) h = (h, tt)
+    heads p (wide (called o s f z)) h = tt
+    heads p (wide (imported o s)) h = tt
 
     each_heads : (p : Place) (es : Trees) → AreWritten p (referring_each head es) → Heads (uses_each i es)
     each_heads p none h = tt

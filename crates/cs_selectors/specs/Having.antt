@@ -1,7 +1,7 @@
 -- Whether files have selectors, at any depth (CUE, selectors).
 use Rattle.std.specs.Prelude.{Bool, true, false, ◌||◌, List}
 use Rattle.std.specs.List.{list_any}
-use Rattle.cs_grammar.specs.Tree.{Tree, atom, named, reference, conjunction, disjunction, paren, struct, list, wide, Wide, marked, merged, shut, selected, Declarations, no_declaration, declared, embedded, conditional, Trees, none, more, Fields, no_field, field, End, closed, any, each, body, FileTree, definitions}
+use Rattle.cs_grammar.specs.Tree.{Tree, atom, named, reference, conjunction, disjunction, paren, struct, list, wide, Wide, marked, merged, shut, selected, called, imported, Declarations, no_declaration, declared, embedded, conditional, Trees, none, more, Fields, no_field, field, End, closed, any, each, body, FileTree, definitions}
 
 abbrev mutual
   pub has_selector : Tree → Bool
@@ -20,6 +20,8 @@ abbrev mutual
   wide_has (merged o ds b) = declarations_have ds
   wide_has (shut o e) = has_selector e
   wide_has (selected o s ls) = true
+  wide_has (called o s f z) = false
+  wide_has (imported o s) = false
 
   pub some_has : Trees → Bool
   some_has none = false

@@ -1,7 +1,7 @@
 -- The selectors of files, in order of the files and of the text.
 use Rattle.std.specs.Prelude.{ℕ, suc, List, [], ◌∷◌, ◌++◌}
 use Rattle.std.specs.List.{flat_map}
-use Rattle.cs_grammar.specs.Tree.{Selector, Tree, atom, named, reference, conjunction, disjunction, paren, struct, list, wide, Wide, marked, merged, shut, selected, Declarations, no_declaration, declared, embedded, conditional, Trees, none, more, Fields, no_field, field, End, closed, any, each, DefinitionTree, FileTree, definitions}
+use Rattle.cs_grammar.specs.Tree.{Selector, Tree, atom, named, reference, conjunction, disjunction, paren, struct, list, wide, Wide, marked, merged, shut, selected, called, imported, Declarations, no_declaration, declared, embedded, conditional, Trees, none, more, Fields, no_field, field, End, closed, any, each, DefinitionTree, FileTree, definitions}
 use Rattle.cs_grammar.specs.Tree as T
 
 -- the number of a file, and an offset there
@@ -35,6 +35,8 @@ module _ (i : ℕ) where
     uses_wide (merged o ds b) = uses_declarations ds
     uses_wide (shut o e) = uses e
     uses_wide (selected o s ls) = record { place = (i, o); head = s; labels = ls } ∷ []
+    uses_wide (called o s f z) = []
+    uses_wide (imported o s) = []
 
     pub uses_each : Trees → List Use
     uses_each none = []

@@ -54,6 +54,7 @@ fn wide_has(form: &Wide) -> bool
         Wide::Marked { value, .. } | Wide::Shut { value, .. } => has_selector(value),
         Wide::Merged { declarations, .. } => declarations_have(declarations),
         Wide::Selected { .. } => true,
+        Wide::Called { .. } | Wide::Imported { .. } => false,
     }
 }
 

@@ -6,7 +6,7 @@ ghost use Rattle.cs_plain.specs.Selecting as Spec;
 ghost use Rattle.cs_selectors.specs.Checks.{TellsNames, referring_field_seen, referring_seen, referring_wide};
 
 use crate::given::{Giving, path_of};
-use cs_grammar::{Declaration, Expr, Field, ListEnd, Selector, Wide, atom};
+use cs_grammar::{Declaration, Expr, Field, ListEnd, Selector, Wide, atom, copied_form};
 use cs_plain::copy_conditions;
 use std::alloc::{AllocError, Global};
 
@@ -98,9 +98,11 @@ impl<'a> Referring<'_, '_, 'a> {
                 Ok(Expr::Wide(Wide::Shut { at, value }))
             }
             Wide::Selected { at, name, labels } => {
-                let at = *at;
                 let text = self.name(name, labels)?;
-                Ok(Expr::Reference { text, at })
+                Ok(Expr::Reference { text, at: *at })
+            }
+            Wide::Called { .. } | Wide::Imported { .. } => {
+                Ok(Expr::Wide(copied_form(self.alloc, form)?))
             }
         }
     }

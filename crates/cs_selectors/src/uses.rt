@@ -44,6 +44,7 @@ fn add_wide<'a>(found: &mut Vec<Use<'a>>, file: usize, form: &'a Wide) -> Result
         Wide::Marked { value, .. } | Wide::Shut { value, .. } => add_uses(found, file, value),
         Wide::Merged { declarations, .. } => add_declarations(found, file, declarations),
         Wide::Selected { at, name, labels } => add_use(found, (file, *at), name, labels),
+        Wide::Called { .. } | Wide::Imported { .. } => Ok(()),
     }
 }
 

@@ -1,7 +1,7 @@
 // A token of a source and what is near it, and a part of a source and its parts.
 use crate::source::Separator::{Amp, Bar, Colon, Comma};
 use crate::source::{Inside, Separation, Separator, Source};
-use crate::tokens::{end_of, follows_label, is_mark, precedes_declaration};
+use crate::tokens::{end_of, follows_label, is_mark, precedes_declaration, separates};
 use cs_grammar::{Profile, Sort, Token};
 use std::iter::successors;
 use std::mem;
@@ -174,7 +174,62 @@ impl<'s, 'a> Near<'s, 'a> {
                 && !PREDECLARED.contains(&here.text),
             _ => false,
         };
-        is_one && !self.is_label()
+        is_one && !self.is_label() && self.call_named().is_none()
+    }
+
+    /// Whether a call of a package begins with the token: a name, `.`, a name and `(`.
+    pub fn begins_call(self) -> bool {
+        let (here, function) = (self.here(), self.behind(2));
+        let are_names = here.sort == Sort::Name && function.sort == Sort::Name;
+        are_names && self.behind(1).text == "." && is_mark(self.behind(3), "(")
+    }
+
+    /// The first token of the call whose package or function the token names.
+    fn call_named(self) -> Option<Near<'s, 'a>> {
+        let place = self.place.wrapping_sub(2);
+        let before = Near { place, ..self };
+        let named = if self.begins_call() { self } else { before };
+        named.begins_call().then_some(named)
+    }
+
+    /// The call whose package or function the token names, with its argument.
+    pub fn called(self) -> Option<Part<'s, 'a>> {
+        let call = self.call_named()?;
+        let behind = call.moved(3)?.closing()?.place.checked_add(1)?;
+        Some(call.source.whole().between(call.place, behind))
+    }
+
+    /// The call whose argument the token is in.
+    pub fn call(self) -> Option<Near<'s, 'a>> {
+        let place = self.bracket()?.place.checked_sub(3)?;
+        let call = Near { place, ..self };
+        call.begins_call().then_some(call)
+    }
+
+    /// Whether the imports of a declaration of a file begin behind the token that is an `import`, which is no label.
+    fn begins_imports(self) -> bool {
+        self.begins_clause("import") && self.inside() == Inside::File
+    }
+
+    /// Whether the token is the first one of an import among several, or the parenthesis behind these.
+    fn is_listed_import(self) -> bool {
+        let is_first = is_mark(self.before(1), "(") || separates(self.before(1));
+        let opening = self.bracket().filter(|_| is_first);
+        opening.is_some_and(|opening| {
+            let place = opening.place.wrapping_sub(1);
+            Near { place, ..opening }.begins_imports()
+        })
+    }
+
+    /// The name of the import that begins with the token, as `import` with what follows or one among several: the one before its path, or else its path.
+    pub fn imported(self) -> Option<&'a str> {
+        let first = match self.here() {
+            _ if self.begins_imports() => self.behind(1),
+            here if self.is_listed_import() => here,
+            _ => return None,
+        };
+        let is_one = matches!(first.sort, Sort::Name | Sort::Text);
+        is_one.then_some(first.text.trim_matches('"'))
     }
 
     /// Whether the token is in the conditions of an `if` of a struct, or the first one that opens a struct there.

@@ -270,6 +270,11 @@ impl<'a> Source<'a> {
         outward.take(self.tokens.len()).last().unwrap_or(place)
     }
 
+    /// Whether it imports a package by this name.
+    pub fn imports(&self, name: &str) -> bool {
+        self.whole().any(|token| token.imported() == Some(name))
+    }
+
     /// The declaration of a struct or of the file that the token at a place is in.
     pub fn declaration_at(&self, place: usize) -> Part<'_, 'a> {
         let (source, place) = (self, self.held_in_declaration(place));

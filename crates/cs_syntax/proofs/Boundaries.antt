@@ -10,7 +10,7 @@ use Rattle.cs_grammar.specs.Atom.{Relation, top, bottom, integer, text, not_inte
 use Rattle.cs_grammar.specs.Words.{Words, open_struct, open_wide, relation}
 use Rattle.cs_grammar.specs.Tree as T
 use Rattle.cs_grammar.specs.Tree.{Selector, Tree, Trees, Fields, Declarations, End}
-use Rattle.cs_grammar.specs.Spells.{is_reserved, is_null, is_if, is_let, is_close, is_braced, literal_of, Comma, explicit, inserted, ClosesParen, paren_here, paren_after, ClosesList, list_here, list_after, ClosesStruct, struct_here, struct_after, SpellsNumber, positive, negative, SpellsBound, limit_is, other_number, other_text, other_null, hashed, underscored, SpellsBase, name_base, field_base, SpellsSelector, by_name, by_label, by_text, SpellsSelectors, last_selector, next_selector, SpellsOpening, unopened, opened, SpellsExpr, one_branch, disjunction_is, SpellsBars, no_bar, a_bar, SpellsBranch, unmarked, marked_is, SpellsConj, one_operand, conjunction_is, SpellsAmps, no_amp, an_amp, SpellsOperand, top_is, bottom_is, reference_is, name_is, number_is, text_is, bound_is, paren_is, struct_is, list_is, call_paren_is, shut_is, local_is, selected_is, wide_struct_is, SpellsMore, no_more, next_declaration, SpellsFields, no_more_fields, next_field, SpellsElements, no_more_elements, next_element, SpellsEnd, closed_is, rest_is}
+use Rattle.cs_grammar.specs.Spells.{is_reserved, is_null, is_if, is_let, is_close, is_braced, literal_of, Comma, explicit, inserted, ClosesParen, paren_here, paren_after, ClosesList, list_here, list_after, ClosesStruct, struct_here, struct_after, SpellsNumber, positive, negative, SpellsBound, limit_is, other_number, other_text, other_null, hashed, underscored, SpellsBase, name_base, field_base, SpellsSelector, by_name, by_label, by_text, SpellsSelectors, last_selector, next_selector, SpellsOpening, unopened, opened, SpellsExpr, one_branch, disjunction_is, SpellsBars, no_bar, a_bar, SpellsBranch, unmarked, marked_is, SpellsConj, one_operand, conjunction_is, SpellsAmps, no_amp, an_amp, SpellsOperand, top_is, bottom_is, reference_is, name_is, number_is, text_is, bound_is, paren_is, struct_is, list_is, call_paren_is, shut_is, local_is, selected_is, called_is, wide_struct_is, SpellsMore, no_more, next_declaration, SpellsFields, no_more_fields, next_field, SpellsElements, no_more_elements, next_element, SpellsEnd, closed_is, rest_is}
 use Rattle.cs_syntax.specs.Reading.{after, begins_with, begins_comma, goes_on_label, begins_field, begins_if}
 use Rattle.cs_syntax.proofs.BracketLabels.{list_no_label}
 use Rattle.cs_syntax.proofs.Calls.{close_stands}
@@ -31,7 +31,7 @@ pub record Ended (ts : Words) : Type 0 where
   pub no_call : begins_with kinds.OpenCall ts ≡ false
   pub no_dot : begins_with kinds.Dot ts ≡ false
 
--- `close` isn't called here, and no selector stands
+-- `close` and no package is called here, and no selector stands
 pub record Alone (ts : Words) : Type 0 where
   pub no_call : begins_with kinds.OpenCall ts ≡ false
   pub no_dot : begins_with kinds.Dot ts ≡ false
@@ -142,6 +142,7 @@ operand_open (call_paren_is e c) = record { no_list_end = refl; no_dots = refl; 
 operand_open (shut_is s e c) = record { no_list_end = refl; no_dots = refl; not_list_end = refl; no_struct_end = refl; not_struct_end = refl; not_dots = refl; no_comma = refl }
 operand_open local_is = record { no_list_end = refl; no_dots = refl; not_list_end = refl; no_struct_end = refl; not_struct_end = refl; not_dots = refl; no_comma = refl }
 operand_open (selected_is o b l) = base_open b
+operand_open (called_is h a) = record { no_list_end = refl; no_dots = refl; not_list_end = refl; no_struct_end = refl; not_struct_end = refl; not_dots = refl; no_comma = refl }
 operand_open (wide_struct_is e s) = record { no_list_end = refl; no_dots = refl; not_list_end = refl; no_struct_end = refl; not_struct_end = refl; not_dots = refl; no_comma = refl }
 operand_open (list_is s) = record { no_list_end = refl; no_dots = refl; not_list_end = refl; no_struct_end = refl; not_struct_end = refl; not_dots = refl; no_comma = refl }
 
@@ -190,6 +191,7 @@ operand_no_field (call_paren_is e c) q = refl
 operand_no_field (shut_is {s} h e c) q = rw (close_stands s h) refl
 operand_no_field local_is q = refl
 operand_no_field (selected_is o b l) q = selected_no_field b l
+operand_no_field (called_is h a) q = rw h.0.0 refl
 operand_no_field (wide_struct_is e s) q = refl
 operand_no_field (list_is s) q = list_no_label s q
 
@@ -236,6 +238,7 @@ operand_no_star (call_paren_is e c) = refl
 operand_no_star (shut_is s e c) = refl
 operand_no_star local_is = refl
 operand_no_star (selected_is o b l) = base_no_star b
+operand_no_star (called_is h a) = refl
 operand_no_star (wide_struct_is e s) = refl
 
 pub conj_no_star : {e : Tree} {ts r : Words} → SpellsConj e ts r → after kinds.Star ts ≡ None
@@ -289,6 +292,7 @@ operand_no_if (call_paren_is e c) = refl
 operand_no_if (shut_is {s} h e c) = close_no_if s h
 operand_no_if local_is = refl
 operand_no_if (selected_is o b l) = base_no_if b
+operand_no_if (called_is {s} h a) = no_if s h.0.0
 operand_no_if (wide_struct_is e s) = refl
 
 conj_no_if : {e : Tree} {ts r : Words} → SpellsConj e ts r → begins_if ts ≡ false
@@ -342,6 +346,7 @@ operand_braced {e} (call_paren_is k c) h = unbraced e h refl
 operand_braced {e} (shut_is s k c) h = unbraced e h refl
 operand_braced {e} local_is h = unbraced e h refl
 operand_braced {e} (selected_is o b l) h = unbraced e h refl
+operand_braced {e} (called_is k a) h = unbraced e h refl
 operand_braced (wide_struct_is is s) h = wide_brace
 
 conj_braced : {e : Tree} {ts r : Words} → SpellsConj e ts r → is_braced e ≡ true → OpensBrace ts

@@ -5,7 +5,7 @@ use Rattle.cs_grammar.specs.Atom as atoms
 use Rattle.cs_grammar.specs.declared.kind.Kind.TheVariants as kinds
 use Rattle.cs_grammar.specs.Words.{Words, name, close_list, relation, dot}
 use Rattle.cs_grammar.specs.Tree.{Selector, Tree, Trees, End}
-use Rattle.cs_grammar.specs.Spells.{explicit, inserted, list_here, list_after, positive, negative, hashed, underscored, SpellsBase, name_base, field_base, SpellsSelector, by_name, by_label, by_text, SpellsSelectors, last_selector, next_selector, limit_is, other_number, other_text, other_null, SpellsExpr, one_branch, disjunction_is, SpellsBars, no_bar, a_bar, SpellsBranch, unmarked, marked_is, SpellsConj, one_operand, conjunction_is, SpellsAmps, no_amp, an_amp, SpellsOperand, top_is, bottom_is, reference_is, name_is, number_is, text_is, bound_is, paren_is, struct_is, list_is, call_paren_is, shut_is, local_is, selected_is, wide_struct_is, SpellsList, no_elements, rest_alone, elements, SpellsElements, no_more_elements, next_element, SpellsEnd, closed_is, rest_is}
+use Rattle.cs_grammar.specs.Spells.{explicit, inserted, list_here, list_after, positive, negative, hashed, underscored, SpellsBase, name_base, field_base, SpellsSelector, by_name, by_label, by_text, SpellsSelectors, last_selector, next_selector, limit_is, other_number, other_text, other_null, SpellsExpr, one_branch, disjunction_is, SpellsBars, no_bar, a_bar, SpellsBranch, unmarked, marked_is, SpellsConj, one_operand, conjunction_is, SpellsAmps, no_amp, an_amp, SpellsOperand, top_is, bottom_is, reference_is, name_is, number_is, text_is, bound_is, paren_is, struct_is, list_is, call_paren_is, shut_is, local_is, selected_is, called_is, wide_struct_is, SpellsList, no_elements, rest_alone, elements, SpellsElements, no_more_elements, next_element, SpellsEnd, closed_is, rest_is}
 use Rattle.cs_syntax.specs.Reading.{begins_with, goes_on_label, begins_string, goes_on_bracket}
 
 -- ---- a list that begins with a name and `]`
@@ -47,6 +47,7 @@ operand_ends (call_paren_is e c) is = absurd cc
 operand_ends (shut_is s e c) is = absurd cc
 operand_ends local_is is = absurd cc
 operand_ends (selected_is o b l) is = selected_ends b (dotted l) is
+operand_ends (called_is h a) is = absurd cc
 operand_ends (wide_struct_is e s) is = absurd cc
 
 amps_end : {es : Trees} {q : ℕ} {ts us r : Words} → SpellsAmps es ts r → ts ≡ close_list q ∷ us → r ≡ close_list q ∷ us

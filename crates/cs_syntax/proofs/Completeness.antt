@@ -1,5 +1,5 @@
 -- What is spelled so is read.
-use Rattle.std.proofs.Common.{◌≡◌, ℕ, zero, suc, ◌<◌, ◌≤◌, ℤ, Bool, true, false, List, [], ◌∷◌, length, Option, Some, None, Ok, refl, ap, ◌∙◌, arith}
+use Rattle.std.proofs.Common.{◌≡◌, ℕ, zero, suc, ◌≤◌, ℤ, Bool, true, false, List, [], ◌∷◌, length, Option, Some, None, Ok, refl, ap, ◌∙◌, subst, arith}
 use Rattle.std.specs.Prelude.{◌&&◌, ◌||◌, not, max}
 use Rattle.std.specs.Option.{unwrap_or}
 use Rattle.cs_grammar.specs.declared.kind.Kind.TheVariants as kinds
@@ -9,30 +9,20 @@ use Rattle.cs_grammar.specs.declared.ast.FieldMark.TheVariants.{Regular, Every}
 use Rattle.cs_grammar.specs.Words.{Word, Words, comma, assign, name, open_list, colon, quoted, top_mark, bottom_mark, definition_name, unequal, close_struct, close_list, dots, finish, wide_finish}
 use Rattle.cs_grammar.specs.Tree.{Label, scoped_label, Condition, Tree, atom, reference, closed, named, Trees, none, more, Fields, no_field, field, Declarations, no_declaration, declared, embedded, conditional, End, DefinitionTree, body, NameTree, FileTree}
 use Rattle.cs_grammar.specs.View.{trees_of, fields_of, Seen, declarations_of, SeenDeclaration, field_seen, embedding_seen, conditional_seen}
-use Rattle.cs_grammar.specs.Spells.{is_reserved, is_null, is_string, is_close, is_package, is_let, is_braced, every_label, start_at, literal_of, literal, Comma, explicit, inserted, ClosesParen, paren_here, paren_after, ClosesList, list_here, list_after, ClosesStruct, struct_here, struct_after, SpellsNumber, positive, negative, SpellsBound, limit_is, other_number, other_text, other_null, underscored, SpellsLabel, bare_label, quoted_label, SpellsMark, regular, optional, required, SpellsOpening, unopened, opened, SpellsConditions, SpellsValue, long, short, SpellsField, labelled, every_key, SpellsExpr, one_branch, disjunction_is, SpellsBars, no_bar, a_bar, SpellsBranch, unmarked, marked_is, SpellsConj, one_operand, conjunction_is, SpellsAmps, no_amp, an_amp, SpellsOperand, top_is, bottom_is, reference_is, name_is, number_is, text_is, bound_is, paren_is, struct_is, list_is, call_paren_is, shut_is, local_is, selected_is, wide_struct_is, SpellsWideStruct, no_declarations, wide_dots_alone, some_declarations, a_field, an_embedding, a_name, a_let, a_conditional, SpellsMore, no_more, next_declaration, SpellsStruct, no_fields, dots_alone, fields, SpellsFields, no_more_fields, next_field, SpellsList, no_elements, rest_alone, elements, SpellsElements, no_more_elements, next_element, SpellsEnd, closed_is, rest_is, SpellsRest, any_is, each_is, SpellsDefinition, defined, SpellsDefinitions, no_definition, next_definition, SpellsFileName, field_name, local_name, bound_name, SpellsWideFile, no_line, definition_line, name_line, SpellsPackage, no_clause, clause, SpellsFile, spelled, wide_spelled}
-use Rattle.cs_grammar.proofs.Rests.{IsRest, whole, behind, then, no_longer, of_conditions, of_scope_name, of_value, of_field, of_expr, of_branch, of_operand, of_definition, of_definitions, of_file_name, of_wide_file, of_package}
-use Rattle.cs_syntax.specs.Reading.{◌>>=◌, Read, after, comma_at, close_at, paren_end, goes_on_label, begins_field, another_field, another_element, opening_at, may_end, number_at, bound_at, unequal_at, integer_at, unbracketed_at, label_at, mark_at, every_key_at, head_at, expected, field_with, fields_with, struct_with, begins_conditional, conditional_with, names_no_field, leaf_at, begins_scoped, name_head_at, scoped_with, declaration_with, declarations_with, wide_struct_with, many, rest_with, end_with, elements_with, list_with, paren_with, uncalled_with, operand_with, amps_with, conj_with, branch_with, bars_with, expr_with, inner}
+use Rattle.cs_grammar.specs.Spells.{is_reserved, is_null, is_string, is_close, is_package, is_let, is_braced, every_label, start_at, literal_of, literal, Comma, explicit, inserted, ClosesList, list_here, list_after, ClosesStruct, struct_here, struct_after, SpellsNumber, positive, negative, SpellsBound, limit_is, other_number, other_text, other_null, underscored, SpellsLabel, bare_label, quoted_label, SpellsMark, regular, optional, required, SpellsOpening, unopened, opened, SpellsConditions, SpellsValue, long, short, SpellsField, labelled, every_key, SpellsExpr, one_branch, disjunction_is, SpellsBars, no_bar, a_bar, SpellsBranch, unmarked, marked_is, SpellsConj, one_operand, conjunction_is, SpellsAmps, no_amp, an_amp, SpellsOperand, top_is, bottom_is, reference_is, name_is, number_is, text_is, bound_is, paren_is, struct_is, list_is, call_paren_is, shut_is, local_is, selected_is, called_is, wide_struct_is, SpellsWideStruct, no_declarations, wide_dots_alone, some_declarations, a_field, an_embedding, a_name, a_let, a_conditional, SpellsMore, no_more, next_declaration, SpellsStruct, no_fields, dots_alone, fields, SpellsFields, no_more_fields, next_field, SpellsList, no_elements, rest_alone, elements, SpellsElements, no_more_elements, next_element, SpellsEnd, closed_is, rest_is, SpellsRest, any_is, each_is, SpellsDefinition, defined, SpellsDefinitions, no_definition, next_definition, SpellsFileName, field_name, local_name, bound_name, SpellsWideFile, no_line, definition_line, name_line, SpellsPackage, no_clause, clause, SpellsFile, spelled, wide_spelled}
+use Rattle.cs_grammar.proofs.Rests.{IsRest, whole, behind, then, no_longer, of_conditions, of_scope_name, of_value, of_field, of_expr, of_branch, of_operand, of_definition, of_definitions, of_file_name, of_imports, of_wide_file, of_package}
+use Rattle.cs_syntax.specs.Reading.{◌>>=◌, Read, after, close_at, goes_on_label, begins_field, another_field, another_element, opening_at, may_end, number_at, bound_at, unequal_at, integer_at, unbracketed_at, label_at, mark_at, every_key_at, head_at, expected, field_with, fields_with, struct_with, begins_conditional, conditional_with, names_no_field, leaf_at, begins_scoped, name_head_at, scoped_with, declaration_with, declarations_with, wide_struct_with, many, rest_with, end_with, elements_with, list_with, paren_with, uncalled_with, operand_with, amps_with, conj_with, branch_with, bars_with, expr_with, inner}
 use Rattle.cs_syntax.specs.FileReading.{definition_at, line_at, begins_file_name, file_name_at, name_line_at, SeenLine, definition_seen, name_seen, definitions_seen, names_seen, any_line_at, before_end, lines_at, clause_at, package_at, ends_wide, file_with, file_at}
 use Rattle.cs_syntax.specs.Nesting.{nesting}
 use Rattle.cs_syntax.proofs.Boundaries.{Quiet, IsOpen, quiet_comma, quiet_closes_paren, quiet_closes_list, quiet_opening, quiet_fields, quiet_more, quiet_end, quiet_elements, Ended, quiet_ended, ended-bars, Alone, ended_alone, alone-amps, expr_open, expr_no_field, conj_no_star, OpensBrace, expr_braced}
 use Rattle.cs_syntax.proofs.ConditionsRead.{many_end, many_next, read_number, read_conditions, conditions_begin, conditions_open, and_false, field_no_conditional, expr_no_conditional}
+use Rattle.cs_syntax.proofs.CallsRead.{operand_called}
+use Rattle.cs_syntax.proofs.ImportsRead.{read_imports, none_read, lines_no_import, imports_no_package}
+use Rattle.cs_syntax.proofs.MarksRead.{comma_is, shorter_comma, paren_end_is}
 use Rattle.cs_syntax.proofs.NamesRead.{operand_selected, read_local, read_bound_head, read_scope_head, read_field_head, bound_begins, scope_begins, name_opens, scope_opens, field_no_scoped, conditions_no_scoped, expr_no_scoped, let_no_package}
-use Rattle.cs_syntax.proofs.NestingBounds.{inside, inside_all, inside_elements, inside_fields, inside_declarations, inside_literal, inside_end, inside_definitions, inside_names, inside_file, inside_low, max_left, max_right}
-
--- a comma takes a word
-shorter_comma : {ts r : Words} → Comma ts r → length r < length ts
-shorter_comma explicit = omega arith
-shorter_comma inserted = omega arith
+use Rattle.cs_syntax.proofs.NestingBounds.{inside, inside_all, inside_elements, inside_fields, inside_declarations, inside_literal, inside_end, inside_definitions, inside_names, inside_file, inside_low, names_right, max_left, max_right}
 
 -- ---- marks
-
-comma_is : {ts r : Words} → Comma ts r → comma_at ts ≡ Ok r
-comma_is explicit = refl
-comma_is inserted = refl
-
-paren_end_is : {ts r : Words} → ClosesParen ts r → paren_end ts ≡ Ok r
-paren_end_is paren_here = refl
-paren_end_is paren_after = refl
 
 list_end_is : {ts r : Words} → ClosesList ts r → close_at kinds.CloseList ts ≡ Ok r
 list_end_is list_here = refl
@@ -93,7 +83,7 @@ read_reference s p r = refl
 -- a name that isn't called and has no selectors
 read_name : (f : Bool → Read Tree) (s : List ℕ) (e : Tree) (p : ℕ) (r : Words) → is_reserved s ≡ false → e ≡ unwrap_or (literal_of s) (named s p) → Alone r → operand_with f (name s p ∷ r) ≡ Ok (e, r)
 unfolding operand_with uncalled_with leaf_at unbracketed_at
-read_name f s e p r k is q = rw (q.no_call, and_false (is_close s), q.no_dot, and_false (not (names_no_field s)), k, is) refl
+read_name f s e p r k is q = rw (q.no_call, and_false (is_close s), q.no_dot, and_false (not (names_no_field s)), q.no_dot, and_false (not (names_no_field s)), k, is) refl
 
 read_text : (s : List ℕ) (p : ℕ) (r : Words) → unbracketed_at (quoted s p ∷ r) ≡ Ok (atom (text s), r)
 unfolding unbracketed_at
@@ -336,7 +326,8 @@ mutual
   read_operand (shut_is s e c) zero h q = let never : ⊥ = omega (arith, h) in absurd never
   read_operand (shut_is s e c) (suc d) h q = rw (s, read_expr e d (omega (arith, h)) (quiet_closes_paren c), paren_end_is c) refl
   read_operand (local_is {s} {p} {r}) d h q = rw q.no_dot (read_local s p r)
-  read_operand (selected_is o b l) d h q = operand_selected (inner d) o b l q.no_dot
+  read_operand (selected_is o b l) d h q = operand_selected (inner d) o b l q.no_dot q.no_call
+  read_operand (called_is {s} {f} {o} {p} {q = at} k a) d h q = operand_called (inner d) s f o p at k a
   read_operand (struct_is {fs = fs} s) d h q = rw (read_struct s d h, fields_back fs) refl
   read_operand (wide_struct_is {p} {ds} {b} is s) d h q = rw (read_wide_struct s d (literal_inside p ds b is h), declarations_back ds, is) refl
   read_operand (list_is {es = es} s) d h q = rw (read_list s d h, trees_back es) refl
@@ -564,8 +555,16 @@ ends_rest (behind {w = v} k) = ends_more v k ∙ ends_rest k
 -- with so many values inside one another at most
 pub read_within : {f : FileTree} {ts : Words} (d : ℕ) → SpellsFile f ts → inside_file f ≤ d → file_with (ends_wide ts) d ts ≡ Ok f
 unfolding file_with
-read_within d (spelled {us = us} c ds) h = rw (ends_rest (then (of_package c) (of_definitions ds)), read_package c (no_package ds), read_definitions ds d (length us) (max_left _ _ h) (omega arith) refl) refl
-read_within d (wide_spelled {us = us} c ls) h = rw (ends_rest (then (of_package c) (of_wide_file ls)), read_package c (no_wide_package ls), read_wide_lines ls d (length us) (max_left _ _ h) (max_right _ _ h) (omega arith) refl) refl
+read_within d (spelled {us = us} c ds) h = rw (ends_rest (then (of_package c) (of_definitions ds)), read_package c (no_package ds), none_read (length us) us, read_definitions ds d (length us) (max_left _ _ h) (omega arith) refl) refl
+read_within d (wide_spelled {ks = ks} {ms = ms} {us = us} {vs = vs} is c i ls) h =
+    let names = names_right ms ks (subst (λ ns. inside_names ns ≤ d) is (max_right _ _ h)) in
+    rw (
+      ends_rest (then (of_package c) (then (of_imports i) (of_wide_file ls))),
+      read_package c (imports_no_package i (no_wide_package ls)),
+      read_imports i (length us) (omega arith) (lines_no_import ls),
+      read_wide_lines ls d (length vs) (max_left _ _ h) names (omega arith) refl,
+      is,
+    ) refl
 
 pub read_file : {f : FileTree} {ts : Words} → nesting ts ≤ 28 → SpellsFile f ts → file_at ts ≡ Ok f
 read_file n s = read_within 29 s (inside_low s n)

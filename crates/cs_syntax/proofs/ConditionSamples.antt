@@ -25,7 +25,7 @@ use Rattle.cs_grammar.specs.Words.{Words}
 use Rattle.cs_syntax.specs.AnswerIn.{IsSpelledIn}
 use Rattle.cs_syntax.specs.Nesting.{nesting}
 use Rattle.cs_syntax.specs.Reading.{word_kind, number_at, unbracketed_at, many, label_at, head_at, field_with, struct_with, scalar_at, compared_at, related_at, test_at, asked_at, condition_at, conditional_with, declaration_with, wide_struct_with, operand_with, uncalled_with, leaf_at, paren_with, conj_with, branch_with, expr_with, inner}
-use Rattle.cs_syntax.specs.FileReading.{definition_at, line_at, any_line_at, lines_at, package_at, file_with, file_at}
+use Rattle.cs_syntax.specs.FileReading.{definition_at, line_at, any_line_at, lines_at, imports_at, package_at, file_with, file_at}
 use Rattle.cs_syntax.proofs.Soundness.{file_found}
 
 -- ---- a whole source: `#A: {a: _, if a == 1 {b: _}}`
@@ -108,12 +108,12 @@ abbrev tree : Tree
 tree = T.wide (T.merged 4 (T.declared (written_label (codes "a") false) Regular any_value (T.conditional 11 (asks 14 (equals one) true ∷ []) (one_field 21) T.no_declaration)) false)
 
 wide_read : file_at (words (taken profiles.Wide tokens)) ≡ Ok (one_file tree)
-unfolding integer_value number_at unbracketed_at many label_at head_at field_with scalar_at compared_at test_at asked_at condition_at conditional_with declaration_with wide_struct_with operand_with uncalled_with leaf_at paren_with conj_with branch_with expr_with inner definition_at line_at any_line_at lines_at package_at file_with
+unfolding integer_value number_at unbracketed_at many label_at head_at field_with scalar_at compared_at test_at asked_at condition_at conditional_with declaration_with wide_struct_with operand_with uncalled_with leaf_at paren_with conj_with branch_with expr_with inner definition_at line_at any_line_at lines_at imports_at package_at file_with
 wide_read = refl
 
 -- there `if` begins a label
 default_read : file_at (words (taken profiles.Default tokens)) ≡ Err (Syntax 14)
-unfolding integer_value unbracketed_at label_at head_at field_with struct_with operand_with uncalled_with leaf_at paren_with conj_with branch_with expr_with inner many definition_at line_at any_line_at lines_at package_at file_with
+unfolding integer_value unbracketed_at label_at head_at field_with struct_with operand_with uncalled_with leaf_at paren_with conj_with branch_with expr_with inner many definition_at line_at any_line_at lines_at imports_at package_at file_with
 default_read = refl
 
 pub conditional_spelled : IsSpelledIn profiles.Wide source (one_file tree)
@@ -210,11 +210,11 @@ under cs e = T.wide (T.merged 4 (T.conditional 5 cs e T.no_declaration) false)
 
 -- `{if a {}}`, and `{if a {#B}}`, whose inner literal has an embedding
 alone : file_at (if_a (W.open_wide 10 ∷ W.close_struct 11 ∷ [])) ≡ Ok (one_file (under (asks 8 truth true ∷ []) (empty 10)))
-unfolding unbracketed_at many test_at asked_at condition_at conditional_with declaration_with wide_struct_with operand_with uncalled_with leaf_at paren_with conj_with branch_with expr_with inner definition_at line_at any_line_at lines_at package_at file_with
+unfolding unbracketed_at many test_at asked_at condition_at conditional_with declaration_with wide_struct_with operand_with uncalled_with leaf_at paren_with conj_with branch_with expr_with inner definition_at line_at any_line_at lines_at imports_at package_at file_with
 alone = refl
 
 embedding : file_at (if_a (W.open_wide 10 ∷ W.definition_name (codes "B") 11 ∷ W.close_struct 13 ∷ [])) ≡ Ok (one_file (under (asks 8 truth true ∷ []) (T.wide (T.merged 10 (T.embedded 11 (T.reference (codes "B") 11) T.no_declaration) false))))
-unfolding unbracketed_at many test_at asked_at condition_at conditional_with declaration_with wide_struct_with operand_with uncalled_with leaf_at paren_with conj_with branch_with expr_with inner definition_at line_at any_line_at lines_at package_at file_with
+unfolding unbracketed_at many test_at asked_at condition_at conditional_with declaration_with wide_struct_with operand_with uncalled_with leaf_at paren_with conj_with branch_with expr_with inner definition_at line_at any_line_at lines_at imports_at package_at file_with
 embedding = refl
 
 -- `{if a if !b {}}`: two conditions, one behind the other
@@ -225,7 +225,7 @@ abbrev chain_words : Words
 chain_words = if_a (W.name (codes "if") 10 ∷ W.bang 13 ∷ W.name (codes "b") 14 ∷ W.open_wide 16 ∷ W.close_struct 17 ∷ [])
 
 chained : file_at chain_words ≡ Ok (one_file (under chain (empty 16)))
-unfolding unbracketed_at many test_at asked_at condition_at conditional_with declaration_with wide_struct_with operand_with uncalled_with leaf_at paren_with conj_with branch_with expr_with inner definition_at line_at any_line_at lines_at package_at file_with
+unfolding unbracketed_at many test_at asked_at condition_at conditional_with declaration_with wide_struct_with operand_with uncalled_with leaf_at paren_with conj_with branch_with expr_with inner definition_at line_at any_line_at lines_at imports_at package_at file_with
 chained = refl
 
 -- `{if a {}, if a {}, #B}`: one declaration behind the other
@@ -233,7 +233,7 @@ abbrev several_words : Words
 several_words = if_a (W.open_wide 10 ∷ W.close_struct 11 ∷ W.comma 12 ∷ W.name (codes "if") 14 ∷ W.name (codes "a") 17 ∷ W.open_wide 19 ∷ W.close_struct 20 ∷ W.nl 21 ∷ W.definition_name (codes "B") 23 ∷ [])
 
 several : file_at several_words ≡ Ok (one_file (T.wide (T.merged 4 (T.conditional 5 (asks 8 truth true ∷ []) (empty 10) (T.conditional 14 (asks 17 truth true ∷ []) (empty 19) (T.embedded 23 (T.reference (codes "B") 23) T.no_declaration))) false)))
-unfolding unbracketed_at many test_at asked_at condition_at conditional_with declaration_with wide_struct_with operand_with uncalled_with leaf_at paren_with conj_with branch_with expr_with inner definition_at line_at any_line_at lines_at package_at file_with
+unfolding unbracketed_at many test_at asked_at condition_at conditional_with declaration_with wide_struct_with operand_with uncalled_with leaf_at paren_with conj_with branch_with expr_with inner definition_at line_at any_line_at lines_at imports_at package_at file_with
 several = refl
 
 -- `{if a {if a {}}}`: one inside the other
@@ -244,7 +244,7 @@ abbrev inside_tree : Tree
 inside_tree = under (asks 8 truth true ∷ []) (T.wide (T.merged 10 (T.conditional 11 (asks 14 truth true ∷ []) (empty 16) T.no_declaration) false))
 
 one_inside : file_at inside_words ≡ Ok (one_file inside_tree)
-unfolding unbracketed_at many test_at asked_at condition_at conditional_with declaration_with wide_struct_with operand_with uncalled_with leaf_at paren_with conj_with branch_with expr_with inner definition_at line_at any_line_at lines_at package_at file_with
+unfolding unbracketed_at many test_at asked_at condition_at conditional_with declaration_with wide_struct_with operand_with uncalled_with leaf_at paren_with conj_with branch_with expr_with inner definition_at line_at any_line_at lines_at imports_at package_at file_with
 one_inside = refl
 
 -- ---- an `if` that is a label: `{if: _}`, `{if?: _}` and `{if!: _}`
@@ -256,7 +256,7 @@ abbrev of_mark : FieldMark → Tree
 of_mark m = T.struct 4 (T.field (written_label (codes "if") false) m any_value T.no_field) false
 
 labels : map (λ ts. file_at (labelled ts)) ([] ∷ (W.question 7 ∷ []) ∷ (W.bang 7 ∷ []) ∷ []) ≡ map (λ m. Ok (one_file (of_mark m))) (Regular ∷ Optional ∷ Required ∷ [])
-unfolding unbracketed_at many label_at head_at field_with declaration_with wide_struct_with operand_with uncalled_with leaf_at paren_with conj_with branch_with expr_with inner definition_at line_at any_line_at lines_at package_at file_with
+unfolding unbracketed_at many label_at head_at field_with declaration_with wide_struct_with operand_with uncalled_with leaf_at paren_with conj_with branch_with expr_with inner definition_at line_at any_line_at lines_at imports_at package_at file_with
 labels = refl
 
 -- ---- out of place
@@ -267,18 +267,18 @@ out_at ts = file_at (if_a ts)
 -- no literal behind the condition: `{if a}`, `{if a b}`, `{if a {} & {}}`, `{if a ({})}`, `{if a, {}}` and `{if a if: _}`
 no_braces : map out_at ([] ∷ (W.name (codes "b") 10 ∷ []) ∷ (W.open_wide 10 ∷ W.close_struct 11 ∷ W.amp 13 ∷ W.open_wide 15 ∷ W.close_struct 16 ∷ []) ∷ (W.open_call 10 ∷ W.open_wide 11 ∷ W.close_struct 12 ∷ W.close_paren 13 ∷ []) ∷ (W.comma 9 ∷ W.open_wide 11 ∷ W.close_struct 12 ∷ []) ∷ (W.name (codes "if") 10 ∷ W.colon 12 ∷ W.top_mark 14 ∷ []) ∷ [])
     ≡ map (λ o. Err (Syntax o)) (40 ∷ 10 ∷ 10 ∷ 10 ∷ 9 ∷ 12 ∷ [])
-unfolding unbracketed_at many test_at asked_at condition_at conditional_with declaration_with wide_struct_with operand_with uncalled_with leaf_at paren_with conj_with branch_with expr_with inner definition_at line_at any_line_at lines_at package_at file_with
+unfolding unbracketed_at many test_at asked_at condition_at conditional_with declaration_with wide_struct_with operand_with uncalled_with leaf_at paren_with conj_with branch_with expr_with inner definition_at line_at any_line_at lines_at imports_at package_at file_with
 no_braces = refl
 
 -- forms that are left out: `{if a.b {}}`, `{if a == 1 && a {}}` and `{if a == 1 == 2 {}}`
 left_out_forms : map out_at ((W.dot 9 ∷ W.name (codes "b") 10 ∷ W.open_wide 12 ∷ W.close_struct 13 ∷ []) ∷ (W.equal 10 ∷ W.numeral 1 13 ∷ W.left_out 15 ∷ W.name (codes "a") 18 ∷ W.open_wide 20 ∷ W.close_struct 21 ∷ []) ∷ (W.equal 10 ∷ W.numeral 1 13 ∷ W.equal 15 ∷ W.numeral 2 18 ∷ W.open_wide 20 ∷ W.close_struct 21 ∷ []) ∷ [])
     ≡ map (λ o. Err (LeftOut o)) (9 ∷ 15 ∷ 15 ∷ [])
-unfolding number_at unbracketed_at many scalar_at compared_at test_at asked_at condition_at conditional_with declaration_with wide_struct_with operand_with uncalled_with leaf_at paren_with conj_with branch_with expr_with inner definition_at line_at any_line_at lines_at package_at file_with
+unfolding number_at unbracketed_at many scalar_at compared_at test_at asked_at condition_at conditional_with declaration_with wide_struct_with operand_with uncalled_with leaf_at paren_with conj_with branch_with expr_with inner definition_at line_at any_line_at lines_at imports_at package_at file_with
 left_out_forms = refl
 
 -- `#A: b == 1`
 no_condition : file_at (one_body (W.name (codes "b") 4 ∷ W.equal 6 ∷ W.numeral 1 9 ∷ W.nl 10 ∷ W.wide_finish 10 ∷ [])) ≡ Err (LeftOut 6)
-unfolding unbracketed_at many operand_with uncalled_with leaf_at paren_with conj_with branch_with expr_with inner definition_at line_at any_line_at lines_at package_at file_with
+unfolding unbracketed_at many operand_with uncalled_with leaf_at paren_with conj_with branch_with expr_with inner definition_at line_at any_line_at lines_at imports_at package_at file_with
 no_condition = refl
 
 -- ---- heights and nesting

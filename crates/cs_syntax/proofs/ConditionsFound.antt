@@ -50,7 +50,7 @@ signed_negative n z h = by (nat_le n (2 ^ 63)) refl h
     by true e k = let is : z ≡ neg_ℤ (pos n) = cc in (is, rw is (negated_fits n (grind (arith, nat_tests))))
     by false e k = absurd cc
 
-positive_of : (n p : ℕ) (ts : Words) (o : Option ℤ) → signed false n ≡ o → IfRead (λ z r. SpellsNumber z (numeral n p ∷ ts) r) (number_or o p ts)
+pub positive_of : (n p : ℕ) (ts : Words) (o : Option ℤ) → signed false n ≡ o → IfRead (λ z r. SpellsNumber z (numeral n p ∷ ts) r) (number_or o p ts)
 positive_of n p ts None e = tt
 positive_of n p ts (Some z) e = let h = signed_positive n z e in rw h.0 (positive h.1)
 

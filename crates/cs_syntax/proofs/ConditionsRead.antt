@@ -26,7 +26,7 @@ many_next skip p n h k m = rw (h, k, m) refl
 
 -- ---- numbers
 
-positive_signed : (n : ℕ) → FitsSigned w64 (pos n) → signed false n ≡ Some (pos n)
+pub positive_signed : (n : ℕ) → FitsSigned w64 (pos n) → signed false n ≡ Some (pos n)
 positive_signed n h = let lt = h.sfits in grind (arith, nat_tests)
 
 negative_signed : (z : ℤ) (n : ℕ) → z ≡ neg_ℤ (pos n) → FitsSigned w64 z → signed true n ≡ Some z

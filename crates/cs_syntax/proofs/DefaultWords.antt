@@ -19,11 +19,12 @@ use Rattle.cs_grammar.specs.Cut.{Lexeme, lexeme, comma_if, Cut, blank, new_line,
 use Rattle.cs_grammar.specs.DefaultForms.{IsDefault, AreDefault, AreDefaultFields, IsDefaultEnd, IsDefaultFile}
 use Rattle.cs_grammar.specs.Source.{IsSpelledBy}
 use Rattle.cs_grammar.specs.Spelling.{is_letter, is_digit, is_name_byte, is_integer, is_definition_rest, text_value, used_marks, left_out_marks, sort_if, underscore_sort, sort_of}
-use Rattle.cs_grammar.specs.Spells.{is_null, literal_of, SpellsBound, limit_is, other_number, other_text, other_null, SpellsSelector, by_name, by_label, by_text, SpellsSelectors, last_selector, next_selector, bare_label, quoted_label, SpellsValue, long, short, SpellsField, labelled, every_key, SpellsExpr, one_branch, disjunction_is, SpellsBars, no_bar, a_bar, SpellsBranch, unmarked, marked_is, SpellsConj, one_operand, conjunction_is, SpellsAmps, no_amp, an_amp, SpellsOperand, top_is, bottom_is, reference_is, name_is, number_is, text_is, bound_is, paren_is, struct_is, list_is, call_paren_is, shut_is, local_is, selected_is, wide_struct_is, SpellsStruct, no_fields, dots_alone, fields, SpellsFields, no_more_fields, next_field, SpellsList, no_elements, rest_alone, elements, SpellsElements, no_more_elements, next_element, SpellsEnd, closed_is, rest_is, SpellsRest, any_is, each_is, SpellsDefinition, defined, SpellsDefinitions, no_definition, next_definition, SpellsFile, spelled, wide_spelled}
+use Rattle.cs_grammar.specs.Spells.{is_null, literal_of, SpellsBound, limit_is, other_number, other_text, other_null, SpellsSelector, by_name, by_label, by_text, SpellsSelectors, last_selector, next_selector, bare_label, quoted_label, SpellsValue, long, short, SpellsField, labelled, every_key, SpellsExpr, one_branch, disjunction_is, SpellsBars, no_bar, a_bar, SpellsBranch, unmarked, marked_is, SpellsConj, one_operand, conjunction_is, SpellsAmps, no_amp, an_amp, SpellsOperand, top_is, bottom_is, reference_is, name_is, number_is, text_is, bound_is, paren_is, struct_is, list_is, call_paren_is, shut_is, local_is, selected_is, called_is, wide_struct_is, SpellsStruct, no_fields, dots_alone, fields, SpellsFields, no_more_fields, next_field, SpellsList, no_elements, rest_alone, elements, SpellsElements, no_more_elements, next_element, SpellsEnd, closed_is, rest_is, SpellsRest, any_is, each_is, SpellsDefinition, defined, SpellsDefinitions, no_definition, next_definition, SpellsFile, spelled, wide_spelled}
 use Rattle.cs_grammar.specs.TokenWords.{mark_kind, word_of, word, words}
 use Rattle.cs_grammar.specs.Tree as T
 use Rattle.cs_grammar.specs.Tree.{Label, Selector, Tree, named, Trees, Fields, End, DefinitionTree, body, FileTree}
 use Rattle.cs_grammar.specs.Words.{Word, Words, open_wide, open_call, star, local, dot, assign, wide_finish}
+use Rattle.cs_syntax.specs.Place.{Ends, same, past, IsBelowZeroIn, below_zero}
 
 abbrev is_wide_word : Word → Bool
 is_wide_word (star o) = true
@@ -43,6 +44,14 @@ Narrow (w ∷ ts) = (is_wide_word w ≡ false) × Narrow ts
 pub kept : {r ts : Words} → IsRest r ts → Narrow ts → Narrow r
 kept whole h = h
 kept (behind k) h = kept k h.1
+
+pub narrow_end : {ts us : Words} → Ends ts us → Narrow ts → Narrow us
+narrow_end same h = h
+narrow_end (past e) h = narrow_end e h.1
+
+-- they have no call, and no argument of one
+pub no_argument : {q : ℕ} {ts : Words} → IsBelowZeroIn q ts → Narrow ts → ⊥
+no_argument (below_zero e) h = let never : true ≡ false = (narrow_end e h).1.0 in absurd cc
 
 -- ---- what such words spell
 
@@ -120,6 +129,7 @@ mutual
   operand_default (shut_is s e c) h = let never : true ≡ false = h.1.0 in absurd cc
   operand_default local_is h = let never : true ≡ false = h.0 in absurd cc
   operand_default (selected_is o b l) h = absurd (no_selectors l (kept (R.of_base b) h))
+  operand_default (called_is j a) h = let never : true ≡ false = h.1.0 in absurd cc
   operand_default (wide_struct_is e s) h = let never : true ≡ false = h.0 in absurd cc
 
   struct_default : {fs : Fields} {b : Bool} {ts r : Words} → SpellsStruct fs b ts r → Narrow ts → AreDefaultFields fs
@@ -157,7 +167,7 @@ definitions_default (next_definition d c ds) h = (definition_default d h, defini
 
 file_default : {f : FileTree} {ts : Words} → SpellsFile f ts → Narrow ts → IsDefaultFile f
 file_default (spelled p ds) h = definitions_default ds (kept (R.of_package p) h)
-file_default (wide_spelled p ls) h = let never : true ≡ false = (kept (R.of_wide_file ls) (kept (R.of_package p) h)).0 in absurd cc
+file_default (wide_spelled e p i ls) h = let never : true ≡ false = (kept (R.of_wide_file ls) (kept (R.of_imports i) (kept (R.of_package p) h))).0 in absurd cc
 
 -- ---- the words of tokens
 

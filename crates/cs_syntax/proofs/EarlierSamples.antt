@@ -18,7 +18,7 @@ use Rattle.cs_syntax.specs.Earlier.{is_short_earlier, behind_earlier, earlier_ne
 use Rattle.cs_grammar.specs.Height.{file_height}
 use Rattle.cs_syntax.specs.Nesting.{is_short, behind}
 use Rattle.cs_syntax.specs.Reading.{unbracketed_at, many, operand_with, uncalled_with, leaf_at, paren_with, conj_with, branch_with, expr_with, inner}
-use Rattle.cs_syntax.specs.FileReading.{definition_at, line_at, any_line_at, lines_at, package_at, file_with, file_at}
+use Rattle.cs_syntax.specs.FileReading.{definition_at, line_at, any_line_at, lines_at, imports_at, package_at, file_with, file_at}
 use Rattle.cs_syntax.proofs.Soundness.{file_found}
 use Rattle.cs_syntax.proofs.Samples.{a, q, body, every, repeated, sorts}
 
@@ -100,7 +100,7 @@ plain_cut =
     finish {l = WantsComma}))))
 
 plain_read : file_at (words plain_tokens) ≡ Ok plain_file
-unfolding unbracketed_at many operand_with uncalled_with leaf_at paren_with conj_with branch_with expr_with inner definition_at line_at any_line_at lines_at package_at file_with
+unfolding unbracketed_at many operand_with uncalled_with leaf_at paren_with conj_with branch_with expr_with inner definition_at line_at any_line_at lines_at imports_at package_at file_with
 plain_read = refl
 
 pub plain_was_spelled : IsSpelledEarlier plain_source plain_file

@@ -14,17 +14,20 @@ use Rattle.cs_grammar.specs.Spells.{SpellsFile}
 use Rattle.cs_grammar.specs.Taken.{taken}
 use Rattle.cs_grammar.specs.TokenWords.{words}
 use Rattle.cs_grammar.specs.declared.profile.Profile.{Profile}
+use Rattle.cs_grammar.specs.declared.profile.Profile.TheVariants as profiles
 use Rattle.cs_syntax.specs.Reading.{◌>>=◌, Gives}
 use Rattle.cs_syntax.specs.FileReading.{file_at}
 use Rattle.cs_syntax.specs.Within.{if_low, if_deep, file_within}
 use Rattle.cs_lexer.specs.Lexed.{Answers, IsRefusalIn}
 use Rattle.cs_syntax.specs.AnswerIn.{IsSpelledIn}
-use Rattle.cs_syntax.specs.Refusal.{IsFileRefusalIn}
+use Rattle.cs_syntax.specs.Place.{IsBelowZeroIn, StopsAt}
+use Rattle.cs_syntax.specs.Refusal.{IsOutOfRangeIn, IsFileRefusalIn}
 use Rattle.cs_lexer.proofs.CutUnique.{cut_once, cut_not_stuck}
 use Rattle.cs_syntax.proofs.Soundness.{file_found}
 use Rattle.cs_syntax.proofs.Completeness.{read_within, read_file}
 use Rattle.cs_syntax.proofs.NestingBounds.{inside_file, max_left, max_right}
-use Rattle.cs_syntax.proofs.Places.{is_of_word, fault_of_word, file_fault, cut_ended}
+use Rattle.cs_syntax.proofs.DefaultWords.{no_argument, cut_narrow}
+use Rattle.cs_syntax.proofs.Places.{stops_at_word, nothing_stops, stops_at_argument, file_fault, cut_ended}
 
 -- words spell one file
 pub file_once : (f g : FileTree) (ts : Words) → SpellsFile f ts → SpellsFile g ts → f ≡ g
@@ -127,6 +130,11 @@ module _ {X : Type 0} (p : Profile) (view : X → FileTree) (source : List ℕ) 
       let read : file_within (words (taken p ks)) ≡ Ok f = sym (ap (λ js. file_within (words (taken p js))) same) ∙ within_complete (words (taken p s.tokens)) f s.nested s.spelled s.low in
       answered r f (subst (λ m. Gives view r m) read g)
 
+-- an argument is below zero, which none is in the default profile
+range_refused : (p : Profile) (source : List ℕ) (ks : List Lexeme) → IsCutIn p source ks → (o : ℕ) → nesting (words (taken p ks)) ≤ 28 → ((t : FileTree) → SpellsFile t (words (taken p ks)) → ⊥) → IsBelowZeroIn o (words (taken p ks)) → IsOutOfRangeIn p source o
+range_refused profiles.Default source ks cut o n none b = absurd (no_argument b (cut_narrow cut))
+range_refused profiles.Wide source ks cut o n none b = inr (record { tokens = ks; cut = cut; nested = n; no_file = none; place = b })
+
 module _ (p : Profile) (source : List ℕ) (ks : List Lexeme) (cut : IsCutIn p source ks) where
   fault_read : (e : SyntaxFault) (f : FileTree) → nesting (words (taken p ks)) ≤ 28 → file_at (words (taken p ks)) ≡ Err e → SpellsFile f (words (taken p ks)) → ⊥
   fault_read e f n h s = apart (sym h ∙ read_file n s)
@@ -134,22 +142,22 @@ module _ (p : Profile) (source : List ℕ) (ks : List Lexeme) (cut : IsCutIn p s
       apart : ◌≡◌ {A = Result FileTree SyntaxFault} (Err e) (Ok f) → ⊥
       apart k = cc
 
-  -- a fault of reading is at a word
-  never : (e : SyntaxFault) → is_of_word e ≡ false → file_at (words (taken p ks)) ≡ Err e → ⊥
-  never e n h = let w = fault_of_word (words (taken p ks)) e (file_fault (words (taken p ks)) (cut_ended p cut) e h) in absurd cc
+  -- what stops reading
+  stops : (e : SyntaxFault) → file_at (words (taken p ks)) ≡ Err e → StopsAt e (words (taken p ks))
+  stops e h = file_fault (words (taken p ks)) (cut_ended p cut) e h
 
   refusal : (e : SyntaxFault) → Refused e (words (taken p ks)) → IsFileRefusalIn p source e
   refusal faults.OutOfMemory r = tt
   refusal (faults.NoToken o) (inl h) = let e = h.0 in absurd cc
-  refusal (faults.NoToken o) (inr h) = absurd (never (faults.NoToken o) refl h.1)
+  refusal (faults.NoToken o) (inr h) = absurd (nothing_stops (words (taken p ks)) (faults.NoToken o) refl refl (stops (faults.NoToken o) h.1))
   refusal (faults.IntegerRange o) (inl h) = let e = h.0 in absurd cc
-  refusal (faults.IntegerRange o) (inr h) = absurd (never (faults.IntegerRange o) refl h.1)
+  refusal (faults.IntegerRange o) (inr h) = range_refused p source ks cut o h.0 (λ t s. fault_read (faults.IntegerRange o) t h.0 h.1 s) (stops_at_argument (words (taken p ks)) o (stops (faults.IntegerRange o) h.1))
   refusal (faults.Syntax o) (inl h) = let e = h.0 in absurd cc
-  refusal (faults.Syntax o) (inr h) = record { tokens = ks; cut = cut; nested = h.0; no_file = λ t s. fault_read (faults.Syntax o) t h.0 h.1 s; place = file_fault (words (taken p ks)) (cut_ended p cut) (faults.Syntax o) h.1 }
+  refusal (faults.Syntax o) (inr h) = record { tokens = ks; cut = cut; nested = h.0; no_file = λ t s. fault_read (faults.Syntax o) t h.0 h.1 s; place = stops_at_word (words (taken p ks)) (faults.Syntax o) refl (stops (faults.Syntax o) h.1) }
   refusal (faults.LeftOut o) (inl h) = let e = h.0 in absurd cc
-  refusal (faults.LeftOut o) (inr h) = record { tokens = ks; cut = cut; nested = h.0; no_file = λ t s. fault_read (faults.LeftOut o) t h.0 h.1 s; place = file_fault (words (taken p ks)) (cut_ended p cut) (faults.LeftOut o) h.1 }
+  refusal (faults.LeftOut o) (inr h) = record { tokens = ks; cut = cut; nested = h.0; no_file = λ t s. fault_read (faults.LeftOut o) t h.0 h.1 s; place = stops_at_word (words (taken p ks)) (faults.LeftOut o) refl (stops (faults.LeftOut o) h.1) }
   refusal faults.TooHigh (inl h) = record { tokens = ks; cut = cut; high = h.1 }
-  refusal faults.TooHigh (inr h) = absurd (never faults.TooHigh refl h.1)
+  refusal faults.TooHigh (inr h) = absurd (nothing_stops (words (taken p ks)) faults.TooHigh refl refl (stops faults.TooHigh h.1))
 
 pub file_refused : {X : Type 0} (p : Profile) (view : X → FileTree) (source : List ℕ) (r : Result X SyntaxFault) (ks : List Lexeme) → IsCutIn p source ks → Gives view r (file_within (words (taken p ks))) → IfErr r (λ f. IsFileRefusalIn p source f)
 file_refused p view source (Ok x) ks cut g = tt

@@ -9,7 +9,7 @@ use Rattle.cs_grammar.specs.Tree.{Tree, FileTree, file, definition}
 use Rattle.cs_syntax.specs.Nesting.{nesting}
 use Rattle.cs_grammar.specs.Spells.{SpellsFile, every_label}
 use Rattle.cs_syntax.specs.Reading.{number_at, integer_at, unbracketed_at, many, label_at, every_key_at, head_at, field_with, struct_with, rest_with, end_with, list_with, operand_with, uncalled_with, leaf_at, paren_with, conj_with, branch_with, expr_with, inner}
-use Rattle.cs_syntax.specs.FileReading.{definition_at, line_at, any_line_at, lines_at, package_at, file_with, file_at}
+use Rattle.cs_syntax.specs.FileReading.{definition_at, line_at, any_line_at, lines_at, imports_at, package_at, file_with, file_at}
 use Rattle.cs_syntax.proofs.Soundness.{file_found}
 
 -- the words of `#A: ` and a body, with the comma and the end at that offset
@@ -28,7 +28,7 @@ abbrev choice_tree : Tree
 choice_tree = T.disjunction (T.more (T.atom (T.integer (pos 1))) (T.more (T.conjunction (T.more (T.atom (T.integer (pos 2))) (T.more (T.atom (T.integer (pos 3))) T.none))) T.none))
 
 choice_read : file_at choice ≡ Ok (one_file choice_tree)
-unfolding number_at integer_at unbracketed_at many operand_with uncalled_with leaf_at paren_with conj_with branch_with expr_with inner definition_at line_at any_line_at lines_at package_at file_with
+unfolding number_at integer_at unbracketed_at many operand_with uncalled_with leaf_at paren_with conj_with branch_with expr_with inner definition_at line_at any_line_at lines_at imports_at package_at file_with
 choice_read = refl
 
 pub choice_spelled : SpellsFile (one_file choice_tree) choice
@@ -46,7 +46,7 @@ short_tree =
     T.no_field) false
 
 short_read : file_at short_form ≡ Ok (one_file short_tree)
-unfolding number_at integer_at unbracketed_at many label_at head_at field_with struct_with rest_with end_with list_with operand_with uncalled_with leaf_at paren_with conj_with branch_with expr_with inner definition_at line_at any_line_at lines_at package_at file_with
+unfolding number_at integer_at unbracketed_at many label_at head_at field_with struct_with rest_with end_with list_with operand_with uncalled_with leaf_at paren_with conj_with branch_with expr_with inner definition_at line_at any_line_at lines_at imports_at package_at file_with
 short_read = refl
 
 pub short_spelled : SpellsFile (one_file short_tree) short_form
@@ -65,7 +65,7 @@ abbrev every_tree : Tree
 every_tree = T.struct 4 (T.field every_label (Every 5) (T.named (codes "int") 14) T.no_field) false
 
 every_read : file_at every_form ≡ Ok (one_file every_tree)
-unfolding unbracketed_at many every_key_at head_at field_with operand_with uncalled_with leaf_at paren_with conj_with branch_with expr_with inner definition_at line_at any_line_at lines_at package_at file_with
+unfolding unbracketed_at many every_key_at head_at field_with operand_with uncalled_with leaf_at paren_with conj_with branch_with expr_with inner definition_at line_at any_line_at lines_at imports_at package_at file_with
 every_read = refl
 
 pub every_spelled : SpellsFile (one_file every_tree) every_form
@@ -84,7 +84,7 @@ abbrev beside_tree : Tree
 beside_tree = T.struct 4 (T.field every_label (Every 6) (T.named (codes "int") 15) (T.field (record { text = codes "a"; quotes = false; asked = false; scoped = None }) Regular (T.named (codes "int") 23) T.no_field)) false
 
 beside_read : file_at beside_form ≡ Ok (one_file beside_tree)
-unfolding unbracketed_at many label_at every_key_at head_at field_with struct_with operand_with uncalled_with leaf_at paren_with conj_with branch_with expr_with inner definition_at line_at any_line_at lines_at package_at file_with
+unfolding unbracketed_at many label_at every_key_at head_at field_with struct_with operand_with uncalled_with leaf_at paren_with conj_with branch_with expr_with inner definition_at line_at any_line_at lines_at imports_at package_at file_with
 beside_read = refl
 
 pub beside_spelled : SpellsFile (one_file beside_tree) beside_form
@@ -103,7 +103,7 @@ abbrev list_tree : Tree
 list_tree = T.list (T.more (T.named (codes "string") 5) T.none) T.closed
 
 list_read : file_at list_form ≡ Ok (one_file list_tree)
-unfolding unbracketed_at many end_with list_with operand_with uncalled_with leaf_at paren_with conj_with branch_with expr_with inner definition_at line_at any_line_at lines_at package_at file_with
+unfolding unbracketed_at many end_with list_with operand_with uncalled_with leaf_at paren_with conj_with branch_with expr_with inner definition_at line_at any_line_at lines_at imports_at package_at file_with
 list_read = refl
 
 pub list_spelled : SpellsFile (one_file list_tree) list_form
@@ -115,29 +115,29 @@ abbrev faulty_in_struct : Words → Words
 faulty_in_struct ts = one_body (W.open_struct 4 ∷ W.open_list 5 ∷ ts)
 
 other_name : file_at (faulty_in_struct (W.name (codes "int") 6 ∷ W.close_list 9 ∷ W.colon 10 ∷ W.name (codes "int") 12 ∷ W.close_struct 15 ∷ W.nl 16 ∷ W.finish 16 ∷ [])) ≡ Err (Syntax 6)
-unfolding many every_key_at head_at field_with struct_with operand_with uncalled_with leaf_at paren_with conj_with branch_with expr_with inner definition_at line_at any_line_at lines_at package_at file_with
+unfolding many every_key_at head_at field_with struct_with operand_with uncalled_with leaf_at paren_with conj_with branch_with expr_with inner definition_at line_at any_line_at lines_at imports_at package_at file_with
 other_name = refl
 
 left_out_name : file_at (faulty_in_struct (W.name (codes "let") 6 ∷ W.close_list 9 ∷ W.colon 10 ∷ W.name (codes "int") 12 ∷ W.close_struct 15 ∷ W.nl 16 ∷ W.finish 16 ∷ [])) ≡ Err (LeftOut 6)
-unfolding many every_key_at head_at field_with struct_with operand_with uncalled_with leaf_at paren_with conj_with branch_with expr_with inner definition_at line_at any_line_at lines_at package_at file_with
+unfolding many every_key_at head_at field_with struct_with operand_with uncalled_with leaf_at paren_with conj_with branch_with expr_with inner definition_at line_at any_line_at lines_at imports_at package_at file_with
 left_out_name = refl
 
 quoted_name : file_at (faulty_in_struct (W.quoted (codes "string") 6 ∷ W.close_list 14 ∷ W.colon 15 ∷ W.name (codes "int") 17 ∷ W.close_struct 20 ∷ W.nl 21 ∷ W.finish 21 ∷ [])) ≡ Err (Syntax 6)
-unfolding many every_key_at head_at field_with struct_with operand_with uncalled_with leaf_at paren_with conj_with branch_with expr_with inner definition_at line_at any_line_at lines_at package_at file_with
+unfolding many every_key_at head_at field_with struct_with operand_with uncalled_with leaf_at paren_with conj_with branch_with expr_with inner definition_at line_at any_line_at lines_at imports_at package_at file_with
 quoted_name = refl
 
 marked_key : file_at (faulty_in_struct (W.name (codes "string") 6 ∷ W.close_list 12 ∷ W.question 13 ∷ W.colon 14 ∷ W.name (codes "int") 16 ∷ W.close_struct 19 ∷ W.nl 20 ∷ W.finish 20 ∷ [])) ≡ Err (Syntax 13)
-unfolding many every_key_at head_at field_with struct_with operand_with uncalled_with leaf_at paren_with conj_with branch_with expr_with inner definition_at line_at any_line_at lines_at package_at file_with
+unfolding many every_key_at head_at field_with struct_with operand_with uncalled_with leaf_at paren_with conj_with branch_with expr_with inner definition_at line_at any_line_at lines_at imports_at package_at file_with
 marked_key = refl
 
 open_bracket : file_at (faulty_in_struct (W.name (codes "string") 6 ∷ W.colon 12 ∷ W.name (codes "int") 14 ∷ W.close_struct 17 ∷ W.nl 18 ∷ W.finish 18 ∷ [])) ≡ Err (Syntax 12)
-unfolding many every_key_at head_at field_with struct_with operand_with uncalled_with leaf_at paren_with conj_with branch_with expr_with inner definition_at line_at any_line_at lines_at package_at file_with
+unfolding many every_key_at head_at field_with struct_with operand_with uncalled_with leaf_at paren_with conj_with branch_with expr_with inner definition_at line_at any_line_at lines_at imports_at package_at file_with
 open_bracket = refl
 
 short_other_name : file_at (one_body (W.open_list 4 ∷ W.name (codes "int") 5 ∷ W.close_list 8 ∷ W.colon 9 ∷ W.name (codes "int") 11 ∷ W.nl 14 ∷ W.finish 14 ∷ [])) ≡ Err (Syntax 9)
-unfolding unbracketed_at many end_with list_with operand_with uncalled_with leaf_at paren_with conj_with branch_with expr_with inner definition_at line_at any_line_at lines_at package_at file_with
+unfolding unbracketed_at many end_with list_with operand_with uncalled_with leaf_at paren_with conj_with branch_with expr_with inner definition_at line_at any_line_at lines_at imports_at package_at file_with
 short_other_name = refl
 
 short_marked_key : file_at (one_body (W.open_list 4 ∷ W.name (codes "string") 5 ∷ W.close_list 11 ∷ W.bang 12 ∷ W.colon 13 ∷ W.name (codes "int") 15 ∷ W.nl 18 ∷ W.finish 18 ∷ [])) ≡ Err (Syntax 12)
-unfolding unbracketed_at many end_with list_with operand_with uncalled_with leaf_at paren_with conj_with branch_with expr_with inner definition_at line_at any_line_at lines_at package_at file_with
+unfolding unbracketed_at many end_with list_with operand_with uncalled_with leaf_at paren_with conj_with branch_with expr_with inner definition_at line_at any_line_at lines_at imports_at package_at file_with
 short_marked_key = refl

@@ -74,6 +74,8 @@ has_height (T.wide (T.marked o e)) = has_height e
 has_height (T.wide (T.merged o ds b)) = one_higher (height_declarations ds)
 has_height (T.wide (T.shut o e)) = one_higher (height e)
 has_height (T.wide (T.selected o s ls)) = refl
+has_height (T.wide (T.called o s f z)) = refl
+has_height (T.wide (T.imported o s)) = refl
 
 pub no_height : (e : Tree) (k : ℕ) → k ≡ 0 → nat_le (height e) k ≡ false
 no_height e k is = ap (λ n. nat_le (height e) n) is ∙ has_height e

@@ -4,7 +4,7 @@ use Rattle.std.specs.List.{AllByRecursion}
 use Rattle.std.specs.Option.{option_map}
 use Rattle.cs_grammar.specs.declared.ast.FieldMark.{FieldMark}
 use Rattle.cs_grammar.specs.Labels.{HasLabel, IsLabelled, AreLabelled, AreLabelledFields, AreLabelledDeclarations, IsLabelledEnd, IsLabelledFile}
-use Rattle.cs_grammar.specs.Spells.{fields_alone, literal_if, literal, Comma, explicit, inserted, ClosesParen, paren_here, paren_after, ClosesList, list_here, list_after, ClosesStruct, struct_here, struct_after, SpellsNumber, positive, negative, SpellsBound, limit_is, other_number, other_text, other_null, SpellsName, hashed, underscored, SpellsBase, name_base, field_base, SpellsSelector, by_name, by_label, by_text, SpellsSelectors, last_selector, next_selector, SpellsLabel, bare_label, quoted_label, SpellsMark, regular, optional, required, SpellsOpening, unopened, opened, SpellsScalar, scalar_name, scalar_number, scalar_text, SpellsTest, is_true, equal_to, unequal_to, is_absent, is_present, related, SpellsCondition, asked_is, denied_is, SpellsConditions, last_condition, next_condition, SpellsValue, long, short, SpellsField, labelled, every_key, SpellsExpr, one_branch, disjunction_is, SpellsBars, no_bar, a_bar, SpellsBranch, unmarked, marked_is, SpellsConj, one_operand, conjunction_is, SpellsAmps, no_amp, an_amp, SpellsOperand, top_is, bottom_is, reference_is, name_is, number_is, text_is, bound_is, paren_is, struct_is, list_is, call_paren_is, shut_is, local_is, selected_is, wide_struct_is, SpellsWideStruct, no_declarations, wide_dots_alone, some_declarations, SpellsDeclarations, a_field, an_embedding, a_name, a_let, a_conditional, SpellsMore, no_more, next_declaration, SpellsStruct, no_fields, dots_alone, fields, SpellsFields, no_more_fields, next_field, SpellsList, no_elements, rest_alone, elements, SpellsElements, no_more_elements, next_element, SpellsEnd, closed_is, rest_is, SpellsRest, any_is, each_is, SpellsDefinition, defined, SpellsDefinitions, no_definition, next_definition, SpellsPackage, no_clause, clause, SpellsFile, spelled, wide_spelled}
+use Rattle.cs_grammar.specs.Spells.{fields_alone, literal_if, literal, Comma, explicit, inserted, ClosesParen, paren_here, paren_after, ClosesList, list_here, list_after, ClosesStruct, struct_here, struct_after, SpellsNumber, positive, negative, SpellsBound, limit_is, other_number, other_text, other_null, SpellsName, hashed, underscored, SpellsBase, name_base, field_base, SpellsSelector, by_name, by_label, by_text, SpellsSelectors, last_selector, next_selector, SpellsLabel, bare_label, quoted_label, SpellsMark, regular, optional, required, SpellsOpening, unopened, opened, SpellsScalar, scalar_name, scalar_number, scalar_text, SpellsTest, is_true, equal_to, unequal_to, is_absent, is_present, related, SpellsCondition, asked_is, denied_is, SpellsConditions, last_condition, next_condition, SpellsValue, long, short, SpellsField, labelled, every_key, SpellsExpr, one_branch, disjunction_is, SpellsBars, no_bar, a_bar, SpellsBranch, unmarked, marked_is, SpellsConj, one_operand, conjunction_is, SpellsAmps, no_amp, an_amp, SpellsOperand, top_is, bottom_is, reference_is, name_is, number_is, text_is, bound_is, paren_is, struct_is, list_is, call_paren_is, shut_is, local_is, selected_is, called_is, SpellsArgument, argument_is, wide_struct_is, SpellsWideStruct, no_declarations, wide_dots_alone, some_declarations, SpellsDeclarations, a_field, an_embedding, a_name, a_let, a_conditional, SpellsMore, no_more, next_declaration, SpellsStruct, no_fields, dots_alone, fields, SpellsFields, no_more_fields, next_field, SpellsList, no_elements, rest_alone, elements, SpellsElements, no_more_elements, next_element, SpellsEnd, closed_is, rest_is, SpellsRest, any_is, each_is, SpellsDefinition, defined, SpellsDefinitions, no_definition, next_definition, SpellsPackage, no_clause, clause, SpellsFile, spelled, wide_spelled}
 use Rattle.cs_grammar.specs.Atom.{Atom}
 use Rattle.cs_grammar.specs.Tree.{Label, Selector, Test, Condition, Tree, Trees, Fields, field, Declarations, no_declaration, declared, embedded, conditional, End, DefinitionTree, body, FileTree}
 use Rattle.cs_grammar.specs.Words.{Word, Words, close_list, colon, question, bang}
@@ -120,6 +120,9 @@ of_selectors : {ls : List Selector} {ts r : Words} → SpellsSelectors ls ts r �
 of_selectors (last_selector l) h = of_selector l h
 of_selectors (next_selector l ls) h = of_selector l (of_selectors ls h)
 
+of_argument : {z : ℤ} {ts r : Words} → SpellsArgument z ts r → Apart r → Apart ts
+of_argument (argument_is f c) h = (refl, (refl, (of_paren_end c h).apart))
+
 -- ---- literals of the wide profile
 
 alone_labelled : (ds : Declarations) (fs : Fields) → fields_alone ds ≡ Some fs → AreLabelledFields fs → AreLabelledDeclarations ds
@@ -189,6 +192,7 @@ mutual
   of_operand (shut_is s e c) is h = record { quiet = refl; apart = (refl, (refl, (of_expr e is (of_paren_end c h.apart)).apart)) }
   of_operand local_is is h = record { quiet = refl; apart = (refl, h.apart) }
   of_operand (selected_is o b l) is h = of_base b (of_selectors l h.apart)
+  of_operand (called_is f a) is h = record { quiet = refl; apart = (refl, (refl, (refl, of_argument a h.apart))) }
   of_operand (wide_struct_is {p} {ds} {b} e s) is h = record { quiet = refl; apart = (refl, (of_wide_struct s (literal_labelled p ds b (subst IsLabelled e is)) h).apart) }
 
   of_wide_struct : {ds : Declarations} {b : Bool} {ts r : Words} → SpellsWideStruct ds b ts r → AreLabelledDeclarations ds → Follows r → Follows ts
@@ -249,4 +253,4 @@ of_package (clause is c) h = (refl, (refl, (of_comma c h).apart))
 -- words of the default profile
 pub words_apart : (f : FileTree) (ts : Words) → SpellsFile f ts → Narrow ts → IsLabelledFile f → Apart ts
 words_apart f ts (spelled p ds) n is = of_package p (of_definitions ds is (record { quiet = refl; apart = (refl, tt) })).apart
-words_apart f ts (wide_spelled p ls) n is = let never : true ≡ false = (kept (R.of_wide_file ls) (kept (R.of_package p) n)).0 in absurd cc
+words_apart f ts (wide_spelled e p i ls) n is = let never : true ≡ false = (kept (R.of_wide_file ls) (kept (R.of_imports i) (kept (R.of_package p) n))).0 in absurd cc

@@ -1,6 +1,6 @@
 -- What the proofs of this crate show: what the parser reads is spelled (`file_found` in `Soundness`, by induction on the depth), what is
 -- spelled within the limits is read (`read_file` in `Completeness`, by induction on the spelling), so words spell one file (`file_once`
--- in `FileAnswers`), and a fault is at a word (`file_fault` in `Places`).
+-- in `FileAnswers`), and a fault is at a word or an argument below zero (`file_fault` in `Places`).
 
 -- words, quoted texts, and the code beside the reader of the definitions
 pub mod WordKinds
@@ -13,10 +13,16 @@ pub mod BracketLabels
 pub mod Boundaries
 pub mod ConditionsRead
 pub mod NamesRead
+pub mod MarksRead
+pub mod CallsRead
+pub mod ImportsRead
 pub mod Completeness
 -- soundness, faults, and what the call answers
 pub mod ConditionsFound
 pub mod NamesFound
+pub mod MarksFound
+pub mod CallsFound
+pub mod ImportsFound
 pub mod Soundness
 pub mod Places
 pub mod FileAnswers
@@ -41,3 +47,4 @@ pub mod ProfileSamples
 pub mod EmbeddingSamples
 pub mod ConditionSamples
 pub mod NameSamples
+pub mod CallSamples

@@ -24,7 +24,7 @@ use Rattle.cs_grammar.specs.Words.{Words}
 use Rattle.cs_syntax.specs.AnswerIn.{IsSpelledIn}
 use Rattle.cs_syntax.specs.Nesting.{nesting}
 use Rattle.cs_syntax.specs.Reading.{word_kind, number_at, integer_at, unbracketed_at, many, label_at, head_at, field_with, name_at, selector_at, selected_at, leaf_at, bound_name_at, name_head_at, scoped_with, declaration_with, wide_struct_with, operand_with, uncalled_with, paren_with, conj_with, branch_with, expr_with, inner}
-use Rattle.cs_syntax.specs.FileReading.{definition_at, line_at, file_name_at, name_line_at, any_line_at, lines_at, clause_at, package_at, file_with, file_at}
+use Rattle.cs_syntax.specs.FileReading.{definition_at, line_at, file_name_at, name_line_at, any_line_at, lines_at, clause_at, imports_at, package_at, file_with, file_at}
 use Rattle.cs_syntax.proofs.Soundness.{file_found}
 
 -- ---- a whole source: `_y: 1, #A: {let n = _y, #N: n, a: #N.b}`
@@ -115,12 +115,12 @@ abbrev tree : FileTree
 tree = file None (definition (codes "A") 7 body ∷ []) (plain_name (codes "_y") 0 one ∷ [])
 
 wide_read : file_at (words (taken profiles.Wide tokens)) ≡ Ok tree
-unfolding integer_value number_at integer_at unbracketed_at many label_at head_at field_with name_at selector_at selected_at leaf_at bound_name_at name_head_at scoped_with declaration_with wide_struct_with operand_with uncalled_with paren_with conj_with branch_with expr_with inner definition_at line_at file_name_at name_line_at any_line_at lines_at package_at file_with
+unfolding integer_value number_at integer_at unbracketed_at many label_at head_at field_with name_at selector_at selected_at leaf_at bound_name_at name_head_at scoped_with declaration_with wide_struct_with operand_with uncalled_with paren_with conj_with branch_with expr_with inner definition_at line_at file_name_at name_line_at any_line_at lines_at imports_at package_at file_with
 wide_read = refl
 
 -- there a file has definitions alone
 default_read : file_at (words (taken profiles.Default tokens)) ≡ Err (LeftOut 0)
-unfolding integer_value many definition_at line_at any_line_at lines_at package_at file_with
+unfolding integer_value many definition_at line_at any_line_at lines_at imports_at package_at file_with
 default_read = refl
 
 pub names_spelled : IsSpelledIn profiles.Wide source tree
@@ -192,7 +192,7 @@ abbrev of_mark : FieldMark → Tree
 of_mark m = T.struct 4 (T.field (written_label (codes "let") false) m any_value T.no_field) false
 
 labels : map (λ ts. file_at (in_literal (W.name (codes "let") 5 ∷ ts ++ W.colon 10 ∷ W.top_mark 12 ∷ []))) ([] ∷ (W.question 8 ∷ []) ∷ (W.bang 8 ∷ []) ∷ []) ≡ map (λ m. Ok (one_file (of_mark m))) (Regular ∷ Optional ∷ Required ∷ [])
-unfolding unbracketed_at many label_at head_at field_with leaf_at declaration_with wide_struct_with operand_with uncalled_with paren_with conj_with branch_with expr_with inner definition_at line_at any_line_at lines_at package_at file_with
+unfolding unbracketed_at many label_at head_at field_with leaf_at declaration_with wide_struct_with operand_with uncalled_with paren_with conj_with branch_with expr_with inner definition_at line_at any_line_at lines_at imports_at package_at file_with
 labels = refl
 
 -- `{_n: a: _}`: a name may have a short form, and beside an embedding: `{#B, #N: _}`
@@ -203,17 +203,17 @@ abbrev short_words : Words
 short_words = in_literal (W.local (codes "_n") 5 ∷ W.colon 7 ∷ W.name (codes "a") 9 ∷ W.colon 10 ∷ W.top_mark 12 ∷ [])
 
 short_read : file_at short_words ≡ Ok (one_file short)
-unfolding unbracketed_at many label_at head_at field_with name_at leaf_at name_head_at scoped_with declaration_with wide_struct_with operand_with uncalled_with paren_with conj_with branch_with expr_with inner definition_at line_at any_line_at lines_at package_at file_with
+unfolding unbracketed_at many label_at head_at field_with name_at leaf_at name_head_at scoped_with declaration_with wide_struct_with operand_with uncalled_with paren_with conj_with branch_with expr_with inner definition_at line_at any_line_at lines_at imports_at package_at file_with
 short_read = refl
 
 beside : file_at (in_literal (W.definition_name (codes "B") 5 ∷ W.comma 7 ∷ W.definition_name (codes "N") 9 ∷ W.colon 11 ∷ W.top_mark 13 ∷ [])) ≡ Ok (one_file (T.wide (T.merged 4 (T.embedded 5 (T.reference (codes "B") 5) (T.declared (scoped_label (codes "#N") 9) Regular any_value T.no_declaration)) false)))
-unfolding unbracketed_at many name_at leaf_at name_head_at scoped_with declaration_with wide_struct_with operand_with uncalled_with paren_with conj_with branch_with expr_with inner definition_at line_at any_line_at lines_at package_at file_with
+unfolding unbracketed_at many name_at leaf_at name_head_at scoped_with declaration_with wide_struct_with operand_with uncalled_with paren_with conj_with branch_with expr_with inner definition_at line_at any_line_at lines_at imports_at package_at file_with
 beside = refl
 
 -- out of place: `{_n?: _}`, `{let n = a: _}`, whose value is no expression, and `{let n = _, n}`, which is no fault
 faults : map (λ ts. file_at (in_literal ts)) ((W.local (codes "_n") 5 ∷ W.question 7 ∷ W.colon 8 ∷ W.top_mark 10 ∷ []) ∷ (W.name (codes "let") 5 ∷ W.name (codes "n") 9 ∷ W.assign 11 ∷ W.name (codes "a") 13 ∷ W.colon 14 ∷ W.top_mark 16 ∷ []) ∷ (W.name (codes "let") 5 ∷ W.name (codes "n") 9 ∷ W.assign 11 ∷ W.top_mark 13 ∷ W.comma 14 ∷ W.name (codes "n") 16 ∷ []) ∷ [])
     ≡ Err (Syntax 7) ∷ Err (Syntax 14) ∷ Ok (one_file (T.wide (T.merged 4 (T.declared (scoped_label (codes "n") 5) Regular any_value (T.embedded 16 (T.named (codes "n") 16) T.no_declaration)) false))) ∷ []
-unfolding unbracketed_at many bound_name_at leaf_at name_head_at scoped_with declaration_with wide_struct_with operand_with uncalled_with paren_with conj_with branch_with expr_with inner definition_at line_at any_line_at lines_at package_at file_with
+unfolding unbracketed_at many bound_name_at leaf_at name_head_at scoped_with declaration_with wide_struct_with operand_with uncalled_with paren_with conj_with branch_with expr_with inner definition_at line_at any_line_at lines_at imports_at package_at file_with
 faults = refl
 
 -- ---- in files
@@ -228,19 +228,19 @@ wide_line ts = line ts (W.wide_finish 20)
 -- `x: _`, `_#N: _` and `let x = _`
 names : map (λ ts. file_at (wide_line ts)) ((W.name (codes "x") 0 ∷ W.colon 1 ∷ W.top_mark 3 ∷ []) ∷ (W.local (codes "_#N") 0 ∷ W.colon 3 ∷ W.top_mark 5 ∷ []) ∷ (W.name (codes "let") 0 ∷ W.name (codes "x") 4 ∷ W.assign 6 ∷ W.top_mark 8 ∷ []) ∷ [])
     ≡ map (λ n. Ok (file None [] (n ∷ []))) (plain_name (codes "x") 0 any_value ∷ plain_name (codes "_#N") 0 any_value ∷ record { name = codes "x"; is_bound = true; at = 0; value = any_value } ∷ [])
-unfolding unbracketed_at many name_at leaf_at bound_name_at name_head_at operand_with uncalled_with paren_with conj_with branch_with expr_with inner file_name_at name_line_at any_line_at lines_at package_at file_with
+unfolding unbracketed_at many name_at leaf_at bound_name_at name_head_at operand_with uncalled_with paren_with conj_with branch_with expr_with inner file_name_at name_line_at any_line_at lines_at imports_at package_at file_with
 names = refl
 
--- the same with the end of the default profile: a file has definitions alone
-no_names : map (λ ts. file_at (line ts (W.finish 20))) ((W.name (codes "x") 0 ∷ W.colon 1 ∷ W.top_mark 3 ∷ []) ∷ (W.local (codes "_#N") 0 ∷ W.colon 3 ∷ W.top_mark 5 ∷ []) ∷ (W.name (codes "let") 0 ∷ W.name (codes "x") 4 ∷ W.assign 6 ∷ W.top_mark 8 ∷ []) ∷ [])
-    ≡ Err (Syntax 0) ∷ Err (LeftOut 0) ∷ Err (LeftOut 0) ∷ []
-unfolding many definition_at line_at any_line_at lines_at package_at file_with
+-- the same and `import "x"` with the end of the default profile: a file has definitions alone
+no_names : map (λ ts. file_at (line ts (W.finish 20))) ((W.name (codes "x") 0 ∷ W.colon 1 ∷ W.top_mark 3 ∷ []) ∷ (W.local (codes "_#N") 0 ∷ W.colon 3 ∷ W.top_mark 5 ∷ []) ∷ (W.name (codes "let") 0 ∷ W.name (codes "x") 4 ∷ W.assign 6 ∷ W.top_mark 8 ∷ []) ∷ (W.name (codes "import") 0 ∷ W.quoted (codes "x") 7 ∷ []) ∷ [])
+    ≡ Err (Syntax 0) ∷ Err (LeftOut 0) ∷ Err (LeftOut 0) ∷ Err (LeftOut 0) ∷ []
+unfolding many definition_at line_at any_line_at lines_at imports_at package_at file_with
 no_names = refl
 
--- `package: _`, which begins a clause, `"x": _`, `import "x"`, `x?: _` and `_x`
-no_lines : map (λ ts. file_at (wide_line ts)) ((W.name (codes "package") 0 ∷ W.colon 7 ∷ W.top_mark 9 ∷ []) ∷ (W.quoted (codes "x") 0 ∷ W.colon 3 ∷ W.top_mark 5 ∷ []) ∷ (W.name (codes "import") 0 ∷ W.quoted (codes "x") 7 ∷ []) ∷ (W.name (codes "x") 0 ∷ W.question 1 ∷ W.colon 2 ∷ W.top_mark 4 ∷ []) ∷ (W.local (codes "_x") 0 ∷ []) ∷ [])
+-- `package: _`, which begins a clause, `"x": _`, `import` alone, `x?: _` and `_x`
+no_lines : map (λ ts. file_at (wide_line ts)) ((W.name (codes "package") 0 ∷ W.colon 7 ∷ W.top_mark 9 ∷ []) ∷ (W.quoted (codes "x") 0 ∷ W.colon 3 ∷ W.top_mark 5 ∷ []) ∷ (W.name (codes "import") 0 ∷ []) ∷ (W.name (codes "x") 0 ∷ W.question 1 ∷ W.colon 2 ∷ W.top_mark 4 ∷ []) ∷ (W.local (codes "_x") 0 ∷ []) ∷ [])
     ≡ Err (Syntax 7) ∷ Err (Syntax 0) ∷ Err (LeftOut 0) ∷ Err (Syntax 0) ∷ Err (LeftOut 0) ∷ []
-unfolding many definition_at line_at any_line_at lines_at clause_at package_at file_with
+unfolding many definition_at line_at any_line_at lines_at clause_at imports_at package_at file_with
 no_lines = refl
 
 -- ---- heights and nesting

@@ -127,10 +127,10 @@ let_of : (ts : Words) → begins_let ts ≡ true → StartsLet ts (drop 1 ts)
 let_of (name s p ∷ ts) h = starts_let h
 let_of ts h = absurd cc
 
-data Bound : Words → List ℕ → Words → Type 0 where
+pub data Bound : Words → List ℕ → Words → Type 0 where
   is_bound : {s : List ℕ} {p : ℕ} {r : Words} → Bound (name s p ∷ r) s r
 
-bound_of : (ts : Words) → IfRead (Bound ts) (bound_name_at ts)
+pub bound_of : (ts : Words) → IfRead (Bound ts) (bound_name_at ts)
 unfolding bound_name_at
 bound_of (name s p ∷ ts) = is_bound
 bound_of ts = tt

@@ -9,9 +9,9 @@ use Rattle.cs_grammar.specs.Atom as atoms
 use Rattle.cs_grammar.specs.Atom.{Relation}
 use Rattle.cs_grammar.specs.Words.{Words, name, local, quoted, relation, colon, assign}
 use Rattle.cs_grammar.specs.Tree.{Label, Selector, Condition, Tree, named, wide, selected}
-use Rattle.cs_grammar.specs.Spells.{is_if, is_let, is_close, is_package, start_at, positive, negative, limit_is, other_number, other_text, other_null, SpellsName, hashed, underscored, SpellsBase, name_base, field_base, SpellsSelector, by_name, by_label, by_text, SpellsSelectors, last_selector, next_selector, SpellsConditions, last_condition, next_condition, bare_label, quoted_label, SpellsField, labelled, every_key, SpellsExpr, one_branch, disjunction_is, SpellsBranch, unmarked, marked_is, SpellsConj, one_operand, conjunction_is, SpellsOperand, top_is, bottom_is, reference_is, name_is, number_is, text_is, bound_is, paren_is, struct_is, list_is, call_paren_is, shut_is, local_is, selected_is, wide_struct_is}
+use Rattle.cs_grammar.specs.Spells.{is_if, is_let, is_close, is_package, start_at, positive, negative, limit_is, other_number, other_text, other_null, SpellsName, hashed, underscored, SpellsBase, name_base, field_base, SpellsSelector, by_name, by_label, by_text, SpellsSelectors, last_selector, next_selector, SpellsConditions, last_condition, next_condition, bare_label, quoted_label, SpellsField, labelled, every_key, SpellsExpr, one_branch, disjunction_is, SpellsBranch, unmarked, marked_is, SpellsConj, one_operand, conjunction_is, SpellsOperand, top_is, bottom_is, reference_is, name_is, number_is, text_is, bound_is, paren_is, struct_is, list_is, call_paren_is, shut_is, local_is, selected_is, called_is, wide_struct_is}
 use Rattle.cs_grammar.proofs.Rests.{no_longer, of_scope_name}
-use Rattle.cs_syntax.specs.Reading.{◌>>=◌, Read, after, begins_with, goes_on_label, begins_shut, ends_label, name_at, selector_at, selectors_at, begins_selected, selected_at, unbracketed_at, leaf_at, uncalled_with, operand_with, begins_scoped, bound_name_at, name_head_at}
+use Rattle.cs_syntax.specs.Reading.{◌>>=◌, Read, after, begins_with, goes_on_label, begins_shut, ends_label, name_at, selector_at, selectors_at, begins_selected, selected_at, begins_function, begins_called, unbracketed_at, leaf_at, uncalled_with, operand_with, begins_scoped, bound_name_at, name_head_at}
 use Rattle.cs_syntax.proofs.BracketLabels.{no_colon}
 use Rattle.cs_syntax.proofs.Boundaries.{IsOpen, no_let, no_label-amps, no_label-bars}
 use Rattle.cs_syntax.proofs.Calls.{close_stands}
@@ -99,6 +99,22 @@ selected_begins (name_base hashed) d = d.is
 selected_begins (name_base underscored) d = d.is
 selected_begins (field_base {s} h) d = ap₂ (λ a b. not a && b) (field_known s h) d.is
 
+-- no function is called behind selectors
+selector_no_function : {l : Selector} {ts r : Words} → SpellsSelector l ts r → begins_with kinds.OpenCall r ≡ false → begins_function ts ≡ false
+selector_no_function (by_name o hashed) h = refl
+selector_no_function (by_name o underscored) h = refl
+selector_no_function by_label h = h
+selector_no_function by_text h = refl
+
+no_function : {ls : List Selector} {ts r : Words} → SpellsSelectors ls ts r → begins_with kinds.OpenCall r ≡ false → begins_function ts ≡ false
+no_function (last_selector l) h = selector_no_function l h
+no_function (next_selector l ls) h = selector_no_function l (dotted ls).no_call
+
+selected_uncalled : {s : List ℕ} {ts us : Words} → SpellsBase s ts us → begins_function us ≡ false → begins_called ts ≡ false
+selected_uncalled (name_base hashed) h = refl
+selected_uncalled (name_base underscored) h = refl
+selected_uncalled (field_base {s} k) h = ap₂ (λ a b. not a && b) (field_known s k) h
+
 base_no_shut : {s : List ℕ} {ts us : Words} → SpellsBase s ts us → Dotted us → begins_shut ts ≡ false
 base_no_shut (name_base hashed) d = refl
 base_no_shut (name_base underscored) d = refl
@@ -110,13 +126,13 @@ base_uncalled f (name_base hashed) = refl
 base_uncalled f (name_base underscored) = refl
 base_uncalled f (field_base h) = refl
 
-leaf_selected : {s : List ℕ} {o : ℕ} {ls : List Selector} {ts us r : Words} → o ≡ start_at ts → SpellsBase s ts us → SpellsSelectors ls us r → begins_with kinds.Dot r ≡ false → leaf_at ts ≡ Ok (wide (selected o s ls), r)
+leaf_selected : {s : List ℕ} {o : ℕ} {ls : List Selector} {ts us r : Words} → o ≡ start_at ts → SpellsBase s ts us → SpellsSelectors ls us r → begins_with kinds.Dot r ≡ false → begins_with kinds.OpenCall r ≡ false → leaf_at ts ≡ Ok (wide (selected o s ls), r)
 unfolding leaf_at
-leaf_selected o b l q = rw (selected_begins b (dotted l)) (read_selected o b l q)
+leaf_selected o b l q k = rw (selected_uncalled b (no_function l k), selected_begins b (dotted l)) (read_selected o b l q)
 
-pub operand_selected : (f : Bool → Read Tree) {s : List ℕ} {o : ℕ} {ls : List Selector} {ts us r : Words} → o ≡ start_at ts → SpellsBase s ts us → SpellsSelectors ls us r → begins_with kinds.Dot r ≡ false → operand_with f ts ≡ Ok (wide (selected o s ls), r)
+pub operand_selected : (f : Bool → Read Tree) {s : List ℕ} {o : ℕ} {ls : List Selector} {ts us r : Words} → o ≡ start_at ts → SpellsBase s ts us → SpellsSelectors ls us r → begins_with kinds.Dot r ≡ false → begins_with kinds.OpenCall r ≡ false → operand_with f ts ≡ Ok (wide (selected o s ls), r)
 unfolding operand_with
-operand_selected f o b l q = rw (base_no_shut b (dotted l)) (base_uncalled f b ∙ leaf_selected o b l q)
+operand_selected f o b l q k = rw (base_no_shut b (dotted l)) (base_uncalled f b ∙ leaf_selected o b l q k)
 
 pub read_local : (s : List ℕ) (p : ℕ) (r : Words) → unbracketed_at (local s p ∷ r) ≡ Ok (named s p, r)
 unfolding unbracketed_at
@@ -199,6 +215,7 @@ operand_no_scoped (call_paren_is e c) q = refl
 operand_no_scoped (shut_is {s} {p = p} {ts = ts} h e c) q = no_scoped s true (no_let s (close_stands s h))
 operand_no_scoped (local_is {r = r}) q = no_colon r q
 operand_no_scoped (selected_is o b l) q = selected_no_scoped b (dotted l)
+operand_no_scoped (called_is {s} h a) q = no_scoped s true (no_let s h.0.0)
 operand_no_scoped (wide_struct_is e s) q = refl
 
 conj_no_scoped : {e : Tree} {ts r : Words} → SpellsConj e ts r → goes_on_label r ≡ false → begins_scoped ts ≡ false

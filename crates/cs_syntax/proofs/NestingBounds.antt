@@ -1,5 +1,5 @@
 -- How many values of a spelled tree are inside one another is bounded by how deep its words nest.
-use Rattle.std.proofs.Common.{◌≡◌, ℕ, suc, ◌+◌, ◌≤◌, ℤ, List, [], ◌∷◌, Bool, true, false, Option, Some, None, cond, refl, sym, ap, ◌∙◌, subst, arith}
+use Rattle.std.proofs.Common.{◌≡◌, ℕ, suc, ◌+◌, ◌≤◌, ℤ, List, [], ◌∷◌, ◌++◌, Bool, true, false, Option, Some, None, cond, refl, sym, ap, ◌∙◌, subst, arith}
 use Rattle.std.proofs.lemmas.Bool.Decides.{nat_tests}
 use Rattle.std.specs.Prelude.{max, ◌||◌, codes}
 use Rattle.std.specs.Option.{option_map, unwrap_or}
@@ -9,7 +9,7 @@ use Rattle.cs_grammar.specs.Words.{Word, Words, name, quoted, open_list, close_l
 use Rattle.cs_grammar.specs.Atom.{Atom}
 use Rattle.cs_grammar.specs.Tree as T
 use Rattle.cs_grammar.specs.Tree.{Label, Selector, Test, Condition, Tree, Trees, none, more, Fields, no_field, field, Declarations, no_declaration, declared, embedded, conditional, End, DefinitionTree, body, NameTree, FileTree, definitions, names}
-use Rattle.cs_grammar.specs.Spells.{is_null, is_string, literal_of, fields_alone, literal_if, literal, Comma, explicit, inserted, ClosesParen, paren_here, paren_after, ClosesList, list_here, list_after, ClosesStruct, struct_here, struct_after, SpellsNumber, positive, negative, SpellsBound, limit_is, other_number, other_text, other_null, SpellsName, hashed, underscored, SpellsBase, name_base, field_base, SpellsSelector, by_name, by_label, by_text, SpellsSelectors, last_selector, next_selector, SpellsLabel, bare_label, quoted_label, SpellsMark, regular, optional, required, SpellsOpening, unopened, opened, SpellsScalar, scalar_name, scalar_number, scalar_text, SpellsTest, is_true, equal_to, unequal_to, is_absent, is_present, related, SpellsCondition, asked_is, denied_is, SpellsConditions, last_condition, next_condition, SpellsValue, long, short, SpellsField, labelled, every_key, SpellsExpr, one_branch, disjunction_is, SpellsBars, no_bar, a_bar, SpellsBranch, unmarked, marked_is, SpellsConj, one_operand, conjunction_is, SpellsAmps, no_amp, an_amp, SpellsOperand, top_is, bottom_is, reference_is, name_is, number_is, text_is, bound_is, paren_is, struct_is, list_is, call_paren_is, shut_is, local_is, selected_is, wide_struct_is, SpellsWideStruct, no_declarations, wide_dots_alone, some_declarations, SpellsDeclarations, a_field, an_embedding, a_name, a_let, a_conditional, SpellsMore, no_more, next_declaration, SpellsStruct, no_fields, dots_alone, fields, SpellsFields, no_more_fields, next_field, SpellsList, no_elements, rest_alone, elements, SpellsElements, no_more_elements, next_element, SpellsEnd, closed_is, rest_is, SpellsRest, any_is, each_is, defined, SpellsDefinitions, no_definition, next_definition, SpellsFileName, field_name, local_name, bound_name, SpellsWideFile, no_line, definition_line, name_line, SpellsPackage, no_clause, clause, SpellsFile, spelled, wide_spelled}
+use Rattle.cs_grammar.specs.Spells.{is_null, is_string, literal_of, fields_alone, literal_if, literal, Comma, explicit, inserted, ClosesParen, paren_here, paren_after, ClosesList, list_here, list_after, ClosesStruct, struct_here, struct_after, SpellsNumber, positive, negative, SpellsBound, limit_is, other_number, other_text, other_null, SpellsName, hashed, underscored, SpellsBase, name_base, field_base, SpellsSelector, by_name, by_label, by_text, SpellsSelectors, last_selector, next_selector, SpellsLabel, bare_label, quoted_label, SpellsMark, regular, optional, required, SpellsOpening, unopened, opened, SpellsScalar, scalar_name, scalar_number, scalar_text, SpellsTest, is_true, equal_to, unequal_to, is_absent, is_present, related, SpellsCondition, asked_is, denied_is, SpellsConditions, last_condition, next_condition, SpellsValue, long, short, SpellsField, labelled, every_key, SpellsExpr, one_branch, disjunction_is, SpellsBars, no_bar, a_bar, SpellsBranch, unmarked, marked_is, SpellsConj, one_operand, conjunction_is, SpellsAmps, no_amp, an_amp, SpellsOperand, top_is, bottom_is, reference_is, name_is, number_is, text_is, bound_is, paren_is, struct_is, list_is, call_paren_is, shut_is, local_is, selected_is, called_is, SpellsArgument, argument_is, wide_struct_is, SpellsWideStruct, no_declarations, wide_dots_alone, some_declarations, SpellsDeclarations, a_field, an_embedding, a_name, a_let, a_conditional, SpellsMore, no_more, next_declaration, SpellsStruct, no_fields, dots_alone, fields, SpellsFields, no_more_fields, next_field, SpellsList, no_elements, rest_alone, elements, SpellsElements, no_more_elements, next_element, SpellsEnd, closed_is, rest_is, SpellsRest, any_is, each_is, defined, SpellsDefinitions, no_definition, next_definition, SpellsFileName, field_name, local_name, bound_name, SpellsImportSpec, path_alone, named_path, SpellsImportSpecs, no_spec, last_spec, next_spec, SpellsImport, one_import, some_imports, SpellsImports, no_import, next_import, SpellsWideFile, no_line, definition_line, name_line, SpellsPackage, no_clause, clause, SpellsFile, spelled, wide_spelled}
 use Rattle.cs_syntax.specs.Nesting.{OpenLevels, ends_with_chained_label, is_short, counted_if, behind, nesting_at, nesting_from, nesting}
 use Rattle.cs_syntax.proofs.NestingCounts.{nesting-cons}
 
@@ -31,6 +31,8 @@ abbrev mutual
   inside_wide (T.merged o ds b) = inside_declarations ds
   inside_wide (T.shut o e) = suc (inside e)
   inside_wide (T.selected o s ls) = 0
+  inside_wide (T.called o s f z) = 0
+  inside_wide (T.imported o s) = 0
 
   pub inside_declarations : Declarations → ℕ
   inside_declarations no_declaration = 0
@@ -96,6 +98,15 @@ max_right m n h = grind (arith, nat_tests)
 
 pub max_both : (m n : ℕ) {k : ℕ} → m ≤ k → n ≤ k → max m n ≤ k
 max_both m n h j = grind (arith, nat_tests)
+
+-- names that are declared behind others
+names_both : (ms ks : List NameTree) {k : ℕ} → inside_names ms ≤ k → inside_names ks ≤ k → inside_names (ms ++ ks) ≤ k
+names_both [] ks h j = j
+names_both (m ∷ ms) ks h j = max_both _ _ (max_left _ (inside_names ms) h) (names_both ms ks (max_right (suc (inside m.value)) _ h) j)
+
+pub names_right : (ms ks : List NameTree) {k : ℕ} → inside_names (ms ++ ks) ≤ k → inside_names ks ≤ k
+names_right [] ks h = h
+names_right (m ∷ ms) ks h = names_right ms ks (max_right (suc (inside m.value)) _ h)
 
 max_plus : (m n a : ℕ) {k : ℕ} → m + a ≤ k → n + a ≤ k → max m n + a ≤ k
 max_plus m n a h j = grind (arith, nat_tests)
@@ -168,6 +179,9 @@ bound_goes (limit_is n) h = number_goes n (pass h)
 bound_goes (other_number n) h = number_goes n (pass h)
 bound_goes other_text h = (_, pass (pass h))
 bound_goes (other_null e) h = (_, pass (pass h))
+
+argument_goes : {k n : ℕ} {z : ℤ} {ws ts r : Words} {ns : OpenLevels} → SpellsArgument z ts r → Runs k ws (n ∷ ns) ts → Goes k (n ∷ ns) r
+argument_goes (argument_is f c) h = paren_goes c (pass (pass h))
 
 bound_flat : {e : Tree} {ts r : Words} → SpellsBound e ts r → inside e ≡ 0
 bound_flat (limit_is n) = refl
@@ -335,6 +349,7 @@ mutual
   operand_low {n = n} {ns = ns} (shut_is s e c) h = let x = expr_low e (pass (pass h)) in (one_in _ n ns x.0, paren_goes c x.1.1)
   operand_low local_is h = (flat h, (_, pass h))
   operand_low (selected_is o b l) h = (flat h, selectors_go l (base_goes b h).1)
+  operand_low (called_is j a) h = (flat h, argument_goes a (pass (pass (pass h))))
   operand_low (wide_struct_is {p} {ds} {b} e s) h = let x = wide_struct_low s refl (pass h) in (omega (arith, x.0, ap inside e, inside_literal p ds b), x.1)
 
   struct_low : {k n : ℕ} {fs : Fields} {b : Bool} {ws ts r : Words} {ns : OpenLevels} → SpellsStruct fs b ts r → begins_colon ws ≡ false → Runs k ws (0 ∷ n ∷ ns) ts → Fits k (inside_fields fs) (n ∷ ns) × Goes k (n ∷ ns) r
@@ -407,8 +422,48 @@ package_goes : {k : ℕ} {c : Option (List ℕ)} {ws ts us : Words} → SpellsPa
 package_goes no_clause f h = (_, f, h)
 package_goes (clause e c) f h = comma_goes c (pass (pass h))
 
+-- imports, whose names have no value inside
+
+spec_goes : {k o : ℕ} {x : NameTree} {ws ts r : Words} {ns : OpenLevels} → SpellsImportSpec o x ts r → Runs k ws ns ts → Goes k ns r
+spec_goes path_alone h = (_, pass h)
+spec_goes named_path h = (_, pass (pass h))
+
+specs_go : {k n : ℕ} {xs : List NameTree} {m : ℕ} {ws ts r : Words} {ns : OpenLevels} → SpellsImportSpecs xs ts r → Runs k ws (m ∷ n ∷ ns) ts → Goes k (n ∷ ns) r
+specs_go no_spec h = (_, pass h)
+specs_go (last_spec o s) h = let x = spec_goes s h in (_, pass x.1)
+specs_go (next_spec o s c xs) h = let x = spec_goes s h in let g = comma_goes c x.1 in specs_go xs g.2
+
+import_goes : {k : ℕ} {xs : List NameTree} {ws ts r : Words} → SpellsImport xs ts r → Runs k ws (0 ∷ []) ts → Goes k (0 ∷ []) r
+import_goes (one_import e s) h = spec_goes s (pass h)
+import_goes (some_imports e s) h = specs_go s (pass (pass h))
+
+imports_go : {k : ℕ} {xs : List NameTree} {ws ts r : Words} → SpellsImports xs ts r → begins_colon ws ≡ false → Runs k ws (0 ∷ []) ts → Fresh k [] r
+imports_go no_import f h = (_, f, h)
+imports_go (next_import is i c xs) f h = let x = import_goes i h in let g = comma_goes c x.1 in imports_go xs g.1 g.2
+
+spec_flat : {o : ℕ} {x : NameTree} {ts r : Words} → SpellsImportSpec o x ts r → inside x.value ≡ 0
+spec_flat path_alone = refl
+spec_flat named_path = refl
+
+specs_flat : {k : ℕ} {xs : List NameTree} {ts r : Words} → SpellsImportSpecs xs ts r → inside_names xs ≤ suc k
+specs_flat no_spec = omega arith
+specs_flat (last_spec o s) = max_both _ _ (omega (arith, spec_flat s)) (omega arith)
+specs_flat (next_spec o s c xs) = max_both _ _ (omega (arith, spec_flat s)) (specs_flat xs)
+
+import_flat : {k : ℕ} {xs : List NameTree} {ts r : Words} → SpellsImport xs ts r → inside_names xs ≤ suc k
+import_flat (one_import e s) = max_both _ _ (omega (arith, spec_flat s)) (omega arith)
+import_flat (some_imports e s) = specs_flat s
+
+imports_flat : {k : ℕ} {xs : List NameTree} {ts r : Words} → SpellsImports xs ts r → inside_names xs ≤ suc k
+imports_flat no_import = omega arith
+imports_flat {k} (next_import {ns = ns} {ms = ms} is i c xs) = subst (λ ys. inside_names ys ≤ suc k) (sym is) (names_both ns ms (import_flat i) (imports_flat xs))
+
 -- words that nest so deep spell no file with more values inside one another: a value of a definition or name, and one for each bracket and each short
 -- colon
 pub inside_low : {k : ℕ} {f : FileTree} {ts : Words} → SpellsFile f ts → nesting ts ≤ k → inside_file f ≤ suc k
 inside_low (spelled c ds) h = let g = package_goes c refl (record { low = h }) in max_both _ _ (definitions_low ds g.2) (omega arith)
-inside_low (wide_spelled c ls) h = let g = package_goes c refl (record { low = h }) in let x = wide_file_low ls g.1 g.2 in max_both _ _ x.0 x.1
+inside_low {k} (wide_spelled {ks = ks} {ms = ms} is c i ls) h =
+    let f = package_goes c refl (record { low = h }) in
+    let g = imports_go i f.1 f.2 in
+    let x = wide_file_low ls g.1 g.2 in
+    max_both _ _ x.0 (subst (λ ns. inside_names ns ≤ suc k) (sym is) (names_both ms ks (imports_flat i) x.1))

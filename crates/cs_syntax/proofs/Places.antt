@@ -1,5 +1,6 @@
--- A fault is at a word: what is left is an end of the words, and a fault is that of the first word of such an end.
-use Rattle.std.proofs.Common.{◌≡◌, ℕ, zero, suc, ℤ, Bool, true, false, [], ◌∷◌, List, length, drop, Option, Some, None, Result, Ok, Err, refl, ap, ◌∙◌}
+-- A fault is at a word: what is left is an end of the words, and a fault is that of the first word of such an end, that of a function that is left out, or that of an
+-- argument below zero.
+use Rattle.std.proofs.Common.{◌≡◌, ℕ, zero, suc, ℤ, Bool, true, false, [], ◌∷◌, List, length, drop, Option, Some, None, Result, Ok, Err, refl, ap, sym, ◌∙◌, subst, inl, inr}
 use Rattle.cs_grammar.specs.declared.fault.SyntaxFault.{SyntaxFault}
 use Rattle.cs_grammar.specs.declared.fault.SyntaxFault.TheVariants as faults
 use denote.Enum.Bare.{sameb}
@@ -18,17 +19,17 @@ use Rattle.cs_grammar.specs.CutIn.{CutIn}
 use Rattle.cs_grammar.specs.Stuck.{StuckIn, no_token, too_large, past_blank, past_line, past_comment, past_attribute, past_token}
 use Rattle.cs_grammar.specs.Words as W
 use Rattle.std.proofs.lemmas.Bool.{and_parts}
-use Rattle.std.specs.Prelude.{◌&&◌, ◌||◌, not, cond}
-use Rattle.cs_grammar.specs.Words.{Word, Words, start, name, quoted, definition_name, numeral, top_mark, bottom_mark, open_paren, open_call, open_struct, open_wide, open_list, relation, unequal, minus, equal, local}
-use Rattle.cs_grammar.specs.Tree.{Selector, Condition, Tree, atom, not_integer, DefinitionTree, NameTree, FileTree, file}
-use Rattle.cs_grammar.specs.Spells.{is_reserved, is_null, is_braced, literal_of, start_at}
+use Rattle.std.specs.Prelude.{◌++◌, ◌&&◌, ◌||◌, not, cond}
+use Rattle.cs_grammar.specs.Words.{Word, Words, start, name, quoted, definition_name, numeral, top_mark, bottom_mark, open_paren, open_call, open_struct, open_wide, open_list, relation, unequal, minus, equal, local, dot}
+use Rattle.cs_grammar.specs.Tree.{Selector, Condition, Tree, atom, wide, called, not_integer, DefinitionTree, NameTree, FileTree, file}
+use Rattle.cs_grammar.specs.Spells.{is_reserved, is_function, is_null, is_braced, literal_of, start_at}
 use Rattle.cs_grammar.specs.TokenWords.{words}
-use Rattle.cs_syntax.specs.Reading.{◌>>=◌, Read, word_kind, begins_with, begins_comma, fault_at, behind_if, after, after_comma, or_fault, beyond, comma_at, close_at, paren_end, expected, signed, number_or, number_at, name_or, null_or, bound_at, unequal_at, integer_at, unbracketed_at, or_more, many, another_field, another_element, opening, opening_if, opening_at, rest_behind, may_end, label_at, mark_if, mark_at, begins_string, string_at, every_key_at, head_if, head_at, field_with, fields_with, struct_if, struct_with, scalar_or, scalar_at, compared_if, compared_at, related_at, test_at, names_no_field, asked_or, asked_at, condition_if, condition_at, begins_if, after_if, conditions_at, conditional_or, conditional_with, begins_conditional, ends_label, name_at, selector_at, selectors_at, begins_selected, selected_at, leaf_if, leaf_at, begins_let, begins_binding, begins_scoped, bound_name_at, name_head_if, name_head_at, scoped_with, declaration_if, declaration_or, declaration_with, declarations_with, wide_struct_if, wide_struct_with, rest_if, rest_with, end_if, end_with, elements_with, list_if, list_with, paren_with, uncalled_with, operand_if, operand_with, begins_shut, amps_with, conj_with, branch_if, branch_with, bars_with, expr_with, value_if, begins_field, inner}
-use Rattle.cs_syntax.specs.FileReading.{definition_at, line_at, begins_file_name, file_name_at, name_line_at, any_line_if, any_line_at, begins_end, before_end, lines_at, is_clause, clause_at, package_if, package_at, whole, ends_wide, end_kind, file_with, file_at}
-use Rattle.cs_syntax.specs.Place.{is_left_out, fault_if, Ends, same, past, IsFaultIn}
+use Rattle.cs_syntax.specs.Reading.{◌>>=◌, Read, word_kind, begins_with, begins_comma, fault_at, behind_if, after, after_comma, or_fault, beyond, comma_at, close_at, paren_end, expected, signed, number_or, number_at, name_or, null_or, bound_at, unequal_at, integer_at, unbracketed_at, or_more, many, another_field, another_element, opening, opening_if, opening_at, rest_behind, may_end, label_at, mark_if, mark_at, begins_string, string_at, every_key_at, head_if, head_at, field_with, fields_with, struct_if, struct_with, scalar_or, scalar_at, compared_if, compared_at, related_at, test_at, names_no_field, asked_or, asked_at, condition_if, condition_at, begins_if, after_if, conditions_at, conditional_or, conditional_with, begins_conditional, ends_label, name_at, selector_at, selectors_at, begins_selected, selected_at, begins_called, function_if, function_at, count_at, argument_at, called_at, leaf_if, leaf_or, leaf_at, begins_let, begins_binding, begins_scoped, bound_name_at, name_head_if, name_head_at, scoped_with, declaration_if, declaration_or, declaration_with, declarations_with, wide_struct_if, wide_struct_with, rest_if, rest_with, end_if, end_with, elements_with, list_if, list_with, paren_with, uncalled_with, operand_if, operand_with, begins_shut, amps_with, conj_with, branch_if, branch_with, bars_with, expr_with, value_if, begins_field, inner}
+use Rattle.cs_syntax.specs.FileReading.{definition_at, line_at, begins_file_name, file_name_at, name_line_at, any_line_if, any_line_at, begins_end, before_end, lines_at, begins_import, path_at, import_spec_if, import_spec_at, spec_comma_if, spec_comma_at, listed_spec_at, before_paren, listed_specs_at, import_specs_at, import_if, imported_at, import_at, or_imports, imports_at, is_clause, clause_at, package_if, package_at, whole, ends_wide, end_kind, file_with, file_at}
+use Rattle.cs_syntax.specs.Place.{is_left_out, fault_if, Ends, same, past, IsOutOfPlaceIn, IsOtherFunctionIn, other_function, IsBelowZeroIn, below_zero, StopsAt}
 use Rattle.cs_lexer.specs.Lexed.{IsRefusalIn}
-use Rattle.cs_syntax.proofs.Calls.{Shut, is_shut, shut_of}
-use Rattle.cs_syntax.specs.Refusal.{IsFileRefusalIn}
+use Rattle.cs_syntax.proofs.Calls.{Shut, is_shut, shut_of, Called, is_called, called_of}
+use Rattle.cs_syntax.specs.Refusal.{IsOutOfRangeIn, IsFileRefusalIn}
 
 -- ---- the words of a source end with the end
 
@@ -67,13 +68,21 @@ trans (past a) e = past (trans a e)
 
 abbrev Goes : {A : Type 0} → Words → Result (A × Words) SyntaxFault → Type 0
 Goes ts (Ok x) = Ends ts x.1 × WellEnded x.1
-Goes ts (Err f) = IsFaultIn f ts
+Goes ts (Err f) = StopsAt f ts
 
 abbrev IsGoing : {A : Type 0} → Read A → Type 0
 IsGoing p = (ts : Words) → WellEnded ts → Goes ts (p ts)
 
-fault_moved : (ts us : Words) (f : SyntaxFault) → Ends ts us → IsFaultIn f us → IsFaultIn f ts
-fault_moved ts us f e g = (g.0, g.1, trans e g.2, g.3)
+argument_moved : {q : ℕ} {ts us : Words} → Ends ts us → IsBelowZeroIn q us → IsBelowZeroIn q ts
+argument_moved e (below_zero g) = below_zero (trans e g)
+
+function_moved : {q : ℕ} {ts us : Words} → Ends ts us → IsOtherFunctionIn q us → IsOtherFunctionIn q ts
+function_moved e (other_function g h) = other_function (trans e g) h
+
+fault_moved : (ts us : Words) (f : SyntaxFault) → Ends ts us → StopsAt f us → StopsAt f ts
+fault_moved ts us f e (inl (inl g)) = inl (inl (g.0, g.1, trans e g.2, g.3))
+fault_moved ts us f e (inl (inr g)) = inl (inr (g.0, g.1, function_moved e g.2))
+fault_moved ts us f e (inr g) = inr (g.0, g.1, argument_moved e g.2)
 
 moved : {A : Type 0} (ts us : Words) (m : Result (A × Words) SyntaxFault) → Ends ts us → Goes us m → Goes ts m
 moved ts us (Ok x) e g = (trans e g.0, g.1)
@@ -83,13 +92,13 @@ then : {A B : Type 0} (ts : Words) (m : Result (A × Words) SyntaxFault) (f : A 
 then ts (Ok x) f g k = moved ts x.1 (f x) g.0 (k x g.1)
 then ts (Err e) f g k = g
 
-fault_here : (ts : Words) → WellEnded ts → IsFaultIn (fault_at ts) ts
-fault_here (w ∷ ts) e = (w, ts, same, refl)
+fault_here : (ts : Words) → WellEnded ts → StopsAt (fault_at ts) ts
+fault_here (w ∷ ts) e = inl (inl (w, ts, same, refl))
 fault_here [] e = elim e [ ]
 
 abbrev GoesTo : Words → Result Words SyntaxFault → Type 0
 GoesTo ts (Ok us) = Ends ts us × WellEnded us
-GoesTo ts (Err f) = IsFaultIn f ts
+GoesTo ts (Err f) = StopsAt f ts
 
 -- what is behind is an end
 abbrev GoesBehind : Words → Option Words → Type 0
@@ -165,7 +174,7 @@ mark_goes ts e = by (after kinds.Question ts) (after kinds.Bang ts) (after_goes 
 
 number_or_goes : (n p : ℕ) (ts : Words) (o : Option ℤ) → WellEnded ts → Goes (numeral n p ∷ ts) (number_or o p ts)
 number_or_goes n p ts (Some z) e = (past same, e)
-number_or_goes n p ts None e = (numeral n p, ts, same, refl)
+number_or_goes n p ts None e = inl (inl (numeral n p, ts, same, refl))
 
 number_goes : IsGoing number_at
 unfolding number_at
@@ -176,11 +185,11 @@ number_goes (relation atoms.less p ∷ ts) e = fault_here (relation atoms.less p
 number_goes ts e = fault_here ts e
 
 name_or_goes : (b : Bool) (o : Option Tree) (s : List ℕ) (p : ℕ) (ts : Words) → WellEnded ts → Goes (name s p ∷ ts) (name_or b o s p ts)
-name_or_goes true o s p ts e = (name s p, ts, same, refl)
+name_or_goes true o s p ts e = inl (inl (name s p, ts, same, refl))
 name_or_goes false o s p ts e = (past same, e)
 
 null_or_goes : (b : Bool) (s : List ℕ) (p : ℕ) (ts : Words) → WellEnded ts → Goes (name s p ∷ ts) (null_or b s p ts)
-null_or_goes false s p ts e = (name s p, ts, same, refl)
+null_or_goes false s p ts e = inl (inl (name s p, ts, same, refl))
 null_or_goes true s p ts e = (past same, e)
 
 unequal_number_goes : IsGoing (λ ts. number_at ts >>= λ z. Ok (atom (not_integer z.0), z.1))
@@ -226,7 +235,7 @@ module _ {A : Type 0} (skip : Words → Option Words) (s : (ts : Words) → Well
 
 scalar_or_goes : (o : Option Tree) (s : List ℕ) (p : ℕ) (ts : Words) → WellEnded ts → Goes (name s p ∷ ts) (scalar_or o s p ts)
 scalar_or_goes (Some (atom a)) s p ts e = (past same, e)
-scalar_or_goes o s p ts e = (name s p, ts, same, refl)
+scalar_or_goes o s p ts e = inl (inl (name s p, ts, same, refl))
 
 scalar_number_goes : IsGoing (λ ts. number_at ts >>= λ z. Ok (atoms.integer z.0, z.1))
 scalar_number_goes ts e = then ts (number_at ts) _ (number_goes ts e) (λ x h. (same, h))
@@ -257,7 +266,7 @@ test_goes (relation b p ∷ ts) (before e) = moved (relation b p ∷ ts) ts (rel
 test_goes ts e = (same, e)
 
 asked_or_goes : (b : Bool) (s : List ℕ) (p : ℕ) (ts : Words) → WellEnded ts → Goes (name s p ∷ ts) (asked_or b s p ts)
-asked_or_goes true s p ts e = (name s p, ts, same, refl)
+asked_or_goes true s p ts e = inl (inl (name s p, ts, same, refl))
 asked_or_goes false s p ts e = (past same, e)
 
 asked_goes : IsGoing asked_at
@@ -312,13 +321,46 @@ selected_goes : IsGoing selected_at
 unfolding selected_at
 selected_goes ts e = then ts (name_at ts) _ (name_goes ts e) (λ s k. then_to s.1 (expected kinds.Dot s.1) _ (expected_goes kinds.Dot (refl, refl) s.1 k) (λ us l. then us (selector_at us) _ (selector_goes us l) (λ x m. then x.1 (selectors_at (length x.1) x.1) _ (selectors_go (length x.1) x.1 m) (λ y n. (same, n)))))
 
-leaf_goes : IsGoing leaf_at
-unfolding leaf_at
-leaf_goes ts e = by (begins_selected ts)
+-- behind the `(` of a call; what is out of range there is told with the call
+module _ (s f : List ℕ) (o p q c : ℕ) where
+  abbrev with_call : Words → Words
+  with_call r = name s o ∷ dot p ∷ name f q ∷ open_call c ∷ r
+
+  call_ends : (r : Words) → Ends (with_call r) r
+  call_ends r = past (past (past (past same)))
+
+  count_goes : (r : Words) → WellEnded r → Goes (with_call r) (count_at r)
+  unfolding count_at
+  count_goes (minus m ∷ us) (before e) = inr (m, refl, below_zero same)
+  count_goes (numeral n m ∷ us) (before e) = moved (with_call (numeral n m ∷ us)) (numeral n m ∷ us) (number_or (signed false n) m us) (call_ends (numeral n m ∷ us)) (number_or_goes n m us (signed false n) e)
+  count_goes us e = fault_moved (with_call us) us (fault_at us) (call_ends us) (fault_here us e)
+
+  argument_goes : (r : Words) → WellEnded r → Goes (with_call r) (argument_at (open_call c ∷ r))
+  unfolding argument_at
+  argument_goes r e = then (with_call r) (count_at r) _ (count_goes r e) (λ z k. then_to z.1 (paren_end z.1) _ (paren_end_goes z.1 k) (λ us l. (same, l)))
+
+  function_goes : (b : Bool) (r : Words) → is_function f ≡ b → WellEnded r → Goes (with_call r) (function_if b f q (open_call c ∷ r) >>= λ x. argument_at x.1 >>= λ z. Ok (wide (called o s x.0 z.0), z.1))
+  function_goes true r h e = then (with_call r) (argument_at (open_call c ∷ r)) _ (argument_goes r e) (λ z k. (same, k))
+  function_goes false r h e = inl (inr (q, refl, other_function same h))
+
+call_goes : {ts us : Words} → Called ts us → WellEnded ts → Goes ts (called_at ts)
+unfolding called_at name_at function_at
+call_goes (is_called {s} {f} {o} {p} {q} {c} {r} h) (before (before (before (before e)))) = function_goes s f o p q c (is_function f) r refl e
+
+uncalled_leaf_goes : IsGoing (λ ts. leaf_if (begins_selected ts) ts)
+uncalled_leaf_goes ts e = by (begins_selected ts)
   where
     by : (b : Bool) → Goes ts (leaf_if b ts)
     by true = selected_goes ts e
     by false = plain_goes ts e
+
+leaf_goes : IsGoing leaf_at
+unfolding leaf_at
+leaf_goes ts e = by (begins_called ts) refl
+  where
+    by : (b : Bool) → begins_called ts ≡ b → Goes ts (leaf_or b ts)
+    by true k = call_goes (called_of ts k) e
+    by false k = uncalled_leaf_goes ts e
 
 bound_name_goes : IsGoing bound_name_at
 unfolding bound_name_at
@@ -539,6 +581,78 @@ lines_go : (w : Bool) (d n : ℕ) → IsGoing (lines_at w d n)
 unfolding lines_at
 lines_go w d n ts e = then ts (many before_end (any_line_at w d) n ts) _ (many_goes before_end line_skips (any_line_at w d) (any_line_goes w d) n ts e) (λ ls k. (same, k))
 
+-- ---- imports
+
+path_goes : IsGoing path_at
+unfolding path_at
+path_goes (quoted s p ∷ ts) (before e) = (past same, e)
+path_goes ts e = fault_here ts e
+
+spec_goes : (o : ℕ) → IsGoing (import_spec_at o)
+unfolding import_spec_at
+spec_goes o ts e = by (begins_with kinds.Name ts)
+  where
+    by : (b : Bool) → Goes ts (import_spec_if o b ts)
+    by true = then ts (bound_name_at ts) _ (bound_name_goes ts e) (λ s k. then s.1 (path_at s.1) _ (path_goes s.1 k) (λ x l. (same, l)))
+    by false = then ts (path_at ts) _ (path_goes ts e) (λ x k. (same, k))
+
+spec_comma_goes : (ts : Words) → WellEnded ts → GoesTo ts (spec_comma_at ts)
+spec_comma_goes ts e = by (begins_with kinds.CloseParen ts)
+  where
+    by : (b : Bool) → GoesTo ts (spec_comma_if b ts)
+    by true = (same, e)
+    by false = comma_goes ts e
+
+listed_goes : IsGoing listed_spec_at
+unfolding listed_spec_at
+listed_goes ts e = then ts (import_spec_at (start_at ts) ts) _ (spec_goes (start_at ts) ts e) (λ n k. then_to n.1 (spec_comma_at n.1) _ (spec_comma_goes n.1 k) (λ us l. (same, l)))
+
+spec_skips : (ts : Words) → WellEnded ts → GoesBehind ts (before_paren ts)
+spec_skips ts e = by (begins_with kinds.CloseParen ts)
+  where
+    by : (b : Bool) → GoesBehind ts (cond b None (Some ts))
+    by true = tt
+    by false = (same, e)
+
+specs_go : IsGoing import_specs_at
+unfolding import_specs_at
+specs_go ts e = then ts (listed_specs_at (length ts) ts) _ (many_goes before_paren spec_skips listed_spec_at listed_goes (length ts) ts e) (λ ns k. then_to ns.1 (expected kinds.CloseParen ns.1) _ (expected_goes kinds.CloseParen (refl, refl) ns.1 k) (λ us l. (same, l)))
+
+imported_goes : (o : ℕ) → IsGoing (imported_at o)
+unfolding imported_at
+imported_goes o ts e = by (after kinds.OpenCall ts) (after_goes kinds.OpenCall (refl, refl) ts e)
+  where
+    by : (x : Option Words) → GoesBehind ts x → Goes ts (import_if o ts x)
+    by (Some us) g = moved ts us (import_specs_at us) g.0 (specs_go us g.1)
+    by None g = then ts (import_spec_at o ts) _ (spec_goes o ts e) (λ n k. (same, k))
+
+-- behind `import`
+record PastImport (ts : Words) : Type 0 where
+  ends : Ends ts (drop 1 ts)
+  ended : WellEnded (drop 1 ts)
+
+past_import : (ts : Words) → begins_import ts ≡ true → WellEnded ts → PastImport ts
+past_import (name s p ∷ ts) h (before e) = record { ends = past same; ended = e }
+past_import ts h e = absurd cc
+
+import_goes : (ts : Words) → begins_import ts ≡ true → WellEnded ts → Goes ts (import_at ts)
+unfolding import_at
+import_goes ts h e =
+    let g = past_import ts h e in
+    let us = drop 1 ts in
+    moved ts us (import_at ts) g.ends (then us (imported_at (start_at ts) us) _ (imported_goes (start_at ts) us g.ended) (λ ns k. then_to ns.1 (comma_at ns.1) _ (comma_goes ns.1 k) (λ vs l. (same, l))))
+
+imports_go : (w : Bool) (n : ℕ) → IsGoing (imports_at w n)
+unfolding imports_at
+imports_go w zero ts e = (same, e)
+imports_go w (suc n) ts e = by (imports_go w n) (w && begins_import ts) refl
+  where
+    by : IsGoing (imports_at w n) → (b : Bool) → w && begins_import ts ≡ b → Goes ts (or_imports (imports_at w n) b ts)
+    by again false k = (same, e)
+    by again true k = then ts (import_at ts) _ (import_goes ts (and_parts w (begins_import ts) k).1 e) (λ ns l. then ns.1 (imports_at w n ns.1) _ (again ns.1 l) (λ ms m. (same, m)))
+
+-- ---- the package clause
+
 clause_goes : IsGoing clause_at
 unfolding clause_at
 clause_goes (name s p ∷ ts) (before e) = moved (name s p ∷ ts) ts (clause_at (name s p ∷ ts)) (past same) (then_to ts (comma_at ts) _ (comma_goes ts e) (λ us k. (same, k)))
@@ -554,33 +668,52 @@ package_goes ts e = by (behind_if (is_clause ts) ts) (behind_goes is_clause (λ 
 
 -- ---- the end of a file
 
-fault_is : (us : Words) (f : SyntaxFault) → WellEnded us → f ≡ fault_at us → IsFaultIn f us
-fault_is (w ∷ us) f e h = (w, us, same, h)
+fault_is : (us : Words) (f : SyntaxFault) → WellEnded us → f ≡ fault_at us → StopsAt f us
+fault_is (w ∷ us) f e h = inl (inl (w, us, same, h))
 fault_is [] f e h = elim e [ ]
 
-rest_fault : (w : Bool) (us : Words) → WellEnded us → (x : FileTree) (f : SyntaxFault) → (expected (end_kind w) us >>= λ ws. whole x ws) ≡ Err f → IsFaultIn f us
+-- what reading gave is what stops it
+stops_so : (ts : Words) (f h : SyntaxFault) → f ≡ h → StopsAt h ts → StopsAt f ts
+stops_so ts f h is g = subst (λ x. StopsAt x ts) (sym is) g
+
+rest_fault : (w : Bool) (us : Words) → WellEnded us → (x : FileTree) (f : SyntaxFault) → (expected (end_kind w) us >>= λ ws. whole x ws) ≡ Err f → StopsAt f us
 rest_fault false (W.finish q ∷ []) e x f is = absurd cc
-rest_fault false (W.finish q ∷ v ∷ us) e x f is = (v, us, past same, cc)
+rest_fault false (W.finish q ∷ v ∷ us) e x f is = inl (inl (v, us, past same, cc))
 rest_fault false (relation atoms.less p ∷ us) e x f is = fault_is (relation atoms.less p ∷ us) f e cc
 rest_fault false us e x f is = fault_is us f e cc
 rest_fault true (W.wide_finish q ∷ []) e x f is = absurd cc
-rest_fault true (W.wide_finish q ∷ v ∷ us) e x f is = (v, us, past same, cc)
+rest_fault true (W.wide_finish q ∷ v ∷ us) e x f is = inl (inl (v, us, past same, cc))
 rest_fault true (relation atoms.less p ∷ us) e x f is = fault_is (relation atoms.less p ∷ us) f e cc
 rest_fault true us e x f is = fault_is us f e cc
 
-read_fault : (w : Bool) (ts : Words) → WellEnded ts → (f : SyntaxFault) → file_with w 29 ts ≡ Err f → IsFaultIn f ts
-unfolding file_with
-read_fault w ts e f is = packaged (package_at ts) (package_goes ts e) is
+-- behind the imports
+lines_fault : (w : Bool) (us : Words) → WellEnded us → (c : Option (List ℕ)) (ns : List NameTree) (f : SyntaxFault)
+    → (lines_at w 29 (length us) us >>= λ ls. expected (end_kind w) ls.1 >>= λ vs. whole (file c ls.0.0 (ns ++ ls.0.1)) vs) ≡ Err f → StopsAt f us
+lines_fault w us e c ns f is = by (lines_at w 29 (length us) us) (lines_go w 29 (length us) us e) is
   where
-    packaged : (m : Result (Option (List ℕ) × Words) SyntaxFault) → Goes ts m → (m >>= λ c. lines_at w 29 (length c.1) c.1 >>= λ ls. expected (end_kind w) ls.1 >>= λ us. whole (file c.0 ls.0.0 ls.0.1) us) ≡ Err f → IsFaultIn f ts
-    packaged (Ok x) g k = fault_moved ts x.1 f g.0 (lined (lines_at w 29 (length x.1) x.1) (lines_go w 29 (length x.1) x.1 g.1) k)
-      where
-        lined : (m : Result ((List DefinitionTree × List NameTree) × Words) SyntaxFault) → Goes x.1 m → (m >>= λ ls. expected (end_kind w) ls.1 >>= λ us. whole (file x.0 ls.0.0 ls.0.1) us) ≡ Err f → IsFaultIn f x.1
-        lined (Ok y) g k = fault_moved x.1 y.1 f g.0 (rest_fault w y.1 g.1 (file x.0 y.0.0 y.0.1) f k)
-        lined (Err h) g k = (g.0, g.1, g.2, let same_fault : f ≡ h = cc in same_fault ∙ g.3)
-    packaged (Err h) g k = (g.0, g.1, g.2, let same_fault : f ≡ h = cc in same_fault ∙ g.3)
+    by : (m : Result ((List DefinitionTree × List NameTree) × Words) SyntaxFault) → Goes us m → (m >>= λ ls. expected (end_kind w) ls.1 >>= λ vs. whole (file c ls.0.0 (ns ++ ls.0.1)) vs) ≡ Err f → StopsAt f us
+    by (Ok y) g k = fault_moved us y.1 f g.0 (rest_fault w y.1 g.1 (file c y.0.0 (ns ++ y.0.1)) f k)
+    by (Err h) g k = let is : f ≡ h = cc in stops_so us f h is g
 
-pub file_fault : (ts : Words) → WellEnded ts → (f : SyntaxFault) → file_at ts ≡ Err f → IsFaultIn f ts
+-- behind the package clause
+imports_fault : (w : Bool) (us : Words) → WellEnded us → (c : Option (List ℕ)) (f : SyntaxFault)
+    → (imports_at w (length us) us >>= λ ms. lines_at w 29 (length ms.1) ms.1 >>= λ ls. expected (end_kind w) ls.1 >>= λ vs. whole (file c ls.0.0 (ms.0 ++ ls.0.1)) vs) ≡ Err f → StopsAt f us
+imports_fault w us e c f is = by (imports_at w (length us) us) (imports_go w (length us) us e) is
+  where
+    by : (m : Result (List NameTree × Words) SyntaxFault) → Goes us m → (m >>= λ ms. lines_at w 29 (length ms.1) ms.1 >>= λ ls. expected (end_kind w) ls.1 >>= λ vs. whole (file c ls.0.0 (ms.0 ++ ls.0.1)) vs) ≡ Err f → StopsAt f us
+    by (Ok y) g k = fault_moved us y.1 f g.0 (lines_fault w y.1 g.1 c y.0 f k)
+    by (Err h) g k = let is : f ≡ h = cc in stops_so us f h is g
+
+read_fault : (w : Bool) (ts : Words) → WellEnded ts → (f : SyntaxFault) → file_with w 29 ts ≡ Err f → StopsAt f ts
+unfolding file_with
+read_fault w ts e f is = by (package_at ts) (package_goes ts e) is
+  where
+    by : (m : Result (Option (List ℕ) × Words) SyntaxFault) → Goes ts m
+        → (m >>= λ c. imports_at w (length c.1) c.1 >>= λ ms. lines_at w 29 (length ms.1) ms.1 >>= λ ls. expected (end_kind w) ls.1 >>= λ us. whole (file c.0 ls.0.0 (ms.0 ++ ls.0.1)) us) ≡ Err f → StopsAt f ts
+    by (Ok x) g k = fault_moved ts x.1 f g.0 (imports_fault w x.1 g.1 x.0 f k)
+    by (Err h) g k = let is : f ≡ h = cc in stops_so ts f h is g
+
+pub file_fault : (ts : Words) → WellEnded ts → (f : SyntaxFault) → file_at ts ≡ Err f → StopsAt f ts
 file_fault ts e f is = read_fault (ends_wide ts) ts e f is
 
 -- ---- why a source is refused
@@ -599,22 +732,44 @@ stuck_lexical (past_comment h k) = stuck_lexical k
 stuck_lexical (past_attribute h k) = stuck_lexical k
 stuck_lexical (past_token h k) = stuck_lexical k
 
+stuck_range : (p : Profile) (source : List ℕ) (o : ℕ) → IsRefusalIn p source (faults.IntegerRange o) → IsOutOfRangeIn p source o
+stuck_range profiles.Default source o h = h
+stuck_range profiles.Wide source o h = inl h
+
 pub stuck_refused : (p : Profile) (source : List ℕ) (f : SyntaxFault) → IsRefusalIn p source f → IsFileRefusalIn p source f
 stuck_refused p source faults.OutOfMemory h = tt
 stuck_refused p source (faults.NoToken o) h = h
-stuck_refused p source (faults.IntegerRange o) h = h
+stuck_refused p source (faults.IntegerRange o) h = stuck_range p source o h
 stuck_refused p source (faults.Syntax o) h = let e = stuck_lexical h in absurd cc
 stuck_refused p source (faults.LeftOut o) h = let e = stuck_lexical h in absurd cc
 stuck_refused p source faults.TooHigh h = let e = stuck_lexical h in absurd cc
 
+-- the fault of what is out of place, and of an argument
 abbrev pub is_of_word : SyntaxFault → Bool
 is_of_word (faults.Syntax o) = true
 is_of_word (faults.LeftOut o) = true
 is_of_word _ = false
 
+abbrev is_of_range : SyntaxFault → Bool
+is_of_range (faults.IntegerRange o) = true
+is_of_range _ = false
+
 of_word : (b : Bool) (o : ℕ) → is_of_word (fault_if b o) ≡ true
 of_word true o = refl
 of_word false o = refl
 
-pub fault_of_word : (ts : Words) (f : SyntaxFault) → IsFaultIn f ts → is_of_word f ≡ true
-fault_of_word ts f h = ap is_of_word h.3 ∙ of_word (is_left_out h.0) (start h.0)
+fault_of_word : (ts : Words) (f : SyntaxFault) → IsOutOfPlaceIn f ts → is_of_word f ≡ true
+fault_of_word ts f (inl h) = ap is_of_word h.3 ∙ of_word (is_left_out h.0) (start h.0)
+fault_of_word ts f (inr h) = ap is_of_word h.1
+
+-- no other fault stops reading
+pub stops_at_word : (ts : Words) (f : SyntaxFault) → is_of_range f ≡ false → StopsAt f ts → IsOutOfPlaceIn f ts
+stops_at_word ts f n (inl h) = h
+stops_at_word ts f n (inr h) = let never : true ≡ false = sym (ap is_of_range h.1) ∙ n in absurd cc
+
+pub nothing_stops : (ts : Words) (f : SyntaxFault) → is_of_word f ≡ false → is_of_range f ≡ false → StopsAt f ts → ⊥
+nothing_stops ts f n m h = let never : true ≡ false = sym (fault_of_word ts f (stops_at_word ts f m h)) ∙ n in absurd cc
+
+pub stops_at_argument : (ts : Words) (o : ℕ) → StopsAt (faults.IntegerRange o) ts → IsBelowZeroIn o ts
+stops_at_argument ts o (inl h) = let never = fault_of_word ts (faults.IntegerRange o) h in absurd cc
+stops_at_argument ts o (inr h) = let range = h.1 in let same_place : h.0 ≡ o = cc in subst (λ q. IsBelowZeroIn q ts) same_place h.2

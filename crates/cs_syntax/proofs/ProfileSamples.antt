@@ -17,7 +17,7 @@ use Rattle.cs_grammar.specs.Words as W
 use Rattle.cs_grammar.specs.Words.{Words}
 use Rattle.cs_syntax.specs.AnswerIn.{IsSpelledIn}
 use Rattle.cs_syntax.specs.Reading.{number_at, integer_at, unbracketed_at, many, operand_with, uncalled_with, leaf_at, paren_with, conj_with, branch_with, expr_with, inner}
-use Rattle.cs_syntax.specs.FileReading.{definition_at, line_at, any_line_at, lines_at, package_at, file_with, file_at}
+use Rattle.cs_syntax.specs.FileReading.{definition_at, line_at, any_line_at, lines_at, imports_at, package_at, file_with, file_at}
 use Rattle.cs_syntax.proofs.Soundness.{file_found}
 
 -- ---- a whole source: `#A: *1 | 2`
@@ -69,11 +69,11 @@ abbrev tree : Tree
 tree = T.disjunction (T.more (T.wide (T.marked 4 one)) (T.more two T.none))
 
 wide_read : file_at (words (taken profiles.Wide tokens)) ≡ Ok (one_file tree)
-unfolding integer_value number_at integer_at unbracketed_at many operand_with uncalled_with leaf_at paren_with conj_with branch_with expr_with inner definition_at line_at any_line_at lines_at package_at file_with
+unfolding integer_value number_at integer_at unbracketed_at many operand_with uncalled_with leaf_at paren_with conj_with branch_with expr_with inner definition_at line_at any_line_at lines_at imports_at package_at file_with
 wide_read = refl
 
 default_read : file_at (words (taken profiles.Default tokens)) ≡ Err (LeftOut 4)
-unfolding number_at integer_at unbracketed_at many operand_with uncalled_with leaf_at paren_with conj_with branch_with expr_with inner definition_at line_at any_line_at lines_at package_at file_with
+unfolding number_at integer_at unbracketed_at many operand_with uncalled_with leaf_at paren_with conj_with branch_with expr_with inner definition_at line_at any_line_at lines_at imports_at package_at file_with
 default_read = refl
 
 pub marked_spelled : IsSpelledIn profiles.Wide source (one_file tree)
@@ -92,24 +92,24 @@ one_body ts = W.definition_name (codes "A") 0 ∷ W.colon 2 ∷ ts
 
 -- `#A: *1` alone, and `#A: 1 | *2 & 1`, whose mark is that of the whole operand of `|`
 alone : file_at (one_body (W.star 4 ∷ W.numeral 1 5 ∷ W.nl 6 ∷ W.finish 6 ∷ [])) ≡ Ok (one_file (T.wide (T.marked 4 one)))
-unfolding number_at integer_at unbracketed_at many operand_with uncalled_with leaf_at paren_with conj_with branch_with expr_with inner definition_at line_at any_line_at lines_at package_at file_with
+unfolding number_at integer_at unbracketed_at many operand_with uncalled_with leaf_at paren_with conj_with branch_with expr_with inner definition_at line_at any_line_at lines_at imports_at package_at file_with
 alone = refl
 
 of_a_conjunction : file_at (one_body (W.numeral 1 4 ∷ W.bar 6 ∷ W.star 8 ∷ W.numeral 2 9 ∷ W.amp 11 ∷ W.numeral 1 13 ∷ W.nl 14 ∷ W.finish 14 ∷ [])) ≡ Ok (one_file (T.disjunction (T.more one (T.more (T.wide (T.marked 8 (T.conjunction (T.more two (T.more one T.none))))) T.none))))
-unfolding number_at integer_at unbracketed_at many operand_with uncalled_with leaf_at paren_with conj_with branch_with expr_with inner definition_at line_at any_line_at lines_at package_at file_with
+unfolding number_at integer_at unbracketed_at many operand_with uncalled_with leaf_at paren_with conj_with branch_with expr_with inner definition_at line_at any_line_at lines_at imports_at package_at file_with
 of_a_conjunction = refl
 
 -- `#A: **1`, `#A: 1 & *2` and `#A: *`
 twice : file_at (one_body (W.star 4 ∷ W.star 5 ∷ W.numeral 1 6 ∷ W.nl 7 ∷ W.finish 7 ∷ [])) ≡ Err (LeftOut 5)
-unfolding number_at integer_at unbracketed_at many operand_with uncalled_with leaf_at paren_with conj_with branch_with expr_with inner definition_at line_at any_line_at lines_at package_at file_with
+unfolding number_at integer_at unbracketed_at many operand_with uncalled_with leaf_at paren_with conj_with branch_with expr_with inner definition_at line_at any_line_at lines_at imports_at package_at file_with
 twice = refl
 
 behind_amp : file_at (one_body (W.numeral 1 4 ∷ W.amp 6 ∷ W.star 8 ∷ W.numeral 2 9 ∷ W.nl 10 ∷ W.finish 10 ∷ [])) ≡ Err (LeftOut 8)
-unfolding number_at integer_at unbracketed_at many operand_with uncalled_with leaf_at paren_with conj_with branch_with expr_with inner definition_at line_at any_line_at lines_at package_at file_with
+unfolding number_at integer_at unbracketed_at many operand_with uncalled_with leaf_at paren_with conj_with branch_with expr_with inner definition_at line_at any_line_at lines_at imports_at package_at file_with
 behind_amp = refl
 
 of_nothing : file_at (one_body (W.star 4 ∷ W.finish 5 ∷ [])) ≡ Err (Syntax 5)
-unfolding number_at integer_at unbracketed_at many operand_with uncalled_with leaf_at paren_with conj_with branch_with expr_with inner definition_at line_at any_line_at lines_at package_at file_with
+unfolding number_at integer_at unbracketed_at many operand_with uncalled_with leaf_at paren_with conj_with branch_with expr_with inner definition_at line_at any_line_at lines_at imports_at package_at file_with
 of_nothing = refl
 
 -- no other token changes: `*` of another sort, and another mark that is left out

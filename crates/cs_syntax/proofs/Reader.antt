@@ -1,5 +1,6 @@
 -- Reading one after the other, as a loop does.
-use Rattle.std.proofs.Common.{◌≡◌, ℕ, zero, suc, ◌<◌, Bool, true, false, ◌&&◌, List, [], ◌∷◌, ◌++◌, map, Option, Some, None, Result, Ok, Err, refl, ap, ap₂, subst, length, arith}
+use Rattle.std.proofs.Common.{◌≡◌, ℕ, zero, suc, ◌<◌, Bool, true, false, ◌&&◌, List, [], ◌∷◌, ◌++◌, map, Option, Some, None, Result, Ok, Err, refl, ap, ap₂, ◌∙◌, subst, append_assoc, length, arith}
+use Rattle.std.proofs.lemmas.List.{append-nil, map-append}
 use Rattle.cs_grammar.specs.declared.fault.SyntaxFault.{SyntaxFault}
 use Rattle.cs_grammar.specs.declared.fault.SyntaxFault.TheVariants as faults
 use Rattle.cs_grammar.specs.declared.ast.Definition.{Definition}
@@ -11,7 +12,7 @@ use Rattle.cs_grammar.specs.View.{expr_view, exprs_view, definition_view, name_v
 use Rattle.cs_syntax.specs.Left.{viewed_before, with_front, Reads}
 use Rattle.cs_syntax.specs.Reading.{◌>>=◌, Fails, Read, many, conjunction_of, disjunction_of}
 use Rattle.cs_syntax.specs.declared.parser.place.Parser.{Parser}
-use Rattle.cs_syntax.specs.FileReading.{begins_end, before_end, begins_file_name, line_at, name_line_at, any_line_at, SeenLine, definition_seen, name_seen, definitions_seen, names_seen}
+use Rattle.cs_syntax.specs.FileReading.{begins_end, before_end, begins_file_name, line_at, name_line_at, any_line_at, SeenLine, definition_seen, name_seen, definitions_seen, names_seen, begins_import, import_at, imports_at}
 use Rattle.cs_syntax.proofs.WordKinds.{stops, proceeds}
 
 -- ---- faults
@@ -152,6 +153,41 @@ module _ (w : Bool) (d : ℕ) (ds : List Definition) (ns : List Name) where
   pub lines_out : (k : ℕ) (ts : Words) → k ≡ 0 → with_lines ds ns (rest_of k ts) ≡ Ok ((map definition_view ds, map name_view ns), ts)
   unfolding many
   lines_out k ts is = rw is (lines_none ts)
+
+-- ---- the imports of a file
+
+-- names behind others
+pub names_of_both : (ms ns : List Name) → map name_view (ms ++ ns) ≡ map name_view ms ++ map name_view ns
+names_of_both ms ns = map-append name_view ms ns
+
+-- what was read before, and what is still read
+abbrev pub with_names : List Name → Result (List NameTree × Words) SyntaxFault → Result (List NameTree × Words) SyntaxFault
+with_names ns read = read >>= λ y. Ok (map name_view ns ++ y.0, y.1)
+
+names_push : (ns ms : List Name) (read : Result (List NameTree × Words) SyntaxFault) → with_names (ns ++ ms) read ≡ with_names ns (read >>= λ y. Ok (map name_view ms ++ y.0, y.1))
+names_push ns ms (Ok y) = ap (λ xs. Ok (xs, y.1)) (ap (λ xs. xs ++ y.0) (map-append name_view ns ms) ∙ append_assoc (map name_view ns) (map name_view ms) y.0)
+names_push ns ms (Err f) = refl
+
+module _ (w : Bool) (ns : List Name) where
+  pub imports_added : (ms : List Name) (k n : ℕ) (ts vs : Words) → k ≡ suc n → w && begins_import ts ≡ true → import_at ts ≡ Ok (map name_view ms, vs) → with_names (ns ++ ms) (imports_at w n vs) ≡ with_names ns (imports_at w k ts)
+  unfolding imports_at
+  imports_added ms k n ts vs is c r = rw (is, c, r) (names_push ns ms (imports_at w n vs))
+
+  pub imports_break : (f : SyntaxFault) (k n : ℕ) (ts : Words) → k ≡ suc n → w && begins_import ts ≡ true → Fails f (import_at ts) → Fails f (with_names ns (imports_at w k ts))
+  unfolding imports_at
+  imports_break f k n ts is c h = rw (is, c) (fails-bind f (import_at ts >>= λ y. imports_at w n y.1 >>= λ z. Ok (y.0 ++ z.0, z.1)) (λ y. Ok (map name_view ns ++ y.0, y.1)) (fails-bind f (import_at ts) (λ y. imports_at w n y.1 >>= λ z. Ok (y.0 ++ z.0, z.1)) h))
+
+  imports_none : (ts : Words) → with_names ns (Ok ([], ts)) ≡ Ok (map name_view ns, ts)
+  imports_none ts = ap (λ xs. Ok (xs, ts)) (append-nil (map name_view ns))
+
+  pub imports_end : (k : ℕ) (ts : Words) → w && begins_import ts ≡ false → with_names ns (imports_at w k ts) ≡ Ok (map name_view ns, ts)
+  unfolding imports_at
+  imports_end zero ts c = imports_none ts
+  imports_end (suc n) ts c = rw c (imports_none ts)
+
+  pub imports_out : (k : ℕ) (ts : Words) → k ≡ 0 → with_names ns (imports_at w k ts) ≡ Ok (map name_view ns, ts)
+  unfolding imports_at
+  imports_out k ts is = rw is (imports_none ts)
 
 -- ---- two or more operands make one tree
 

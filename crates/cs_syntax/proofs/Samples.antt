@@ -127,7 +127,7 @@ module _ (source : List ℕ) (tokens : List Lexeme) (cut : IsCut source tokens) 
   accepted_at f s n h = record { tokens = tokens; cut = cut; nested = omega (arith, n); spelled = s; low = omega (arith, h) }
 
   misplaced_at : (f : SyntaxFault) → ((t : FileTree) → SpellsFile t (words tokens) → ⊥) → IsFaultIn f (words tokens) → nesting (words tokens) ≡ 28 → IsMisplaced source f
-  misplaced_at f none place n = record { tokens = tokens; cut = cut; nested = omega (arith, n); no_file = none; place = place }
+  misplaced_at f none place n = record { tokens = tokens; cut = cut; nested = omega (arith, n); no_file = none; place = inl place }
 
   too_deep_above : nesting (words tokens) ≡ 29 → IsTooHigh source
   too_deep_above n = record { tokens = tokens; cut = cut; high = inl (omega (arith, n)) }

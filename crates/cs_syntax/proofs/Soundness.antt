@@ -1,5 +1,5 @@
 -- What is read is spelled so.
-use Rattle.std.proofs.Common.{◌≡◌, ℕ, zero, suc, Bool, true, false, cond, List, [], ◌∷◌, length, drop, Option, Some, None, Result, Ok, Err, refl, sym, ap, ◌∙◌, subst}
+use Rattle.std.proofs.Common.{◌≡◌, ℕ, zero, suc, Bool, true, false, cond, List, [], ◌∷◌, ◌++◌, length, drop, Option, Some, None, Result, Ok, Err, refl, sym, ap, ap₂, ◌∙◌, subst}
 use Rattle.std.proofs.lemmas.Bool.{and_parts}
 use Rattle.std.specs.Prelude.{◌&&◌, ◌||◌, not}
 use Rattle.cs_grammar.specs.declared.fault.SyntaxFault.{SyntaxFault}
@@ -7,14 +7,17 @@ use Rattle.cs_grammar.specs.declared.kind.Kind.TheVariants as kinds
 use Rattle.cs_grammar.specs.declared.ast.FieldMark.{FieldMark}
 use Rattle.cs_grammar.specs.declared.ast.FieldMark.TheVariants.{Every}
 use Rattle.cs_grammar.specs.Atom as atoms
-use Rattle.cs_grammar.specs.Words.{Words, name, quoted, definition_name, top_mark, bottom_mark, numeral, open_paren, open_call, open_struct, open_wide, open_list, close_paren, close_struct, close_list, comma, nl, colon, question, bang, amp, bar, dots, relation, unequal, minus, star, local, finish, wide_finish}
+use Rattle.cs_grammar.specs.Words.{Words, name, quoted, definition_name, top_mark, bottom_mark, numeral, open_paren, open_call, open_struct, open_wide, open_list, close_struct, close_list, comma, nl, colon, question, bang, amp, bar, dots, relation, unequal, minus, star, local, finish, wide_finish}
 use Rattle.cs_grammar.specs.Tree.{Label, Condition, Tree, atom, wide, shut, not_integer, End, DefinitionTree, NameTree, FileTree, file}
 use Rattle.cs_grammar.specs.View.{trees_of, fields_of, Seen, declarations_of, SeenDeclaration, field_seen, embedding_seen, conditional_seen}
-use Rattle.cs_grammar.specs.Spells.{is_reserved, is_null, is_package, is_string, is_braced, every_label, start_at, literal_of, Comma, explicit, inserted, ClosesParen, paren_here, paren_after, ClosesList, list_here, list_after, ClosesStruct, struct_here, struct_after, SpellsNumber, SpellsBound, limit_is, other_number, other_text, other_null, SpellsLabel, bare_label, quoted_label, SpellsMark, regular, optional, required, SpellsOpening, unopened, opened, SpellsConditions, SpellsValue, long, short, SpellsField, labelled, every_key, SpellsExpr, one_branch, disjunction_is, SpellsBars, no_bar, a_bar, SpellsBranch, unmarked, marked_is, SpellsConj, one_operand, conjunction_is, SpellsAmps, no_amp, an_amp, SpellsOperand, top_is, bottom_is, reference_is, name_is, number_is, text_is, bound_is, paren_is, struct_is, list_is, call_paren_is, shut_is, local_is, wide_struct_is, SpellsWideStruct, no_declarations, wide_dots_alone, some_declarations, SpellsDeclarations, a_field, an_embedding, a_conditional, SpellsMore, no_more, next_declaration, SpellsStruct, no_fields, dots_alone, fields, SpellsFields, no_more_fields, next_field, SpellsList, no_elements, rest_alone, elements, SpellsElements, no_more_elements, next_element, SpellsEnd, closed_is, rest_is, SpellsRest, any_is, each_is, SpellsDefinition, defined, SpellsDefinitions, no_definition, next_definition, SpellsFileName, bound_name, SpellsWideFile, no_line, definition_line, name_line, SpellsPackage, no_clause, clause, SpellsFile, spelled, wide_spelled}
-use Rattle.cs_syntax.specs.Reading.{◌>>=◌, Read, expected, begins_with, behind_if, begins_comma, comma_at, close_at, paren_end, another_field, another_element, opening, opening_if, opening_at, rest_behind, may_end, number_at, name_or, null_or, bound_at, unequal_at, integer_at, unbracketed_at, or_fault, or_more, many, label_at, mark_at, string_at, every_key_at, head_at, field_with, fields_with, struct_with, begins_if, ends_label, begins_conditional, conditions_at, conditional_or, conditional_with, begins_selected, leaf_if, leaf_at, begins_scoped, name_head_at, scoped_with, declaration_if, declaration_or, declaration_with, declarations_with, wide_struct_with, rest_if, rest_with, end_if, end_with, elements_with, list_with, paren_with, uncalled_with, operand_if, operand_with, begins_shut, amps_with, conjunction_of, conj_with, branch_with, bars_with, disjunction_of, expr_with, value_if, begins_field, inner}
-use Rattle.cs_syntax.specs.FileReading.{definition_at, line_at, begins_file_name, file_name_at, name_line_at, SeenLine, definition_seen, name_seen, definitions_seen, names_seen, any_line_if, any_line_at, begins_end, before_end, lines_at, clause_at, package_if, package_at, whole, ends_wide, end_kind, file_with, file_at}
+use Rattle.cs_grammar.specs.Spells.{is_reserved, is_null, is_package, is_string, is_braced, every_label, start_at, literal_of, Comma, explicit, inserted, ClosesParen, ClosesList, list_here, list_after, ClosesStruct, struct_here, struct_after, SpellsNumber, SpellsBound, limit_is, other_number, other_text, other_null, SpellsLabel, bare_label, quoted_label, SpellsMark, regular, optional, required, SpellsOpening, unopened, opened, SpellsConditions, SpellsValue, long, short, SpellsField, labelled, every_key, SpellsExpr, one_branch, disjunction_is, SpellsBars, no_bar, a_bar, SpellsBranch, unmarked, marked_is, SpellsConj, one_operand, conjunction_is, SpellsAmps, no_amp, an_amp, SpellsOperand, top_is, bottom_is, reference_is, name_is, number_is, text_is, bound_is, paren_is, struct_is, list_is, call_paren_is, shut_is, local_is, wide_struct_is, SpellsWideStruct, no_declarations, wide_dots_alone, some_declarations, SpellsDeclarations, a_field, an_embedding, a_conditional, SpellsMore, no_more, next_declaration, SpellsStruct, no_fields, dots_alone, fields, SpellsFields, no_more_fields, next_field, SpellsList, no_elements, rest_alone, elements, SpellsElements, no_more_elements, next_element, SpellsEnd, closed_is, rest_is, SpellsRest, any_is, each_is, SpellsDefinition, defined, SpellsDefinitions, no_definition, next_definition, SpellsFileName, bound_name, SpellsWideFile, no_line, definition_line, name_line, SpellsPackage, no_clause, clause, SpellsFile, spelled, wide_spelled}
+use Rattle.cs_syntax.specs.Reading.{◌>>=◌, Read, expected, begins_with, behind_if, begins_comma, comma_at, close_at, paren_end, another_field, another_element, opening, opening_if, opening_at, rest_behind, may_end, number_at, name_or, null_or, bound_at, unequal_at, integer_at, unbracketed_at, or_fault, or_more, many, label_at, mark_at, string_at, every_key_at, head_at, field_with, fields_with, struct_with, begins_if, ends_label, begins_conditional, conditions_at, conditional_or, conditional_with, begins_selected, begins_called, leaf_if, leaf_or, leaf_at, begins_scoped, name_head_at, scoped_with, declaration_if, declaration_or, declaration_with, declarations_with, wide_struct_with, rest_if, rest_with, end_if, end_with, elements_with, list_with, paren_with, uncalled_with, operand_if, operand_with, begins_shut, amps_with, conjunction_of, conj_with, branch_with, bars_with, disjunction_of, expr_with, value_if, begins_field, inner}
+use Rattle.cs_syntax.specs.FileReading.{definition_at, line_at, begins_file_name, file_name_at, name_line_at, SeenLine, definition_seen, name_seen, definitions_seen, names_seen, any_line_if, any_line_at, begins_end, before_end, lines_at, imports_at, clause_at, package_if, package_at, whole, ends_wide, end_kind, file_with, file_at}
 use Rattle.cs_syntax.proofs.Calls.{Shut, is_shut, shut_of}
+use Rattle.cs_syntax.proofs.CallsFound.{call_of}
 use Rattle.cs_syntax.proofs.ConditionsFound.{IfRead, if_bind, IfLeft, if_left, number_of, conditions_of}
+use Rattle.cs_syntax.proofs.ImportsFound.{ImportsOf, imports_of}
+use Rattle.cs_syntax.proofs.MarksFound.{comma_of, closes_paren_of}
 use Rattle.cs_syntax.proofs.NamesFound.{selected_of, NameHead, bound_head, plain_head, name_head_of, FieldDeclared, scoped, bound_declared, plain_declared, file_name_made}
 
 -- P of what is passed over to
@@ -31,12 +34,6 @@ comma_if true (nl p ∷ ts) = inserted
 comma_if false (nl p ∷ ts) = tt
 comma_if b (relation atoms.less p ∷ ts) = tt
 comma_if b ts = tt
-
-comma_of : (ts : Words) → IfLeft (Comma ts) (comma_at ts)
-comma_of (comma p ∷ ts) = explicit
-comma_of (nl p ∷ ts) = inserted
-comma_of (relation atoms.less p ∷ ts) = tt
-comma_of ts = tt
 
 -- an explicit comma, or `...`, before the rest
 data Explicit : Words → Words → Type 0 where
@@ -55,14 +52,6 @@ dots_of : (ts : Words) → IfLeft (Dots ts) (expected kinds.Dots ts)
 dots_of (dots p ∷ ts) = is_dots
 dots_of (relation atoms.less p ∷ ts) = tt
 dots_of ts = tt
-
-closes_paren_of : (ts : Words) → IfLeft (ClosesParen ts) (paren_end ts)
-closes_paren_of (close_paren p ∷ ts) = paren_here
-closes_paren_of (nl p ∷ close_paren q ∷ ts) = paren_after
-closes_paren_of (nl p ∷ relation atoms.less q ∷ ts) = tt
-closes_paren_of (nl p ∷ ts) = tt
-closes_paren_of (relation atoms.less p ∷ ts) = tt
-closes_paren_of ts = tt
 
 closes_list_of : (ts : Words) → IfLeft (ClosesList ts) (close_at kinds.CloseList ts)
 closes_list_of (close_list p ∷ ts) = list_here
@@ -214,13 +203,20 @@ plain_of (numeral n p ∷ ts) = integer_of (numeral n p ∷ ts)
 plain_of (minus p ∷ ts) = integer_of (minus p ∷ ts)
 plain_of ts = tt
 
-leaf_of : (ts : Words) → IfRead (λ e r. SpellsOperand e ts r) (leaf_at ts)
-unfolding leaf_at
-leaf_of ts = by (begins_selected ts) refl
+alone_of : (ts : Words) → IfRead (λ e r. SpellsOperand e ts r) (leaf_if (begins_selected ts) ts)
+alone_of ts = by (begins_selected ts) refl
   where
     by : (b : Bool) → begins_selected ts ≡ b → IfRead (λ e r. SpellsOperand e ts r) (leaf_if b ts)
     by true k = selected_of ts k
     by false k = plain_of ts
+
+leaf_of : (ts : Words) → IfRead (λ e r. SpellsOperand e ts r) (leaf_at ts)
+unfolding leaf_at
+leaf_of ts = by (begins_called ts) refl
+  where
+    by : (b : Bool) → begins_called ts ≡ b → IfRead (λ e r. SpellsOperand e ts r) (leaf_or b ts)
+    by true k = call_of ts k
+    by false k = alone_of ts
 
 -- ---- what reads inside, and what is read by it
 
@@ -595,27 +591,45 @@ no_file : {e : SyntaxFault} {f : FileTree} → ◌≡◌ {A = Result FileTree Sy
 no_file e = cc
 
 -- what is behind the lines of a file
-end_file : (w : Bool) (ts us vs : Words) (c : Option (List ℕ)) (x : List DefinitionTree × List NameTree) (f : FileTree) → SpellsPackage c ts us → LinesOf w us x vs → (expected (end_kind w) vs >>= λ ws. whole (file c x.0 x.1) ws) ≡ Ok f → SpellsFile f ts
-end_file false ts us (finish q ∷ []) c x f s t e = subst (λ y. SpellsFile y ts) (ap (file c x.0) (sym t.1) ∙ ok_is (file c x.0 x.1) f e) (spelled s t.0)
-end_file false ts us (finish q ∷ w ∷ vs) c x f s t e = absurd (no_file e)
-end_file false ts us (relation atoms.less p ∷ vs) c x f s t e = absurd (no_file e)
-end_file false ts us vs c x f s t e = absurd (no_file e)
-end_file true ts us (wide_finish q ∷ []) c x f s t e = subst (λ y. SpellsFile y ts) (ok_is (file c x.0 x.1) f e) (wide_spelled s t)
-end_file true ts us (wide_finish q ∷ w ∷ vs) c x f s t e = absurd (no_file e)
-end_file true ts us (relation atoms.less p ∷ vs) c x f s t e = absurd (no_file e)
-end_file true ts us vs c x f s t e = absurd (no_file e)
+end_file : (w : Bool) (ts us vs ws : Words) (c : Option (List ℕ)) (ns : List NameTree) (x : List DefinitionTree × List NameTree) (f : FileTree)
+    → SpellsPackage c ts us → ImportsOf w us ns vs → LinesOf w vs x ws → (expected (end_kind w) ws >>= λ zs. whole (file c x.0 (ns ++ x.1)) zs) ≡ Ok f → SpellsFile f ts
+end_file false ts us vs (finish q ∷ []) c ns x f s i t e =
+    let none : file c x.0 [] ≡ file c x.0 (ns ++ x.1) = ap (file c x.0) (sym (ap₂ (λ xs ys. xs ++ ys) i.0 t.1)) in
+    subst (λ y. SpellsFile y ts) (none ∙ ok_is (file c x.0 (ns ++ x.1)) f e) (spelled (subst (λ zs. SpellsPackage c ts zs) i.1 s) t.0)
+end_file false ts us vs (finish q ∷ w ∷ ws) c ns x f s i t e = absurd (no_file e)
+end_file false ts us vs (relation atoms.less p ∷ ws) c ns x f s i t e = absurd (no_file e)
+end_file false ts us vs ws c ns x f s i t e = absurd (no_file e)
+end_file true ts us vs (wide_finish q ∷ []) c ns x f s i t e = subst (λ y. SpellsFile y ts) (ok_is (file c x.0 (ns ++ x.1)) f e) (wide_spelled refl s i t)
+end_file true ts us vs (wide_finish q ∷ w ∷ ws) c ns x f s i t e = absurd (no_file e)
+end_file true ts us vs (relation atoms.less p ∷ ws) c ns x f s i t e = absurd (no_file e)
+end_file true ts us vs ws c ns x f s i t e = absurd (no_file e)
+
+-- what is behind the imports
+lines_found : (w : Bool) (ts us vs : Words) (c : Option (List ℕ)) (ns : List NameTree) (f : FileTree) → SpellsPackage c ts us → ImportsOf w us ns vs
+    → (lines_at w 29 (length vs) vs >>= λ ls. expected (end_kind w) ls.1 >>= λ us. whole (file c ls.0.0 (ns ++ ls.0.1)) us) ≡ Ok f → SpellsFile f ts
+lines_found w ts us vs c ns f s i is = by (lines_at w 29 (length vs) vs) (lines_of w 29 (length vs) vs) is
+  where
+    by : (m : Result ((List DefinitionTree × List NameTree) × Words) SyntaxFault) → IfRead (LinesOf w vs) m → (m >>= λ ls. expected (end_kind w) ls.1 >>= λ us. whole (file c ls.0.0 (ns ++ ls.0.1)) us) ≡ Ok f → SpellsFile f ts
+    by (Ok y) t k = end_file w ts us vs y.1 c ns y.0 f s i t k
+    by (Err e) t k = absurd cc
+
+-- what is behind the package clause
+rest_found : (w : Bool) (ts us : Words) (c : Option (List ℕ)) (f : FileTree) → SpellsPackage c ts us
+    → (imports_at w (length us) us >>= λ ms. lines_at w 29 (length ms.1) ms.1 >>= λ ls. expected (end_kind w) ls.1 >>= λ us. whole (file c ls.0.0 (ms.0 ++ ls.0.1)) us) ≡ Ok f → SpellsFile f ts
+rest_found w ts us c f s is = by (imports_at w (length us) us) (imports_of w (length us) us) is
+  where
+    by : (m : Result (List NameTree × Words) SyntaxFault) → IfRead (ImportsOf w us) m → (m >>= λ ms. lines_at w 29 (length ms.1) ms.1 >>= λ ls. expected (end_kind w) ls.1 >>= λ us. whole (file c ls.0.0 (ms.0 ++ ls.0.1)) us) ≡ Ok f → SpellsFile f ts
+    by (Ok y) i k = lines_found w ts us y.1 c y.0 f s i k
+    by (Err e) i k = absurd cc
 
 read_file : (w : Bool) (ts : Words) (f : FileTree) → file_with w 29 ts ≡ Ok f → SpellsFile f ts
 unfolding file_with
 read_file w ts f is = packaged (package_at ts) (package_of ts) is
   where
-    packaged : (m : Result (Option (List ℕ) × Words) SyntaxFault) → IfRead (λ c r. SpellsPackage c ts r) m → (m >>= λ c. lines_at w 29 (length c.1) c.1 >>= λ ls. expected (end_kind w) ls.1 >>= λ us. whole (file c.0 ls.0.0 ls.0.1) us) ≡ Ok f → SpellsFile f ts
-    packaged (Ok x) s is = lined (lines_at w 29 (length x.1) x.1) (lines_of w 29 (length x.1) x.1) is
-      where
-        lined : (m : Result ((List DefinitionTree × List NameTree) × Words) SyntaxFault) → IfRead (LinesOf w x.1) m → (m >>= λ ls. expected (end_kind w) ls.1 >>= λ us. whole (file x.0 ls.0.0 ls.0.1) us) ≡ Ok f → SpellsFile f ts
-        lined (Ok y) t is = end_file w ts x.1 y.1 x.0 y.0 f s t is
-        lined (Err e) t is = absurd cc
-    packaged (Err e) s is = absurd cc
+    packaged : (m : Result (Option (List ℕ) × Words) SyntaxFault) → IfRead (λ c r. SpellsPackage c ts r) m
+        → (m >>= λ c. imports_at w (length c.1) c.1 >>= λ ms. lines_at w 29 (length ms.1) ms.1 >>= λ ls. expected (end_kind w) ls.1 >>= λ us. whole (file c.0 ls.0.0 (ms.0 ++ ls.0.1)) us) ≡ Ok f → SpellsFile f ts
+    packaged (Ok x) s k = rest_found w ts x.1 x.0 f s k
+    packaged (Err e) s k = absurd cc
 
 pub file_found : (ts : Words) (f : FileTree) → file_at ts ≡ Ok f → SpellsFile f ts
 file_found ts f is = read_file (ends_wide ts) ts f is

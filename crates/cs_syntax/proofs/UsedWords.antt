@@ -8,7 +8,7 @@ use Rattle.cs_grammar.specs.declared.token.Sort.{Sort}
 use Rattle.cs_grammar.specs.declared.token.Sort.TheVariants as sorts
 use Rattle.cs_grammar.specs.Cut.{Lexeme, lexeme, comma_if, Cut, blank, new_line, comment, attribute, token, finish}
 use Rattle.cs_grammar.specs.Spelling.{sort_of}
-use Rattle.cs_grammar.specs.Spells.{Comma, explicit, inserted, ClosesParen, paren_here, paren_after, ClosesList, list_here, list_after, ClosesStruct, struct_here, struct_after, SpellsNumber, positive, negative, SpellsBound, limit_is, other_number, other_text, other_null, SpellsName, hashed, underscored, SpellsBase, name_base, field_base, SpellsSelector, by_name, by_label, by_text, SpellsSelectors, last_selector, next_selector, SpellsLabel, bare_label, quoted_label, SpellsMark, regular, optional, required, SpellsOpening, unopened, opened, SpellsScalar, scalar_name, scalar_number, scalar_text, SpellsTest, is_true, equal_to, unequal_to, is_absent, is_present, related, SpellsCondition, asked_is, denied_is, SpellsConditions, last_condition, next_condition, SpellsValue, long, short, SpellsField, labelled, every_key, SpellsExpr, one_branch, disjunction_is, SpellsBars, no_bar, a_bar, SpellsBranch, unmarked, marked_is, SpellsConj, one_operand, conjunction_is, SpellsAmps, no_amp, an_amp, SpellsOperand, top_is, bottom_is, reference_is, name_is, number_is, text_is, bound_is, paren_is, struct_is, list_is, call_paren_is, shut_is, local_is, selected_is, wide_struct_is, SpellsWideStruct, no_declarations, wide_dots_alone, some_declarations, SpellsDeclarations, a_field, an_embedding, a_name, a_let, a_conditional, SpellsMore, no_more, next_declaration, SpellsStruct, no_fields, dots_alone, fields, SpellsFields, no_more_fields, next_field, SpellsList, no_elements, rest_alone, elements, SpellsElements, no_more_elements, next_element, SpellsEnd, closed_is, rest_is, SpellsRest, any_is, each_is, SpellsDefinition, defined, SpellsDefinitions, no_definition, next_definition, SpellsFileName, field_name, local_name, bound_name, SpellsWideFile, no_line, definition_line, name_line, SpellsPackage, no_clause, clause, SpellsFile, spelled, wide_spelled}
+use Rattle.cs_grammar.specs.Spells.{Comma, explicit, inserted, ClosesParen, paren_here, paren_after, ClosesList, list_here, list_after, ClosesStruct, struct_here, struct_after, SpellsNumber, positive, negative, SpellsBound, limit_is, other_number, other_text, other_null, SpellsName, hashed, underscored, SpellsBase, name_base, field_base, SpellsSelector, by_name, by_label, by_text, SpellsSelectors, last_selector, next_selector, SpellsLabel, bare_label, quoted_label, SpellsMark, regular, optional, required, SpellsOpening, unopened, opened, SpellsScalar, scalar_name, scalar_number, scalar_text, SpellsTest, is_true, equal_to, unequal_to, is_absent, is_present, related, SpellsCondition, asked_is, denied_is, SpellsConditions, last_condition, next_condition, SpellsValue, long, short, SpellsField, labelled, every_key, SpellsExpr, one_branch, disjunction_is, SpellsBars, no_bar, a_bar, SpellsBranch, unmarked, marked_is, SpellsConj, one_operand, conjunction_is, SpellsAmps, no_amp, an_amp, SpellsOperand, top_is, bottom_is, reference_is, name_is, number_is, text_is, bound_is, paren_is, struct_is, list_is, call_paren_is, shut_is, local_is, selected_is, called_is, SpellsArgument, argument_is, wide_struct_is, SpellsWideStruct, no_declarations, wide_dots_alone, some_declarations, SpellsDeclarations, a_field, an_embedding, a_name, a_let, a_conditional, SpellsMore, no_more, next_declaration, SpellsStruct, no_fields, dots_alone, fields, SpellsFields, no_more_fields, next_field, SpellsList, no_elements, rest_alone, elements, SpellsElements, no_more_elements, next_element, SpellsEnd, closed_is, rest_is, SpellsRest, any_is, each_is, SpellsDefinition, defined, SpellsDefinitions, no_definition, next_definition, SpellsFileName, field_name, local_name, bound_name, SpellsImportSpec, path_alone, named_path, SpellsImportSpecs, no_spec, last_spec, next_spec, SpellsImport, one_import, some_imports, SpellsImports, no_import, next_import, SpellsWideFile, no_line, definition_line, name_line, SpellsPackage, no_clause, clause, SpellsFile, spelled, wide_spelled}
 use Rattle.cs_grammar.specs.Taken.{wide_lexeme}
 use Rattle.cs_grammar.specs.TokenWords.{words}
 use Rattle.cs_grammar.specs.Atom.{Atom}
@@ -109,6 +109,9 @@ of_selectors : {ls : List Selector} {ts r : Words} → SpellsSelectors ls ts r �
 of_selectors (last_selector l) h = of_selector l h
 of_selectors (next_selector l ls) h = of_selector l (of_selectors ls h)
 
+of_argument : {z : ℤ} {ts r : Words} → SpellsArgument z ts r → Used r → Used ts
+of_argument (argument_is f c) h = (refl, (refl, of_paren_end c h))
+
 -- ---- values
 
 mutual
@@ -155,6 +158,7 @@ mutual
   of_operand (shut_is s e c) h = (refl, (refl, of_expr e (of_paren_end c h)))
   of_operand local_is h = (refl, h)
   of_operand (selected_is o b l) h = of_base b (of_selectors l h)
+  of_operand (called_is f a) h = (refl, (refl, (refl, of_argument a h)))
   of_operand (wide_struct_is e s) h = (refl, of_wide_struct s h)
 
   of_wide_struct : {ds : Declarations} {b : Bool} {ts r : Words} → SpellsWideStruct ds b ts r → Used r → Used ts
@@ -218,13 +222,30 @@ of_lines no_line h = h
 of_lines (definition_line d c ls) h = of_definition d (of_comma c (of_lines ls h))
 of_lines (name_line n c ls) h = of_file_name n (of_comma c (of_lines ls h))
 
+of_import_spec : {o : ℕ} {n : NameTree} {ts r : Words} → SpellsImportSpec o n ts r → Used r → Used ts
+of_import_spec path_alone h = (refl, h)
+of_import_spec named_path h = (refl, (refl, h))
+
+of_import_specs : {ns : List NameTree} {ts r : Words} → SpellsImportSpecs ns ts r → Used r → Used ts
+of_import_specs no_spec h = (refl, h)
+of_import_specs (last_spec o s) h = of_import_spec s (refl, h)
+of_import_specs (next_spec o s c ns) h = of_import_spec s (of_comma c (of_import_specs ns h))
+
+of_import : {ns : List NameTree} {ts r : Words} → SpellsImport ns ts r → Used r → Used ts
+of_import (one_import is s) h = (refl, of_import_spec s h)
+of_import (some_imports is s) h = (refl, (refl, of_import_specs s h))
+
+of_imports : {ns : List NameTree} {ts r : Words} → SpellsImports ns ts r → Used r → Used ts
+of_imports no_import h = h
+of_imports (next_import is i c ns) h = of_import i (of_comma c (of_imports ns h))
+
 of_package : {c : Option (List ℕ)} {ts r : Words} → SpellsPackage c ts r → Used r → Used ts
 of_package no_clause h = h
 of_package (clause is c) h = (refl, (refl, of_comma c h))
 
 of_file : {f : FileTree} {ts : Words} → SpellsFile f ts → Used ts
 of_file (spelled p ds) = of_package p (of_definitions ds (refl, tt))
-of_file (wide_spelled p ls) = of_package p (of_lines ls (refl, tt))
+of_file (wide_spelled is p i ls) = of_package p (of_imports i (of_lines ls (refl, tt)))
 
 -- ---- the tokens of the wide profile
 

@@ -8,7 +8,7 @@ use Rattle.cs_grammar.specs.declared.kind.Kind.{Kind}
 use Rattle.cs_grammar.specs.declared.kind.Kind.TheVariants as kinds
 use Rattle.cs_grammar.specs.declared.token.Sort.TheVariants as sorts
 use Rattle.cs_grammar.specs.Cut.{Lexeme, lexeme}
-use Rattle.cs_grammar.specs.Spells.{start_at, fields_alone, literal, Comma, explicit, inserted, ClosesParen, paren_here, paren_after, ClosesList, list_here, list_after, ClosesStruct, struct_here, struct_after, SpellsNumber, positive, negative, SpellsBound, limit_is, other_number, other_text, other_null, SpellsName, hashed, underscored, SpellsBase, name_base, field_base, SpellsSelector, by_name, by_label, by_text, SpellsSelectors, last_selector, next_selector, SpellsLabel, bare_label, quoted_label, SpellsMark, regular, optional, required, SpellsOpening, unopened, opened, SpellsScalar, scalar_name, scalar_number, scalar_text, SpellsTest, is_true, equal_to, unequal_to, is_absent, is_present, related, SpellsCondition, asked_is, denied_is, SpellsConditions, last_condition, next_condition, SpellsValue, long, short, SpellsField, labelled, every_key, SpellsExpr, one_branch, disjunction_is, SpellsBars, no_bar, a_bar, SpellsBranch, unmarked, marked_is, SpellsConj, one_operand, conjunction_is, SpellsAmps, no_amp, an_amp, SpellsOperand, top_is, bottom_is, reference_is, name_is, number_is, text_is, bound_is, paren_is, struct_is, list_is, call_paren_is, shut_is, local_is, selected_is, wide_struct_is, SpellsWideStruct, no_declarations, wide_dots_alone, some_declarations, SpellsDeclarations, a_field, an_embedding, a_name, a_let, a_conditional, SpellsMore, no_more, next_declaration, SpellsStruct, no_fields, dots_alone, fields, SpellsFields, no_more_fields, next_field, SpellsList, no_elements, rest_alone, elements, SpellsElements, no_more_elements, next_element, SpellsEnd, closed_is, rest_is, SpellsRest, any_is, each_is, SpellsDefinition, defined, SpellsDefinitions, no_definition, next_definition, SpellsFileName, field_name, local_name, bound_name, SpellsWideFile, no_line, definition_line, name_line, SpellsPackage, no_clause, clause, SpellsFile, spelled, wide_spelled}
+use Rattle.cs_grammar.specs.Spells.{start_at, fields_alone, literal, Comma, explicit, inserted, ClosesParen, paren_here, paren_after, ClosesList, list_here, list_after, ClosesStruct, struct_here, struct_after, SpellsNumber, positive, negative, SpellsBound, limit_is, other_number, other_text, other_null, SpellsName, hashed, underscored, SpellsBase, name_base, field_base, SpellsSelector, by_name, by_label, by_text, SpellsSelectors, last_selector, next_selector, SpellsLabel, bare_label, quoted_label, SpellsMark, regular, optional, required, SpellsOpening, unopened, opened, SpellsScalar, scalar_name, scalar_number, scalar_text, SpellsTest, is_true, equal_to, unequal_to, is_absent, is_present, related, SpellsCondition, asked_is, denied_is, SpellsConditions, last_condition, next_condition, SpellsValue, long, short, SpellsField, labelled, every_key, SpellsExpr, one_branch, disjunction_is, SpellsBars, no_bar, a_bar, SpellsBranch, unmarked, marked_is, SpellsConj, one_operand, conjunction_is, SpellsAmps, no_amp, an_amp, SpellsOperand, top_is, bottom_is, reference_is, name_is, number_is, text_is, bound_is, paren_is, struct_is, list_is, call_paren_is, shut_is, local_is, selected_is, called_is, SpellsArgument, argument_is, wide_struct_is, SpellsWideStruct, no_declarations, wide_dots_alone, some_declarations, SpellsDeclarations, a_field, an_embedding, a_name, a_let, a_conditional, SpellsMore, no_more, next_declaration, SpellsStruct, no_fields, dots_alone, fields, SpellsFields, no_more_fields, next_field, SpellsList, no_elements, rest_alone, elements, SpellsElements, no_more_elements, next_element, SpellsEnd, closed_is, rest_is, SpellsRest, any_is, each_is, SpellsDefinition, defined, SpellsDefinitions, no_definition, next_definition, SpellsFileName, field_name, local_name, bound_name, SpellsImportSpec, path_alone, named_path, SpellsImportSpecs, no_spec, last_spec, next_spec, SpellsImport, one_import, some_imports, SpellsImports, no_import, next_import, SpellsWideFile, no_line, definition_line, name_line, SpellsPackage, no_clause, clause, SpellsFile, spelled, wide_spelled}
 use Rattle.cs_grammar.specs.Taken.{wide_lexeme}
 use Rattle.cs_grammar.specs.TokenWords.{mark_kind, word_of, word}
 use Rattle.cs_grammar.specs.Atom.{Atom}
@@ -129,6 +129,9 @@ wide_selectors : {ls : List Selector} {ts r : Words} → SpellsSelectors ls ts r
 wide_selectors (last_selector l) = last_selector (wide_selector l)
 wide_selectors (next_selector l ls) = next_selector (wide_selector l) (wide_selectors ls)
 
+wide_argument : {z : ℤ} {ts r : Words} → SpellsArgument z ts r → SpellsArgument z (all_widened ts) (all_widened r)
+wide_argument (argument_is f c) = argument_is f (wide_paren_end c)
+
 -- ---- values
 
 mutual
@@ -175,6 +178,7 @@ mutual
   wide_operand (list_is s) = list_is (wide_list s)
   wide_operand local_is = local_is
   wide_operand (selected_is {ts = ts} o b l) = selected_is (o ∙ sym (start_same ts)) (wide_base b) (wide_selectors l)
+  wide_operand (called_is h a) = called_is h (wide_argument a)
   wide_operand (wide_struct_is e s) = wide_struct_is e (wide_wide_struct s)
 
   wide_struct : {fs : Fields} {b : Bool} {ts r : Words} → SpellsStruct fs b ts r → SpellsWideStruct (declarations_from fs) b (all_widened ts) (all_widened r)
@@ -238,14 +242,31 @@ wide_lines no_line = no_line
 wide_lines (definition_line d c ls) = definition_line (wide_definition d) (wide_comma c) (wide_lines ls)
 wide_lines (name_line n c ls) = name_line (wide_file_name n) (wide_comma c) (wide_lines ls)
 
+wide_import_spec : {o : ℕ} {n : NameTree} {ts r : Words} → SpellsImportSpec o n ts r → SpellsImportSpec o n (all_widened ts) (all_widened r)
+wide_import_spec path_alone = path_alone
+wide_import_spec named_path = named_path
+
+wide_import_specs : {ns : List NameTree} {ts r : Words} → SpellsImportSpecs ns ts r → SpellsImportSpecs ns (all_widened ts) (all_widened r)
+wide_import_specs no_spec = no_spec
+wide_import_specs (last_spec {ts = ts} o s) = last_spec (o ∙ sym (start_same ts)) (wide_import_spec s)
+wide_import_specs (next_spec {ts = ts} o s c ns) = next_spec (o ∙ sym (start_same ts)) (wide_import_spec s) (wide_comma c) (wide_import_specs ns)
+
+wide_import : {ns : List NameTree} {ts r : Words} → SpellsImport ns ts r → SpellsImport ns (all_widened ts) (all_widened r)
+wide_import (one_import is s) = one_import is (wide_import_spec s)
+wide_import (some_imports is s) = some_imports is (wide_import_specs s)
+
+wide_imports : {ns : List NameTree} {ts r : Words} → SpellsImports ns ts r → SpellsImports ns (all_widened ts) (all_widened r)
+wide_imports no_import = no_import
+wide_imports (next_import is i c ns) = next_import is (wide_import i) (wide_comma c) (wide_imports ns)
+
 wide_package : {c : Option (List ℕ)} {ts r : Words} → SpellsPackage c ts r → SpellsPackage c (all_widened ts) (all_widened r)
 wide_package no_clause = no_clause
 wide_package (clause is c) = clause is (wide_comma c)
 
 -- they spell what they spelled
 pub file_widened : {f : FileTree} {ts : Words} → SpellsFile f ts → SpellsFile f (all_widened ts)
-file_widened (spelled p ds) = wide_spelled (wide_package p) (wide_definitions ds)
-file_widened (wide_spelled p ls) = wide_spelled (wide_package p) (wide_lines ls)
+file_widened (spelled p ds) = wide_spelled refl (wide_package p) no_import (wide_definitions ds)
+file_widened (wide_spelled is p i ls) = wide_spelled is (wide_package p) (wide_imports i) (wide_lines ls)
 
 -- ---- nesting
 

@@ -12,13 +12,20 @@ use Rattle.cs_grammar.specs.View.{lexeme_view, lexemes_view}
 use Rattle.cs_grammar.specs.TokenWords.{word_of, word, words}
 pub use Rattle.cs_grammar.proofs.Views.{start_word_of}
 use Rattle.cs_syntax.specs.Place.{fault_of}
-use Rattle.cs_syntax.specs.Reading.{◌>>=◌, Fails, Read, fault_at, unsigned_at, unequal_at, scalar_at, unbracketed_at, uncalled_with, number_at, name_at, selector_at, leaf_at, label_at, bound_name_at}
-use Rattle.cs_syntax.specs.FileReading.{begins_end, before_end}
+use Rattle.cs_syntax.specs.Reading.{◌>>=◌, Fails, Read, begins_with, fault_at, unsigned_at, count_at, unequal_at, scalar_at, unbracketed_at, uncalled_with, number_at, name_at, selector_at, function_at, leaf_at, label_at, bound_name_at}
+use Rattle.cs_syntax.specs.FileReading.{begins_end, before_end, path_at, before_paren}
 
 -- a word that is no integer begins no number
 pub unsigned_other : (b : Bool) (k : Kind) (t : List ℕ) (o : ℕ) (ts : Words) → (k ≡ kinds.Integer → ⊥) → unsigned_at b (word_of k t o ∷ ts) ≡ Err (fault_of (word_of k t o))
 unsigned_other b kinds.Integer t o ts h = absurd (h refl)
 unsigned_other b k t o ts h = refl
+
+-- nor that of an argument, if it is no `-`
+pub count_other : (k : Kind) (t : List ℕ) (o : ℕ) (ts : Words) → (k ≡ kinds.Integer → ⊥) → (k ≡ kinds.Minus → ⊥) → count_at (word_of k t o ∷ ts) ≡ Err (fault_of (word_of k t o))
+unfolding count_at
+count_other kinds.Integer t o ts h g = absurd (h refl)
+count_other kinds.Minus t o ts h g = absurd (g refl)
+count_other k t o ts h g = refl
 
 -- ---- a word of another kind
 
@@ -39,6 +46,16 @@ pub bound_name_other : (k : Kind) (t : List ℕ) (o : ℕ) (ts : Words) → (k �
 unfolding bound_name_at
 bound_name_other kinds.Name t o ts h = absurd (h refl)
 bound_name_other k t o ts h = refl
+
+pub function_other : (k : Kind) (t : List ℕ) (o : ℕ) (ts : Words) → (k ≡ kinds.Name → ⊥) → function_at (word_of k t o ∷ ts) ≡ Err (fault_of (word_of k t o))
+unfolding function_at
+function_other kinds.Name t o ts h = absurd (h refl)
+function_other k t o ts h = refl
+
+pub path_other : (k : Kind) (t : List ℕ) (o : ℕ) (ts : Words) → (k ≡ kinds.Text → ⊥) → path_at (word_of k t o ∷ ts) ≡ Err (fault_of (word_of k t o))
+unfolding path_at
+path_other kinds.Text t o ts h = absurd (h refl)
+path_other k t o ts h = refl
 
 -- behind `!=` and as a literal it begins a number
 pub unequal_other : (k : Kind) (t : List ℕ) (o : ℕ) (ts : Words) → (k ≡ kinds.Text → ⊥) → (k ≡ kinds.Name → ⊥)
@@ -96,3 +113,11 @@ stops ts e = rw e refl
 
 pub proceeds : (ts : Words) → begins_end ts ≡ false → before_end ts ≡ Some ts
 proceeds ts e = rw e refl
+
+-- ---- before the `)` of imports
+
+pub specs_stop : (ts : Words) → begins_with kinds.CloseParen ts ≡ true → before_paren ts ≡ None
+specs_stop ts e = rw e refl
+
+pub specs_proceed : (ts : Words) → begins_with kinds.CloseParen ts ≡ false → before_paren ts ≡ Some ts
+specs_proceed ts e = rw e refl

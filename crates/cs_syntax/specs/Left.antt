@@ -49,6 +49,10 @@ head_view x = (label_of (string_bytes x.0) x.1, x.2)
 abbrev pub name_head_view : String Global × Bool → List ℕ × Bool
 name_head_view x = (string_bytes x.0, x.1)
 
+-- the path of a package, and its offset
+abbrev pub path_view : String Global × ℕ → List ℕ × ℕ
+path_view x = (string_bytes x.0, x.1)
+
 -- the lines of a file
 abbrev pub lines_view : Vec Definition Global × Vec Name Global → List DefinitionTree × List NameTree
 lines_view x = (map definition_view x.0.items, map name_view x.1.items)

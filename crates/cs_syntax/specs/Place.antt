@@ -1,9 +1,10 @@
 -- Which fault a word out of place is, and where it is.
-use Rattle.std.specs.Prelude.{◌≡◌, ℕ, Bool, true, false, List, [], ◌∷◌, codes}
+use Rattle.std.specs.Prelude.{◌≡◌, ◌⊎◌, ℕ, Bool, true, false, List, [], ◌∷◌, codes}
 use Rattle.std.specs.List.{list_any}
 use Rattle.std.specs.Str.{bytes_eq}
 use Rattle.cs_grammar.specs.declared.fault.SyntaxFault.{SyntaxFault}
-use Rattle.cs_grammar.specs.declared.fault.SyntaxFault.TheVariants.{Syntax, LeftOut}
+use Rattle.cs_grammar.specs.declared.fault.SyntaxFault.TheVariants.{Syntax, LeftOut, IntegerRange}
+use Rattle.cs_grammar.specs.Spells.{is_function}
 use Rattle.cs_grammar.specs.Words.{Word, Words, start, name, definition_name, hidden, top_mark, bottom_mark, numeral, quoted, open_struct, open_wide, close_struct, open_list, close_list, open_paren, open_call, close_paren, comma, nl, colon, question, bang, amp, bar, dots, relation, unequal, minus, star, equal, local, dot, assign, left_out, finish, wide_finish}
 
 -- the names that begin a form which the profile leaves out: imports (CUE, import declarations), let clauses and comprehensions (CUE, let clauses; comprehensions)
@@ -66,3 +67,19 @@ pub data Ends : Words → Words → Type 0 where
 -- the fault of one of the words
 abbrev pub IsFaultIn : SyntaxFault → Words → Type 0
 IsFaultIn f ts = (w : Word) × (us : Words) × Ends ts (w ∷ us) × (f ≡ fault_of w)
+
+-- a function is called at that offset that the profile leaves out
+pub data IsOtherFunctionIn : ℕ → Words → Type 0 where
+  other_function : {s f : List ℕ} {o p q c : ℕ} {ts us : Words} → Ends ts (name s o ∷ dot p ∷ name f q ∷ open_call c ∷ us) → is_function f ≡ false → IsOtherFunctionIn q ts
+
+-- what is out of place: a word, or a function
+abbrev pub IsOutOfPlaceIn : SyntaxFault → Words → Type 0
+IsOutOfPlaceIn f ts = IsFaultIn f ts ⊎ ((q : ℕ) × (f ≡ LeftOut q) × IsOtherFunctionIn q ts)
+
+-- a `-` at that offset begins the argument of a call
+pub data IsBelowZeroIn : ℕ → Words → Type 0 where
+  below_zero : {s f : List ℕ} {o p r c q : ℕ} {ts us : Words} → Ends ts (name s o ∷ dot p ∷ name f r ∷ open_call c ∷ minus q ∷ us) → IsBelowZeroIn q ts
+
+-- where reading stops: at what is out of place, or at an argument below zero
+abbrev pub StopsAt : SyntaxFault → Words → Type 0
+StopsAt f ts = IsOutOfPlaceIn f ts ⊎ ((q : ℕ) × (f ≡ IntegerRange q) × IsBelowZeroIn q ts)

@@ -1,4 +1,5 @@
--- Reading from left to right with one word of look-ahead, and three behind a bracket that may begin a label or an `if` or `let` that may be one.
+-- Reading from left to right with one word of look-ahead, and three behind a bracket that may begin a label, an `if` or `let` that may be one, or a name
+-- that may be that of a package.
 use Rattle.std.specs.Prelude.{◌≡◌, ℕ, ℤ, pos, neg_ℤ, zero, suc, ◌+◌, ◌^◌, [], ◌∷◌, List, length, drop, Bool, true, false, ◌&&◌, ◌||◌, not, is_some, nat_lt, nat_le, if◌then◌else◌, Option, Some, None, Result, Ok, Err}
 use Rattle.std.specs.Option.{unwrap_or}
 use denote.Enum.Bare.{sameb}
@@ -12,9 +13,9 @@ use Rattle.cs_grammar.specs.declared.fault.SyntaxFault.TheVariants as faults
 use Rattle.cs_grammar.specs.Words.{Word, Words, name, definition_name, hidden, top_mark, bottom_mark, numeral, quoted, open_struct, open_wide, close_struct, open_list, close_list, open_paren, open_call, close_paren, comma, nl, colon, question, bang, amp, bar, dots, relation, unequal, minus, star, equal, local, dot, assign, left_out, finish, wide_finish}
 use Rattle.cs_grammar.specs.declared.ast.FieldMark.{FieldMark}
 use Rattle.cs_grammar.specs.declared.ast.FieldMark.TheVariants.{Regular, Optional, Required, Every}
-use Rattle.cs_grammar.specs.Tree.{Label, written_label, scoped_label, Selector, Test, present, truth, equals, compares, Condition, Tree, atom, named, reference, conjunction, disjunction, paren, struct, list, wide, marked, shut, selected, End, closed, any, each}
+use Rattle.cs_grammar.specs.Tree.{Label, written_label, scoped_label, Selector, Test, present, truth, equals, compares, Condition, Tree, atom, named, reference, conjunction, disjunction, paren, struct, list, wide, marked, shut, selected, called, End, closed, any, each}
 use Rattle.cs_grammar.specs.View.{trees_of, fields_of, Seen, declarations_of, SeenDeclaration, field_seen, embedding_seen, conditional_seen}
-use Rattle.cs_grammar.specs.Spells.{is_reserved, is_null, is_string, is_close, is_if, is_let, with_hash, is_braced, every_label, literal_of, literal, start_at}
+use Rattle.cs_grammar.specs.Spells.{is_reserved, is_null, is_string, is_close, is_if, is_let, is_function, with_hash, is_braced, every_label, literal_of, literal, start_at}
 use Rattle.cs_syntax.specs.Place.{fault_of}
 use Rattle.cs_syntax.specs.Nesting.{most_nested}
 
@@ -493,13 +494,62 @@ selected_at ts = do
   ls ← selectors_at (length l.1) l.1
   Ok (wide (selected (start_at ts) s.0 (l.0 ∷ ls.0)), ls.1)
 
+-- ---- calls of packages in the wide profile
+
+-- a name that is an operand, and no literal
+abbrev pub begins_package : Words → Bool
+begins_package (name s p ∷ ts) = not (names_no_field s)
+begins_package ts = false
+
+-- `.`, a name and `(`
+abbrev pub begins_function : Words → Bool
+begins_function ts = begins_with kinds.Dot ts && (begins_with kinds.Name (drop 1 ts) && begins_with kinds.OpenCall (drop 1 (drop 1 ts)))
+
+abbrev pub begins_called : Words → Bool
+begins_called ts = begins_package ts && begins_function (drop 1 ts)
+
+abbrev pub function_if : Bool → List ℕ → ℕ → Words → Result (Selector × Words) SyntaxFault
+function_if true s p ts = Ok (record { text = s; quotes = false; at = p }, ts)
+function_if false s p ts = Err (faults.LeftOut p)
+
+-- the name of a function that is taken; another one is a form that is left out
+unfoldable pub function_at : Read Selector
+function_at (name s p ∷ ts) = function_if (is_function s) s p ts
+function_at ts = Err (fault_at ts)
+
+-- an integer of at least 0, so that a `-` is out of its range
+unfoldable pub count_at : Read ℤ
+count_at (minus p ∷ ts) = Err (faults.IntegerRange p)
+count_at ts = unsigned_at false ts
+
+-- `(` integer [ nl ] `)`
+unfoldable pub argument_at : Read ℤ
+argument_at ts = do
+  us ← expected kinds.OpenCall ts
+  z ← count_at us
+  vs ← paren_end z.1
+  Ok (z.0, vs)
+
+-- a function of a package, and its argument
+unfoldable pub called_at : Read Tree
+called_at ts = do
+  s ← name_at ts
+  us ← expected kinds.Dot s.1
+  f ← function_at us
+  z ← argument_at f.1
+  Ok (wide (called (start_at ts) s.0 f.0 z.0), z.1)
+
 abbrev pub leaf_if : Bool → Read Tree
 leaf_if true ts = selected_at ts
 leaf_if false ts = unbracketed_at ts
 
--- an operand without brackets, with the selectors behind it
+abbrev pub leaf_or : Bool → Read Tree
+leaf_or true ts = called_at ts
+leaf_or false ts = leaf_if (begins_selected ts) ts
+
+-- an operand without brackets, with the selectors behind it, or a call of a package
 unfoldable pub leaf_at : Read Tree
-leaf_at ts = leaf_if (begins_selected ts) ts
+leaf_at ts = leaf_or (begins_called ts) ts
 
 -- the name `let`
 abbrev pub names_let : Word → Bool

@@ -24,6 +24,9 @@ use Rattle.cs_defaults.specs.Unmarked.{unmarked_file}
 use Rattle.cs_defaults.specs.Widened.{handing_on, mark_faults}
 use Rattle.cs_embeddings.specs.Size.{size_of_files}
 use Rattle.cs_embeddings.specs.Without.{IsJoined, IsWithin, flaws_of_files, clashes_of_files, joined_files}
+use Rattle.cs_imports.specs.Imports.{AreWithout, import_faults}
+use Rattle.cs_names.specs.Lifted.{lifts}
+use Rattle.cs_names.specs.Named.{named_files, value_names}
 use Rattle.cs_names.specs.Names.{AreNamed, name_faults}
 use Rattle.cs_plain.specs.Placed.{in_places}
 use Rattle.cs_selectors.specs.Given.{given_names, gifts}
@@ -51,7 +54,8 @@ one_files p (s ∷ ss) (f ∷ fs) (g ∷ gs) a b =
 
 pub one_meant : (fs gs hs : List FileTree) → AreMeant fs gs → AreMeant fs hs → gs ≡ hs
 one_meant fs gs hs a b =
-    let named = a.are_named.named ∙ sym b.are_named.named in
+    let imported = a.are_imported.without ∙ sym b.are_imported.without in
+    let named = a.are_named.named ∙ ap (λ ps. in_places (value_names (lifts ps)) (named_files ps)) imported ∙ sym b.are_named.named in
     let unselected = a.are_unselected.unselected ∙ ap (λ ns. in_places (given_names (gifts ns)) (unselected_files ns)) named ∙ sym b.are_unselected.unselected in
     let chosen = a.are_chosen.chosen ∙ ap (λ us. map (chosen_file (known_in us)) us) unselected ∙ sym b.are_chosen.chosen in
     let joined = a.are_joined.joined ∙ ap joined_files chosen ∙ sym b.are_joined.joined in
@@ -84,8 +88,8 @@ module _ (ss : List (List ℕ)) (fs : List FileTree) (spelled : AreFilesIn profi
   wide_stand : AreMeant fs accepted.meant
   wide_stand = stand profiles.Wide ss fs spelled E accepted
 
-  pub no_name_fault : name_faults fs ≡ []
-  no_name_fault = wide_stand.are_named.faultless
+  pub no_import_fault : import_faults fs ≡ []
+  no_import_fault = wide_stand.are_imported.faultless
 
   small : size_of_files wide_stand.joined ≤ most_nodes
   small =
@@ -93,41 +97,49 @@ module _ (ss : List (List ℕ)) (fs : List FileTree) (spelled : AreFilesIn profi
       let nodes = subst (λ gs. nodes_of_files gs ≤ most_nodes) wide_stand.unmarked.unmarked accepted.one_package.small.nodes in
       subst (λ n. n ≤ most_nodes) (sym same) nodes
 
-  -- they are these without names
-  module _ (ns : List FileTree) (named : AreNamed fs ns) where
-    same_unselected : AreUnselected ns wide_stand.unselected
-    same_unselected = subst (λ hs. AreUnselected hs wide_stand.unselected) (wide_stand.are_named.named ∙ sym named.named) wide_stand.are_unselected
+  -- they are these without imports
+  module _ (ps : List FileTree) (imported : AreWithout fs ps) where
+    same_named : AreNamed ps wide_stand.named
+    same_named = subst (λ hs. AreNamed hs wide_stand.named) (wide_stand.are_imported.without ∙ sym imported.without) wide_stand.are_named
 
-    pub few_selectors : AreFew ns
-    few_selectors = same_unselected.few
+    pub no_name_fault : name_faults ps ≡ []
+    no_name_fault = same_named.faultless
 
-    pub no_selector_fault : selector_faults ns ≡ []
-    no_selector_fault = same_unselected.faultless
+    -- these are these without names
+    module _ (ns : List FileTree) (named : AreNamed ps ns) where
+      same_unselected : AreUnselected ns wide_stand.unselected
+      same_unselected = subst (λ hs. AreUnselected hs wide_stand.unselected) (same_named.named ∙ sym named.named) wide_stand.are_unselected
 
-    -- these are these without selectors
-    module _ (us : List FileTree) (unselected : AreUnselected ns us) where
-      same_chosen : AreChosen us wide_stand.chosen
-      same_chosen = subst (λ hs. AreChosen hs wide_stand.chosen) (same_unselected.unselected ∙ sym unselected.unselected) wide_stand.are_chosen
+      pub few_selectors : AreFew ns
+      few_selectors = same_unselected.few
 
-      pub no_condition_fault : condition_faults us ≡ []
-      no_condition_fault = same_chosen.faultless
+      pub no_selector_fault : selector_faults ns ≡ []
+      no_selector_fault = same_unselected.faultless
 
-      -- these are these without conditions
-      module _ (cs : List FileTree) (chosen : AreChosen us cs) where
-        same_joined : IsJoined cs wide_stand.joined
-        same_joined = subst (λ hs. IsJoined hs wide_stand.joined) (same_chosen.chosen ∙ sym chosen.chosen) wide_stand.are_joined
+      -- these are these without selectors
+      module _ (us : List FileTree) (unselected : AreUnselected ns us) where
+        same_chosen : AreChosen us wide_stand.chosen
+        same_chosen = subst (λ hs. AreChosen hs wide_stand.chosen) (same_unselected.unselected ∙ sym unselected.unselected) wide_stand.are_chosen
 
-        pub no_flaw : flaws_of_files cs ≡ []
-        no_flaw = same_joined.flawless
+        pub no_condition_fault : condition_faults us ≡ []
+        no_condition_fault = same_chosen.faultless
 
-        pub no_clash : clashes_of_files cs ≡ []
-        no_clash = same_joined.apart
+        -- these are these without conditions
+        module _ (cs : List FileTree) (chosen : AreChosen us cs) where
+          same_joined : IsJoined cs wide_stand.joined
+          same_joined = subst (λ hs. IsJoined hs wide_stand.joined) (same_chosen.chosen ∙ sym chosen.chosen) wide_stand.are_joined
 
-        pub within : IsWithin (joined_files cs)
-        within = subst IsWithin same_joined.joined (record { low = wide_stand.low; small = small })
+          pub no_flaw : flaws_of_files cs ≡ []
+          no_flaw = same_joined.flawless
 
-        pub no_fault : (js : List FileTree) → IsJoined cs js → mark_faults js ≡ []
-        no_fault js joined = subst (λ hs. mark_faults hs ≡ []) (same_joined.joined ∙ sym joined.joined) wide_stand.unmarked.faultless
+          pub no_clash : clashes_of_files cs ≡ []
+          no_clash = same_joined.apart
+
+          pub within : IsWithin (joined_files cs)
+          within = subst IsWithin same_joined.joined (record { low = wide_stand.low; small = small })
+
+          pub no_fault : (js : List FileTree) → IsJoined cs js → mark_faults js ≡ []
+          no_fault js joined = subst (λ hs. mark_faults hs ≡ []) (same_joined.joined ∙ sym joined.joined) wide_stand.unmarked.faultless
 
 -- sources declare one environment
 pub one_environment : {p : Profile} {sources : List (List ℕ)} {E F : Environment} → IsAccepted p sources E → IsAccepted p sources F → E ≡ F

@@ -21,7 +21,7 @@ use Rattle.cs_resolve.specs.Earlier.{IsPackageEarlier}
 use Rattle.cs_resolve.proofs.OnePackage.{one_package}
 use Rattle.cs_syntax.specs.Answer.{IsSpelled}
 use Rattle.cs_syntax.specs.Reading.{unbracketed_at, many, operand_with, uncalled_with, leaf_at, paren_with, conj_with, branch_with, expr_with, inner, struct_with, field_with, head_at, every_key_at}
-use Rattle.cs_syntax.specs.FileReading.{definition_at, line_at, any_line_at, lines_at, package_at, file_with, file_at}
+use Rattle.cs_syntax.specs.FileReading.{definition_at, line_at, any_line_at, lines_at, imports_at, package_at, file_with, file_at}
 use Rattle.cs_syntax.proofs.EarlierNesting.{still_spelled}
 use Rattle.cs_syntax.proofs.EarlierSamples.{plain_source, plain_file, plain_was_spelled}
 use Rattle.cs_syntax.proofs.Soundness.{file_found}
@@ -111,7 +111,7 @@ every_cut =
     finish {l = WantsComma})))))))))))
 
 every_read : file_at (words every_tokens) ≡ Ok every_file
-unfolding unbracketed_at many operand_with uncalled_with leaf_at paren_with conj_with branch_with expr_with inner definition_at line_at any_line_at lines_at package_at file_with struct_with field_with head_at every_key_at
+unfolding unbracketed_at many operand_with uncalled_with leaf_at paren_with conj_with branch_with expr_with inner definition_at line_at any_line_at lines_at imports_at package_at file_with struct_with field_with head_at every_key_at
 every_read = refl
 
 every_spelled : IsSpelled every_source every_file

@@ -9,6 +9,8 @@ pub mod Places
 pub mod Written
 pub mod Sizes
 pub mod Refused
+-- sources of the default profile limit no length
+pub mod Lengths
 -- sources declare one environment, texts are read as one document, and both sides answer alike
 pub mod Declared
 pub mod Texts

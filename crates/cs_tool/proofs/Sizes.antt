@@ -4,7 +4,7 @@ use Rattle.std.specs.List.{flat_map}
 use Rattle.std.proofs.lemmas.List.{map-append}
 use Rattle.std.proofs.lemmas.List.Sums.{sum_by-cons}
 use Rattle.cs_grammar.specs.Size.{nodes, nodes_all, nodes_fields, nodes_end, nodes_of_definitions, nodes_of_files}
-use Rattle.cs_grammar.specs.Tree.{Tree, atom, named, reference, conjunction, disjunction, paren, struct, list, wide, marked, merged, shut, selected, Trees, none, more, Fields, no_field, field, End, closed, any, each, DefinitionTree, definition, FileTree, file, body, definitions}
+use Rattle.cs_grammar.specs.Tree.{Tree, atom, named, reference, conjunction, disjunction, paren, struct, list, wide, marked, merged, shut, selected, called, imported, Trees, none, more, Fields, no_field, field, End, closed, any, each, DefinitionTree, definition, FileTree, file, body, definitions}
 use Rattle.cs_defaults.specs.Unmarked.{unmarked, unmarked_each, unmarked_fields, unmarked_end, unmarked_definition, unmarked_file}
 use Rattle.cs_embeddings.specs.Size.{size, sizes, size_fields, size_end, size_of_definitions, size_of_files}
 
@@ -23,6 +23,8 @@ module _ (has : List ℕ → Bool) where
     same_size (wide (merged o cs b)) = refl
     same_size (wide (shut o e)) = same_size e
     same_size (wide (selected o s ls)) = refl
+    same_size (wide (called o s f z)) = refl
+    same_size (wide (imported o s)) = refl
 
     same_sizes : (es : Trees) → sizes es ≡ nodes_all (unmarked_each has es)
     same_sizes none = refl

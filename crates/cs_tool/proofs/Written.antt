@@ -15,6 +15,7 @@ use Rattle.cs_defaults.proofs.Sizes.{definitions_no_higher}
 use Rattle.cs_defaults.specs.Unmarked.{unmarked_file}
 use Rattle.cs_defaults.specs.Widened.{IsUnmarked, handing_on}
 use Rattle.cs_embeddings.specs.Without.{IsJoined, IsWithin}
+use Rattle.cs_imports.specs.Imports.{AreWithout}
 use Rattle.cs_names.specs.Names.{AreNamed}
 use Rattle.cs_plain.specs.Selecting.{IsSelectingFile}
 use Rattle.cs_selectors.specs.Selectors.{AreUnselected}
@@ -67,6 +68,9 @@ WritesSpelled = (source : List ℕ) (f : FileTree) → IsSpelledBy source f → 
 -- in every profile, if they are without names
 abbrev pub SpellsNamable : Type 0
 SpellsNamable = (p : Profile) (source : List ℕ) (f : FileTree) → IsSpelledByIn p source f → IsNamableFile f
+
+abbrev pub NamesImported : Type 0
+NamesImported = (fs gs : List FileTree) → AreWithout fs gs → AllByRecursion IsNamableFile fs → AllByRecursion IsNamableFile gs
 
 abbrev pub WritesNamed : Type 0
 WritesNamed = (fs gs : List FileTree) → AreNamed fs gs → AllByRecursion IsNamableFile fs → AllByRecursion IsSelectingFile gs
@@ -123,8 +127,10 @@ all_default law has (f ∷ fs) = (law has f, all_default law has fs)
 
 -- ---- what the files of sources stand for
 
-pub are_meant : (fs ns us cs js gs : List FileTree) → AreNamed fs ns → AreUnselected ns us → AreChosen us cs → IsJoined cs js → IsWithin js → IsUnmarked js gs → AreMeant fs gs
-are_meant fs ns us cs js gs named unselected chosen joined within unmarked = record {
+pub are_meant : (fs ps ns us cs js gs : List FileTree) → AreWithout fs ps → AreNamed ps ns → AreUnselected ns us → AreChosen us cs → IsJoined cs js → IsWithin js → IsUnmarked js gs → AreMeant fs gs
+are_meant fs ps ns us cs js gs imported named unselected chosen joined within unmarked = record {
+  imported = ps;
+  are_imported = imported;
   named = ns;
   are_named = named;
   unselected = us;
@@ -141,10 +147,11 @@ module _ (fs gs : List FileTree) (stand_for : AreMeant fs gs) where
   abbrev has : List ℕ → Bool
   has = handing_on stand_for.joined
 
-  wide_written : (ss : List (List ℕ)) → AreFilesIn profiles.Wide ss fs → SpellsNamable → WritesNamed → WritesUnselected → WritesChosen → WritesJoined → WritesUnmarked
+  wide_written : (ss : List (List ℕ)) → AreFilesIn profiles.Wide ss fs → SpellsNamable → NamesImported → WritesNamed → WritesUnselected → WritesChosen → WritesJoined → WritesUnmarked
       → AllByRecursion IsWrittenFile gs
-  wide_written ss spelled law names selects chooses joins keeps =
-      let named = names fs stand_for.named stand_for.are_named (all_namable law profiles.Wide ss fs spelled) in
+  wide_written ss spelled law imports names selects chooses joins keeps =
+      let imported = imports fs stand_for.imported stand_for.are_imported (all_namable law profiles.Wide ss fs spelled) in
+      let named = names stand_for.imported stand_for.named stand_for.are_named imported in
       let unselected = selects stand_for.named stand_for.unselected stand_for.are_unselected named in
       let chosen = chooses stand_for.unselected stand_for.chosen stand_for.are_chosen unselected in
       let written = joins stand_for.chosen stand_for.joined chosen stand_for.are_joined in
@@ -155,12 +162,12 @@ module _ (fs gs : List FileTree) (stand_for : AreMeant fs gs) where
 
 -- the same in a profile: those of the default one are what is spelled
 module _ (fs gs : List FileTree) where
-  pub meant_written : (p : Profile) (ss : List (List ℕ)) → AreFilesIn p ss fs → AreMeantIn p fs gs → WritesSpelled → SpellsNamable → WritesNamed
+  pub meant_written : (p : Profile) (ss : List (List ℕ)) → AreFilesIn p ss fs → AreMeantIn p fs gs → WritesSpelled → SpellsNamable → NamesImported → WritesNamed
       → WritesUnselected → WritesChosen → WritesJoined → WritesUnmarked → AllByRecursion IsWrittenFile gs
-  meant_written profiles.Default ss spelled same law wide names selects chooses joins keeps =
+  meant_written profiles.Default ss spelled same law wide imports names selects chooses joins keeps =
       subst (λ hs. AllByRecursion IsWrittenFile hs) (sym same) (all_spelled law ss fs spelled)
-  meant_written profiles.Wide ss spelled stand_for law wide names selects chooses joins keeps =
-      wide_written fs gs stand_for ss spelled wide names selects chooses joins keeps
+  meant_written profiles.Wide ss spelled stand_for law wide imports names selects chooses joins keeps =
+      wide_written fs gs stand_for ss spelled wide imports names selects chooses joins keeps
 
   pub meant_default : (p : Profile) (ss : List (List ℕ)) → AreFilesIn p ss fs → AreMeantIn p fs gs → HaveDefaultForms → HaveNoMarks
       → AllByRecursion IsDefaultFile gs

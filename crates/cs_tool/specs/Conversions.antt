@@ -4,6 +4,8 @@ use Rattle.cs_tool.specs.declared.fault.Fault.{Fault}
 use Rattle.cs_tool.specs.declared.fault.Fault.TheVariants.{NoToken, Syntax, LeftOut, IntegerRange, TooHigh, PackageName, UnknownName, FieldReference, NotOpened, Cycle, UnknownRoot, TooLarge, OutOfMemory, ChainTooLong, SchemaNotJson, Keyword, Shape, Reference, Loop, NotJson, NotInteger, TooManyPairs}
 use Rattle.cs_grammar.specs.declared.fault.SyntaxFault.{SyntaxFault}
 use Rattle.cs_grammar.specs.declared.fault.SyntaxFault.TheVariants as syntax
+use Rattle.cs_imports.specs.declared.fault.ImportFault.{ImportFault}
+use Rattle.cs_imports.specs.declared.fault.ImportFault.TheVariants as packages
 use Rattle.cs_names.specs.declared.fault.NameFault.{NameFault}
 use Rattle.cs_names.specs.declared.fault.NameFault.TheVariants as scopes
 use Rattle.cs_selectors.specs.declared.fault.SelectorFault.{SelectorFault}
@@ -37,6 +39,14 @@ of_syntax file (syntax.Syntax offset) = Syntax file offset
 of_syntax file (syntax.LeftOut offset) = LeftOut file offset
 of_syntax file (syntax.IntegerRange offset) = IntegerRange file offset
 of_syntax file syntax.TooHigh = TooHigh file
+
+-- an import of a package that isn't taken, or a call of another function, is a form that is left out; a package that nothing declares is unknown, and so is
+-- an import that nothing names; and a field around a call is no package
+abbrev pub of_import : ImportFault → Fault
+of_import packages.OutOfMemory = OutOfMemory
+of_import (packages.LeftOut file offset) = LeftOut file offset
+of_import (packages.UnknownName file offset) = UnknownName file offset
+of_import (packages.NamesField file offset) = FieldReference file offset
 
 -- a selector from what nothing declares is a form that is left out; a name that nothing declares is unknown, and so is one that is bound and not named; what
 -- a name stands for names no field around it; and a name that two literals declare isn't opened where files join literals

@@ -16,7 +16,7 @@ use Rattle.cs_tool.specs.Conversions.{of_syntax, of_resolve, of_guard}
 use Rattle.cs_tool.specs.FilesIn.{AreFilesIn}
 use Rattle.cs_tool.specs.Stands.{AreMeantIn}
 use Rattle.cs_tool.specs.Texts.{most_bytes, bytes_of, AreTexts}
-use Rattle.cs_tool.specs.Unmeant.{OfWide, IsNameRefusal, IsSelectorRefusal, IsConditionRefusal, IsEmbeddingRefusal, IsMarkRefusal}
+use Rattle.cs_tool.specs.Unmeant.{OfWide, IsImportRefusal, IsNameRefusal, IsSelectorRefusal, IsConditionRefusal, IsEmbeddingRefusal, IsMarkRefusal}
 use Rattle.cs_tool.specs.declared.fault.Fault.{Fault}
 use Rattle.cs_tool.specs.declared.fault.Fault.TheVariants.{SourcesTooLong, NotUtf8, NoToken, Syntax, LeftOut, IntegerRange, TooHigh, PackageName, UnknownName, FieldReference, NotOpened, Cycle, UnknownRoot, TooLarge, OutOfMemory, ChainTooLong}
 
@@ -85,19 +85,19 @@ SourcesFault p sources (IntegerRange number offset) = IsMisspelledIn p sources (
 SourcesFault p sources (TooHigh number) = IsMisspelledIn p sources (TooHigh number) ⊎ OfWide p (IsEmbeddingRefusal sources (TooHigh number))
 SourcesFault p sources (LeftOut number offset) =
     IsMisspelledIn p sources (LeftOut number offset) ⊎ OfWide p
-    (IsNameRefusal sources (LeftOut number offset) ⊎ (IsSelectorRefusal sources (LeftOut number offset)
-    ⊎ (IsConditionRefusal sources (LeftOut number offset) ⊎ IsMarkRefusal sources (LeftOut number offset))))
+    (IsImportRefusal sources (LeftOut number offset) ⊎ (IsNameRefusal sources (LeftOut number offset) ⊎ (IsSelectorRefusal sources (LeftOut number offset)
+    ⊎ (IsConditionRefusal sources (LeftOut number offset) ⊎ IsMarkRefusal sources (LeftOut number offset)))))
 SourcesFault p sources (PackageName number) = IsNoPackage p sources (PackageName number)
 SourcesFault p sources (TooLarge definitions) =
     OfWide p (IsSelectorRefusal sources (TooLarge definitions) ⊎ IsEmbeddingRefusal sources (TooLarge definitions))
     ⊎ IsNoPackage p sources (TooLarge definitions)
 SourcesFault p sources (UnknownName number offset) =
-    OfWide p (IsNameRefusal sources (UnknownName number offset) ⊎ (IsSelectorRefusal sources (UnknownName number offset)
-    ⊎ IsEmbeddingRefusal sources (UnknownName number offset)))
+    OfWide p (IsImportRefusal sources (UnknownName number offset) ⊎ (IsNameRefusal sources (UnknownName number offset)
+    ⊎ (IsSelectorRefusal sources (UnknownName number offset) ⊎ IsEmbeddingRefusal sources (UnknownName number offset))))
     ⊎ IsNoPackage p sources (UnknownName number offset)
 SourcesFault p sources (FieldReference number offset) =
-    OfWide p (IsNameRefusal sources (FieldReference number offset) ⊎ (IsSelectorRefusal sources (FieldReference number offset)
-    ⊎ IsConditionRefusal sources (FieldReference number offset)))
+    OfWide p (IsImportRefusal sources (FieldReference number offset) ⊎ (IsNameRefusal sources (FieldReference number offset)
+    ⊎ (IsSelectorRefusal sources (FieldReference number offset) ⊎ IsConditionRefusal sources (FieldReference number offset))))
     ⊎ IsNoPackage p sources (FieldReference number offset)
 SourcesFault p sources (NotOpened number offset) =
     OfWide p (IsNameRefusal sources (NotOpened number offset) ⊎ IsEmbeddingRefusal sources (NotOpened number offset))

@@ -9,7 +9,6 @@ use Rattle.cs_instance.specs.Instance.{Rule, definition, IsInstance}
 use Rattle.cs_instance.specs.Instance as instance
 use Rattle.cs_instance.specs.Rules.{HasManyPairs}
 use Rattle.cs_profile.specs.declared.keyword.Vocabulary.{Vocabulary}
-use Rattle.cs_profile.specs.declared.keyword.Vocabulary.TheVariants as vocabularies
 use Rattle.cs_schema.specs.Keywords.{defined}
 use Rattle.cs_schema.specs.Profile.{IsSchema}
 use Rattle.cs_schema.specs.Root.{reference_to, with_definitions}
@@ -19,6 +18,7 @@ use Rattle.cs_schema.specs.Validity as validity
 use Rattle.cs_validate.specs.Rules as validate
 use Rattle.cs_compile.specs.Depth.{most_schema_depth}
 use Rattle.cs_tool.specs.Accepted.{DeclaresRoot}
+use Rattle.cs_tool.specs.Vocabularies.{exported_vocabulary}
 
 -- the text is the schema of the root definition that the sources declare in the profile
 pub record IsExport (p : Profile) (sources : List (List ℕ)) (root text : List ℕ) : Type 0 where
@@ -26,12 +26,13 @@ pub record IsExport (p : Profile) (sources : List (List ℕ)) (root text : List 
   pub environment : Environment
   pub name : List ℕ
   pub declares : DeclaresRoot p sources root environment name
-  -- the text is the compact text of a schema of the default profile, nests no deeper than `most_schema_depth` (114) and is read as that schema
+  -- the text is the compact text of a schema with only keywords of the default vocabulary, in the wide profile also of the wide one where the sources limit
+  -- a length; it nests no deeper than `most_schema_depth` (114), and the text is read as that schema
   pub schema : Document
   pub written : text ≡ text_of schema
   pub nested : depth schema ≤ most_schema_depth
   pub read : Reads text schema
-  pub profile : IsSchema vocabularies.Default schema
+  pub profile : IsSchema (exported_vocabulary p environment) schema
   pub trimmed : trim schema ≡ schema
   -- it refers to the root's definition, and defines exactly the names that this one reaches, itself among them
   pub refers : (ds : Option Document) × (schema ≡ with_dialect (with_definitions ds (reference_to name)))

@@ -4,6 +4,7 @@ pub mod Texts
 pub mod FilesIn
 pub mod Stands
 pub mod Accepted
+pub mod Vocabularies
 pub mod Headline
 pub mod Translated
 pub mod Agreement

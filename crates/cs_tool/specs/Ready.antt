@@ -7,13 +7,13 @@ use Rattle.cs_package.specs.Environment.{Environment}
 use Rattle.cs_instance.specs.Refusal.{AreManyPairs}
 use Rattle.cs_instance.specs.Rules.{HasManyPairs}
 use Rattle.cs_profile.specs.declared.keyword.Vocabulary.{Vocabulary}
-use Rattle.cs_profile.specs.declared.keyword.Vocabulary.TheVariants as vocabularies
 use Rattle.cs_schema.specs.Profile.{IsSchema}
 use Rattle.cs_validate.specs.Refusal as invalid
 use Rattle.cs_validate.specs.Rules as validate
 use Rattle.cs_tool.specs.Accepted.{DeclaresRoot}
 use Rattle.cs_tool.specs.Headline.{IsExport}
 use Rattle.cs_tool.specs.Translated.{IsTranslated}
+use Rattle.cs_tool.specs.Vocabularies.{vocabulary_of}
 
 -- the sources declare the root in the profile
 abbrev pub IsReady : Profile → List (List ℕ) → List ℕ → Type 0
@@ -52,7 +52,7 @@ pub record ExportHasManyPairs (p : Profile) (sources : List (List ℕ)) (root te
   pub schema_text : List ℕ
   pub exported : IsExport p sources root schema_text
   pub translated : IsTranslated p sources root schema_text
-  pub many : SchemaHasManyPairs vocabularies.Default schema_text text items rules
+  pub many : SchemaHasManyPairs (vocabulary_of p) schema_text text items rules
 
 -- ---- what is answered, unless memory runs out
 

@@ -4,11 +4,11 @@ use Rattle.cs_document.specs.Document.{Document}
 use Rattle.cs_grammar.specs.declared.profile.Profile.{Profile}
 use Rattle.cs_package.specs.Environment.{Environment}
 use Rattle.cs_profile.specs.declared.keyword.Vocabulary.{Vocabulary}
-use Rattle.cs_profile.specs.declared.keyword.Vocabulary.TheVariants as vocabularies
 use Rattle.cs_schema.specs.Trim.{trim}
 use Rattle.cs_tool.specs.Accepted.{DeclaresRoot}
 use Rattle.cs_tool.specs.Headline.{IsExport}
 use Rattle.cs_tool.specs.Translated.{IsTranslated}
+use Rattle.cs_tool.specs.Vocabularies.{vocabulary_of}
 use Rattle.cs_tool.specs.CallRefusals.{IsSchemaText}
 
 -- the text is that of a schema with only keywords that are taken, which is this one when it is trimmed
@@ -22,4 +22,4 @@ pub record AreSidesOf (p : Profile) (sources : List (List ℕ)) (root : List ℕ
   pub schema_text : List ℕ
   pub exported : IsExport p sources root schema_text
   pub translated : IsTranslated p sources root schema_text
-  pub read : IsSchemaOf vocabularies.Default schema_text schema
+  pub read : IsSchemaOf (vocabulary_of p) schema_text schema

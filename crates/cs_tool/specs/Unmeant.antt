@@ -11,33 +11,49 @@ use Rattle.cs_defaults.specs.declared.fault.DefaultFault.{DefaultFault}
 use Rattle.cs_embeddings.specs.Without as embeddings
 use Rattle.cs_embeddings.specs.Without.{IsJoined}
 use Rattle.cs_embeddings.specs.declared.fault.EmbeddingFault.{EmbeddingFault}
+use Rattle.cs_imports.specs.Imports as imports
+use Rattle.cs_imports.specs.Imports.{AreWithout}
+use Rattle.cs_imports.specs.declared.fault.ImportFault.{ImportFault}
 use Rattle.cs_names.specs.Names as names
 use Rattle.cs_names.specs.Names.{AreNamed}
 use Rattle.cs_names.specs.declared.fault.NameFault.{NameFault}
 use Rattle.cs_selectors.specs.Selectors as selectors
 use Rattle.cs_selectors.specs.Selectors.{AreUnselected}
 use Rattle.cs_selectors.specs.declared.fault.SelectorFault.{SelectorFault}
-use Rattle.cs_tool.specs.Conversions.{of_name, of_selector, of_condition, of_embedding, of_mark}
+use Rattle.cs_tool.specs.Conversions.{of_import, of_name, of_selector, of_condition, of_embedding, of_mark}
 use Rattle.cs_tool.specs.FilesIn.{AreFilesIn}
 use Rattle.cs_tool.specs.Texts.{AreTexts}
 use Rattle.cs_tool.specs.declared.fault.Fault.{Fault}
 
--- the sources spell files in the wide profile, and that is why these don't stand for files without names
+-- the sources spell files in the wide profile, and that is why these don't stand for files without imports
+pub record IsImportRefusal (sources : List (List ℕ)) (f : Fault) : Type 0 where
+  pub texts : AreTexts sources
+  pub files : List FileTree
+  pub spelled : AreFilesIn profiles.Wide sources files
+  pub fault : ImportFault
+  pub refused : imports.IsRefusal fault files
+  pub told : f ≡ of_import fault
+
+-- they stand for files without imports, and that is why these don't stand for files without names
 pub record IsNameRefusal (sources : List (List ℕ)) (f : Fault) : Type 0 where
   pub texts : AreTexts sources
   pub files : List FileTree
   pub spelled : AreFilesIn profiles.Wide sources files
+  pub imported : List FileTree
+  pub are_imported : AreWithout files imported
   pub fault : NameFault
-  pub refused : names.IsRefusal fault files
+  pub refused : names.IsRefusal fault imported
   pub told : f ≡ of_name fault
 
--- they stand for files without names, and that is why these don't stand for files without selectors
+-- these stand for files without names, and that is why these don't stand for files without selectors
 pub record IsSelectorRefusal (sources : List (List ℕ)) (f : Fault) : Type 0 where
   pub texts : AreTexts sources
   pub files : List FileTree
   pub spelled : AreFilesIn profiles.Wide sources files
+  pub imported : List FileTree
+  pub are_imported : AreWithout files imported
   pub named : List FileTree
-  pub are_named : AreNamed files named
+  pub are_named : AreNamed imported named
   pub fault : SelectorFault
   pub refused : selectors.IsRefusal fault named
   pub told : f ≡ of_selector fault
@@ -47,8 +63,10 @@ pub record IsConditionRefusal (sources : List (List ℕ)) (f : Fault) : Type 0 w
   pub texts : AreTexts sources
   pub files : List FileTree
   pub spelled : AreFilesIn profiles.Wide sources files
+  pub imported : List FileTree
+  pub are_imported : AreWithout files imported
   pub named : List FileTree
-  pub are_named : AreNamed files named
+  pub are_named : AreNamed imported named
   pub unselected : List FileTree
   pub are_unselected : AreUnselected named unselected
   pub fault : ConditionFault
@@ -60,8 +78,10 @@ pub record IsEmbeddingRefusal (sources : List (List ℕ)) (f : Fault) : Type 0 w
   pub texts : AreTexts sources
   pub files : List FileTree
   pub spelled : AreFilesIn profiles.Wide sources files
+  pub imported : List FileTree
+  pub are_imported : AreWithout files imported
   pub named : List FileTree
-  pub are_named : AreNamed files named
+  pub are_named : AreNamed imported named
   pub unselected : List FileTree
   pub are_unselected : AreUnselected named unselected
   pub chosen : List FileTree
@@ -75,8 +95,10 @@ pub record IsMarkRefusal (sources : List (List ℕ)) (f : Fault) : Type 0 where
   pub texts : AreTexts sources
   pub files : List FileTree
   pub spelled : AreFilesIn profiles.Wide sources files
+  pub imported : List FileTree
+  pub are_imported : AreWithout files imported
   pub named : List FileTree
-  pub are_named : AreNamed files named
+  pub are_named : AreNamed imported named
   pub unselected : List FileTree
   pub are_unselected : AreUnselected named unselected
   pub chosen : List FileTree

@@ -16,6 +16,7 @@ ghost use Rattle.cs_tool.specs.CallRefusals.{ExportRefusal};
 
 use crate::Fault;
 use crate::packages::accepted_package;
+use crate::vocabularies::default_sources_have_no_lengths;
 use cs_compile::compile;
 use cs_guard::Guarded;
 use cs_json::write_doc;
@@ -76,6 +77,7 @@ pub(crate) fn exported(alloc: Global, guarded: &Guarded, root: &str) -> Result<V
         → Names guarded.now root.now n → IsOkUnless result Fault.OutOfMemory }
 {
     let schema = compile(alloc, guarded, root)?;
+    default_sources_have_no_lengths(); // for the proof: in the default profile it has no keyword of lengths
     cs_instance::one_meaning(guarded); // for the proof: there is one instance relation
     cs_schema::one_meaning(&schema); // for the proof: there is one validity
     text_of_schema(alloc, &schema)

@@ -20,6 +20,7 @@ mod rules;
 mod runs;
 mod slices;
 mod verdicts;
+mod vocabularies;
 mod writes;
 
 pub use calls::{agree, agree_in, validate, validate_by, vet, vet_in};
@@ -42,4 +43,5 @@ pub use rules::Rules;
 pub use runs::run;
 pub use slices::slices_of;
 pub use verdicts::{is_instance, is_valid};
+pub use vocabularies::{default_sources_have_no_lengths, vocabulary_of};
 pub use writes::{put, write_fault, write_part, write_text};

@@ -15,6 +15,9 @@ ghost use Rattle.cs_defaults.specs.Widened.{IsUnmarked, mark_faults};
 ghost use Rattle.cs_embeddings.specs.declared.fault.EmbeddingFault.{EmbeddingFault};
 ghost use Rattle.cs_embeddings.specs.Without as embeddings;
 ghost use Rattle.cs_embeddings.specs.Without.{IsJoined, IsWithin, flaws_of_files, clashes_of_files};
+ghost use Rattle.cs_imports.specs.declared.fault.ImportFault.{ImportFault};
+ghost use Rattle.cs_imports.specs.Imports as imports;
+ghost use Rattle.cs_imports.specs.Imports.{AreWithout, import_faults};
 ghost use Rattle.cs_names.specs.declared.fault.NameFault.{NameFault};
 ghost use Rattle.cs_names.specs.Names as names;
 ghost use Rattle.cs_names.specs.Names.{AreNamed, name_faults};
@@ -22,7 +25,7 @@ ghost use Rattle.cs_selectors.specs.declared.fault.SelectorFault.{SelectorFault}
 ghost use Rattle.cs_selectors.specs.Selectors as selectors;
 ghost use Rattle.cs_selectors.specs.Selectors.{AreFew, AreUnselected, selector_faults};
 ghost use Rattle.cs_tool.specs.Accepted.{IsAccepted};
-ghost use Rattle.cs_tool.specs.Conversions.{of_name, of_selector, of_condition, of_embedding, of_mark};
+ghost use Rattle.cs_tool.specs.Conversions.{of_import, of_name, of_selector, of_condition, of_embedding, of_mark};
 ghost use Rattle.cs_tool.specs.First.{SourcesRefusal};
 ghost use Rattle.cs_tool.specs.Given.{bytes_in};
 ghost use Rattle.cs_tool.specs.Stands.{AreMeantBy};
@@ -32,14 +35,15 @@ use crate::packages::spelled_files;
 use cs_conditions::{ConditionFault, have_conditions, without_conditions};
 use cs_defaults::{DefaultFault, without_marks};
 use cs_embeddings::{EmbeddingFault, without_embeddings};
+use cs_imports::{ImportFault, have_imports, without_imports};
 use cs_names::{NameFault, have_names, without_names};
 use cs_selectors::{SelectorFault, have_selectors, without_selectors};
 use cs_syntax::{File, Profile};
 use std::alloc::Global;
 
-/// The files that sources stand for in a profile: those that they spell, in the wide one first without names but definitions, then without
-/// selectors, then without conditions, then without embeddings, and then without marks of defaults. They can be written down as a source of
-/// the default profile.
+/// The files that sources stand for in a profile: those that they spell, in the wide one first without imports and calls, then without names
+/// but definitions, then without selectors, then without conditions, then without embeddings, and then without marks of defaults. They can be
+/// written down.
 ///
 /// # Errors
 /// Those of `accepted_package`, but for what files that are no package or aren't guarded fail.
@@ -57,6 +61,7 @@ pub fn files_meant_by(
 {
     cs_print::spelled_files_are_written(); // for the proof: what the default profile spells can be written down
     cs_print::spelled_files_are_namable(); // for the proof: what a source spells can be written down but for names
+    cs_imports::imported_files_can_be_named(); // for the proof: so can what has no imports
     cs_names::named_files_can_be_written(); // for the proof: what has no names can be written down but for selectors
     cs_selectors::unselected_files_can_be_written(); // for the proof: what has no selectors can be written down
     cs_conditions::chosen_files_can_be_written(); // for the proof: what has no conditions can be written down
@@ -88,14 +93,39 @@ fn wide_files(alloc: Global, sources: &[&[u8]]) -> Result<Vec<File>, Fault>
         → IsAccepted profiles.Wide (bytes_in sources.now) E → IsOkUnless result Fault.OutOfMemory }
 {
     let spelled = spelled_files(alloc, Profile::Wide, sources)?;
-    let named = named_files(alloc, spelled)?;
+    let imported = imported_files(alloc, spelled)?;
+    let named = named_files(alloc, imported)?;
     let unselected = unselected_files(alloc, named)?;
     let chosen = chosen_files(alloc, unselected)?;
     let joined = joined_files(alloc, &chosen)?;
     meant_files(alloc, &joined)
 }
 
-/// Files without names but definitions: those that have none as they are.
+/// Files without imports and calls: those that have none as they are.
+fn imported_files(alloc: Global, spelled: Vec<File>) -> Result<Vec<File>, Fault>
+    ensures found { IfOk result (λ v. AreWithout (map file_view spelled.items) (map file_view v.items)) }
+    ensures refused { IfErr result (λ e. (f : ImportFault) × (e ≡ of_import f)
+        × imports.IsRefusal f (map file_view spelled.items)) }
+    ensures only { import_faults (map file_view spelled.items) ≡ []
+        → IsOkUnless result Fault.OutOfMemory }
+{
+    cs_imports::files_without_imports_stay(); // for the proof: they stand for themselves
+    if !have_imports(&spelled) {
+        return Ok(spelled);
+    }
+    match without_imports(alloc, &spelled) {
+        Ok(imported) => Ok(imported),
+        Err(ImportFault::OutOfMemory) => Err(Fault::OutOfMemory),
+        Err(ImportFault::LeftOut { file, offset }) => Err(Fault::LeftOut { file, offset }),
+        Err(ImportFault::UnknownName { file, offset }) => Err(Fault::UnknownName { file, offset }),
+        Err(ImportFault::NamesField { file, offset }) => Err(Fault::FieldReference {
+            file,
+            offset,
+        }),
+    }
+}
+
+/// Files without names but definitions, that have no imports: those that have none as they are.
 fn named_files(alloc: Global, spelled: Vec<File>) -> Result<Vec<File>, Fault>
     ensures found { IfOk result (λ v. AreNamed (map file_view spelled.items) (map file_view v.items)) }
     ensures refused { IfErr result (λ e. (f : NameFault) × (e ≡ of_name f)

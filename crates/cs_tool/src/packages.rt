@@ -25,9 +25,9 @@ pub const MOST_BYTES: usize = 1_048_576;
 ///
 /// # Errors
 /// The first condition that they fail, in the order of `SourcesFault` (`specs/First.antt`): their size and characters, then those that spell
-/// no file in the profile; in the wide one the first name of a scope at fault, the first selector at fault, the first condition of an `if` at
-/// fault, what is embedded and can't be, and the first mark of a default at fault; and then why what they stand for is no package, or isn't
-/// guarded. `OutOfMemory`.
+/// no file in the profile; in the wide one the first import or call at fault, the first name of a scope at fault, the first selector at fault,
+/// the first condition of an `if` at fault, what is embedded and can't be, and the first mark of a default at fault; and then why what they
+/// stand for is no package, or isn't guarded. `OutOfMemory`.
 pub fn accepted_package(
     alloc: Global,
     profile: Profile,

@@ -11,6 +11,7 @@ use crate::Fault;
 use crate::conversions::of_schema_text;
 use crate::exports::exported;
 use crate::packages::accepted_package;
+use crate::vocabularies::vocabulary_of;
 use cs_guard::Guarded;
 use cs_json::read_doc;
 use cs_profile::Vocabulary;
@@ -56,7 +57,8 @@ pub fn read_schema_text(
     }
 }
 
-/// The package that the sources declare in a profile, and the exported schema of the root, which is read again from its text.
+/// The package that the sources declare in a profile, and the exported schema of the root, which is read again from its text by the
+/// keywords of the profile.
 pub fn read_both(
     alloc: Global,
     profile: Profile,
@@ -72,7 +74,7 @@ pub fn read_both(
     let guarded = accepted_package(alloc, profile, sources)?;
     let schema = read_schema_text(
         alloc,
-        Vocabulary::Default,
+        vocabulary_of(profile),
         &exported(alloc, &guarded, root)?,
     )?;
     Ok((guarded, schema))

@@ -4,13 +4,14 @@ ghost use Rattle.cs_reason_words.specs.Valid.{HasLines, Reports};
 ghost use Rattle.cs_validity_reasons.specs.WhyTold.{says_valid};
 
 use crate::basic::put_basic;
-use cs_document::{Doc, text_length};
+use cs_document::Doc;
 use cs_flat::{Flat, Item};
 use cs_place::{Named, Step};
 use cs_profile::{JsonKind, Keyword, Keywords, Schema};
 use cs_reason_words::{
-    Finding, Form, Found, Kinds, MOST_COMPARISONS, MOST_WANTED, Made, Way, Words, Written, item_at,
-    put_between, put_more, put_step, put_told, report_verdict, told_by,
+    Asked, Finding, Form, Found, Kinds, LEAST, Lengths, MOST, MOST_COMPARISONS, MOST_WANTED, Made,
+    Way, Words, Written, item_at, plural_ending, put_between, put_more, put_step, put_told,
+    report_verdict, told_by,
 };
 use cs_reasons::Telling;
 use cs_validate::SchemaRules;
@@ -28,8 +29,7 @@ pub(crate) struct Schemas<'t> {
     flat: &'t Flat<'t>,
     /// How many more declared keys are compared with keys that aren't allowed.
     comparisons: usize,
-    /// The text whose characters were counted last, by its number, and how many they are: reasons of one value come together.
-    counted: Option<(usize, usize)>,
+    lengths: Lengths<'t>,
 }
 
 /// Where a chain has led to.
@@ -79,39 +79,12 @@ pub(crate) fn put_keywords(path: &mut String, cause: &ValidCause<'_>) -> Written
 }
 
 impl<'t> Schemas<'t> {
-    /// How many characters a text has, by the number of the text.
-    fn characters(&mut self, item: usize, text: &str) -> usize {
-        if let Some((counted, length)) = self.counted
-            && counted == item
-        {
-            return length;
-        }
-        let length = text_length(text);
-        self.counted = Some((item, length));
-        length
-    }
-
-    /// That a value is shorter than it has to be, or longer than it may be.
-    fn wrong_length(&mut self, item: usize, asked: Asked, limit: i64) -> Made<Finding<'t>> {
-        let (reason, asked) = asked;
-        let (whole, count, part) = match item_at(self.flat, item) {
-            Item::Text(text) => ("a text of ", self.characters(item, text), "character"),
-            Item::List(elements) => ("", elements.len(), "element"),
-            Item::Object(members) => ("a map of ", members.len(), "key"),
-            Item::Null | Item::Bool(_) | Item::Int(_) => ("", 0, "element"),
-        };
-        let ending = plural_ending(count == 1);
-        let text = format!(in self.alloc;
-            "found {whole}{count} {part}{ending}, want {asked} {limit}"
-        )?;
-        Ok(Finding::here(reason, text))
-    }
-
     /// That a value isn't what a keyword without parts asks, or is what `not` refuses.
     fn unmet(&mut self, keyword: Keyword, item: usize, keywords: &Keywords) -> Made<Finding<'t>> {
         for (limiting, asked, _, limit) in lengths(keywords) {
             if limiting.name() == keyword.name() {
-                return self.wrong_length(item, asked, limit.unwrap_or(0));
+                let limit = limit.unwrap_or(0);
+                return self.lengths.wrong(self.alloc, item, asked, limit);
             }
         }
         let value = item_at(self.flat, item);
@@ -317,13 +290,6 @@ fn limits(keywords: &Keywords) -> [(Keyword, &'static str, Option<i64>); 4] {
     ]
 }
 
-/// What a limit of lengths asks, behind which kind of reason it is that a value isn't so, in a word.
-type Asked = (&'static str, &'static str);
-
-const LEAST: Asked = ("few", "at least");
-
-const MOST: Asked = ("many", "at most");
-
 /// The limits of lengths in a schema, each with its keyword, what it asks and what it counts.
 fn lengths(keywords: &Keywords) -> [(Keyword, Asked, &'static str, Option<i64>); 6] {
     [
@@ -339,11 +305,6 @@ fn lengths(keywords: &Keywords) -> [(Keyword, Asked, &'static str, Option<i64>);
         ),
         (Keyword::MaxProperties, MOST, "key", keywords.max_properties),
     ]
-}
-
-/// The ending of what is counted, which may be one.
-fn plural_ending(is_one: bool) -> &'static str {
-    if is_one { "" } else { "s" }
 }
 
 /// Puts all limits of a schema: those of integers, and those of how long texts, lists and maps are.
@@ -406,7 +367,7 @@ pub fn report_validity<'t>(
                 rules,
                 flat,
                 comparisons: MOST_COMPARISONS,
-                counted: None,
+                lengths: Lengths::new(flat),
             };
             let told = told_by(alloc, &mut words, telling, document, reasons)?;
             match form {

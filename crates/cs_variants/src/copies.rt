@@ -1,7 +1,7 @@
 // Copies of expressions, in which something may be put at a place.
 use crate::places::{Change, Made};
 use crate::variants::Draft;
-use cs_package::{FieldMark, Inside, Literal, Part, Shape, ShapeEnd, Simple};
+use cs_package::{Counted, FieldMark, Inside, Literal, Part, Shape, ShapeEnd, Simple};
 use std::alloc::Global;
 
 /// The steps from an expression to a place, where the place is in it, and what is put there.
@@ -30,6 +30,7 @@ impl Draft<'_, '_> {
     fn copy_shape(&self, shape: &Shape, way: Way<'_>) -> Made<Shape> {
         match (change_at(way), shape.inside()) {
             (Change::Simple(simple), _) => shape_of(self.walk.alloc, simple),
+            (Change::Exactly { counted, count }, _) => exactly(self.walk.alloc, counted, count),
             (Change::Definition(number), _) => Ok(Shape::Definition(number)),
             (_, Inside::Simple(simple)) => shape_of(self.walk.alloc, simple),
             (_, Inside::Definition(number)) => Ok(Shape::Definition(number)),
@@ -183,7 +184,31 @@ fn shape_of(alloc: Global, simple: Simple<'_>) -> Made<Shape> {
         Simple::Kind(kind) => Ok(Shape::Kind(kind)),
         Simple::Range { least, greatest } => Ok(Shape::Range { least, greatest }),
         Simple::Bound { relation, limit } => Ok(Shape::Bound { relation, limit }),
+        Simple::Size {
+            counted,
+            is_least,
+            limit,
+        } => Ok(Shape::Size {
+            counted,
+            is_least,
+            limit,
+        }),
     }
+}
+
+/// Exactly so many characters, elements or keys: at least as many, and at most.
+fn exactly(alloc: Global, counted: Counted, limit: i64) -> Made<Shape> {
+    let least = Shape::Size {
+        counted,
+        is_least: true,
+        limit,
+    };
+    let most = Shape::Size {
+        counted,
+        is_least: false,
+        limit,
+    };
+    Ok(Shape::And(vec![in alloc; least, most]?))
 }
 
 /// Whether this is `[string]: T`.

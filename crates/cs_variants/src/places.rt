@@ -1,7 +1,7 @@
 // Which documents are sampled, places in a package, and what is put there: ends of an expression without parts, and what is next to it.
 ghost use Rattle.std.specs.Prelude.{◌≡◌};
 
-use cs_package::{Kind, Literal, Relation, Simple};
+use cs_package::{Counted, Kind, Literal, Relation, Simple};
 use std::alloc::AllocError;
 
 /// What takes memory alone.
@@ -14,6 +14,8 @@ pub enum Change<'a> {
     Same,
     /// An expression without parts.
     Simple(Simple<'a>),
+    /// Exactly so many characters, elements or keys.
+    Exactly { counted: Counted, count: i64 },
     /// A reference to the definition of that number.
     Definition(usize),
     /// The struct with a further key, which it allows.
@@ -65,7 +67,7 @@ impl Sampled {
 }
 
 /// What is put there in one turn and in the next one, where there is something.
-pub(crate) type Turns<'a> = (Option<Simple<'a>>, Option<Simple<'a>>);
+pub(crate) type Turns<'a> = (Option<Change<'a>>, Option<Change<'a>>);
 
 /// The ends of an expression, if it is of a form that has some.
 pub(crate) fn ends_of<'a>(simple: Simple<'_>) -> Option<Turns<'a>> {
@@ -73,6 +75,7 @@ pub(crate) fn ends_of<'a>(simple: Simple<'_>) -> Option<Turns<'a>> {
         Simple::Kind(Kind::Bool) => Some((truth_value(false), truth_value(true))),
         Simple::Range { least, greatest } => Some(integers(Some(least), greatest)),
         Simple::Bound { relation, limit } => Some(integers(around_end(relation, limit).0, None)),
+        Simple::Size { counted, limit, .. } => Some(exactly(counted, Some(limit))),
         Simple::Kind(Kind::Int | Kind::Number | Kind::Text)
         | Simple::Top
         | Simple::Bottom
@@ -86,13 +89,18 @@ pub(crate) fn beside(simple: Simple<'_>) -> Turns<'_> {
     match simple {
         Simple::Literal(Literal::Bool(value)) => (truth_value(!value), None),
         Simple::Literal(Literal::Int(n)) => integers(n.checked_sub(1), n.checked_add(1)),
-        Simple::Literal(Literal::Text(_)) => (Some(Simple::Kind(Kind::Text)), None),
-        Simple::Excluded(literal) => (Some(Simple::Literal(literal)), None),
+        Simple::Literal(Literal::Text(_)) => (Some(Change::Simple(Simple::Kind(Kind::Text))), None),
+        Simple::Excluded(literal) => (Some(Change::Simple(Simple::Literal(literal))), None),
         Simple::Range { least, greatest } => {
             let behind = greatest.and_then(|n| n.checked_add(1));
             integers(least.checked_sub(1), behind)
         }
         Simple::Bound { relation, limit } => integers(around_end(relation, limit).1, None),
+        Simple::Size {
+            counted,
+            is_least,
+            limit,
+        } => exactly(counted, behind_limit(is_least, limit)),
         Simple::Literal(Literal::Null) | Simple::Top | Simple::Bottom | Simple::Kind(_) => {
             (None, None)
         }
@@ -110,11 +118,26 @@ fn around_end(relation: Relation, limit: i64) -> (Option<i64>, Option<i64>) {
     }
 }
 
-fn truth_value<'a>(value: bool) -> Option<Simple<'a>> {
-    Some(Simple::Literal(Literal::Bool(value)))
+/// The count next to those that a limit admits, where there is one.
+fn behind_limit(is_least: bool, limit: i64) -> Option<i64> {
+    if !is_least {
+        limit.checked_add(1)
+    } else if limit > 0 {
+        Some(limit - 1)
+    } else {
+        None
+    }
+}
+
+fn truth_value<'a>(value: bool) -> Option<Change<'a>> {
+    Some(Change::Simple(Simple::Literal(Literal::Bool(value))))
+}
+
+fn exactly<'a>(counted: Counted, count: Option<i64>) -> Turns<'a> {
+    (count.map(|count| Change::Exactly { counted, count }), None)
 }
 
 fn integers<'a>(first: Option<i64>, second: Option<i64>) -> Turns<'a> {
-    let integer = |n| Simple::Literal(Literal::Int(n));
+    let integer = |n| Change::Simple(Simple::Literal(Literal::Int(n)));
     (first.map(integer), second.map(integer))
 }

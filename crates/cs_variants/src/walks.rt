@@ -248,8 +248,8 @@ impl<'a> Walk<'a> {
         };
         self.begin_rule();
         for turn in &[first, second] {
-            if let Some(simple) = turn {
-                self.put(self.which, Change::Simple(*simple))?;
+            if let Some(change) = turn {
+                self.put(self.which, *change)?;
             }
         }
         self.put(Sampled::Invalid, Change::Simple(Simple::Top))

@@ -3,7 +3,7 @@
 use Rattle.std.proofs.Common.{◌≡◌, ℕ, zero, suc, Bool, true, false, cond, List, [], ◌∷◌, ◌++◌, map, refl, ap}
 use Rattle.std.specs.List.{flat_map, AllByRecursion}
 use Rattle.cs_grammar.specs.declared.ast.FieldMark.{FieldMark}
-use Rattle.cs_grammar.specs.Tree.{Label, Tree, atom, named, reference, conjunction, disjunction, paren, struct, list, wide, marked, merged, shut, selected, Declarations, no_declaration, declared, embedded, conditional, Trees, none, more, Fields, no_field, field, DefinitionTree}
+use Rattle.cs_grammar.specs.Tree.{Label, Tree, atom, named, reference, conjunction, disjunction, paren, struct, list, wide, marked, merged, shut, selected, called, imported, Declarations, no_declaration, declared, embedded, conditional, Trees, none, more, Fields, no_field, field, DefinitionTree}
 use Rattle.cs_grammar.specs.Bodies.{bodies}
 use Rattle.cs_embeddings.specs.Alternatives.{Origin, Alternative, with_declaration, with_fields, opened_if, meets, meet, embedded_at, referred_at, join_declarations, join_bodies, join_operands, join_all, join_definition, alternatives}
 
@@ -107,6 +107,8 @@ module _ (R : Alternative → Alternative → Type 0) where
     alternatives_alongside ds (suc n) p (wide (marked o e)) a b h = tt
     alternatives_alongside ds (suc n) p (wide (shut o e)) a b h = tt
     alternatives_alongside ds (suc n) p (wide (selected o s ls)) a b h = tt
+    alternatives_alongside ds (suc n) p (wide (called o s f z)) a b h = tt
+    alternatives_alongside ds (suc n) p (wide (imported o s)) a b h = tt
     alternatives_alongside ds (suc n) p (paren e) a b h = alternatives_alongside ds n p e a b h
     alternatives_alongside ds (suc n) p (disjunction es) a b h = operands_alongside (alternatives ds n) (alternatives_alongside ds n) p es a b h
     alternatives_alongside ds (suc n) p (conjunction es) a b h =

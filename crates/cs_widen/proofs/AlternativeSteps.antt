@@ -2,7 +2,7 @@
 use Rattle.std.proofs.Common.{◌≡◌, ℕ, zero, suc, Bool, true, false, cond, List, [], ◌∷◌, ◌++◌, map, refl, ap, ap₂, ◌∙◌}
 use Rattle.std.proofs.lemmas.Bool.{and_parts, both_ways}
 use Rattle.std.specs.List.{flat_map, list_all}
-use Rattle.cs_grammar.specs.Tree.{Tree, atom, named, reference, conjunction, disjunction, paren, struct, list, wide, marked, merged, shut, selected, Declarations, no_declaration, declared, embedded, conditional, Trees, none, more, DefinitionTree}
+use Rattle.cs_grammar.specs.Tree.{Tree, atom, named, reference, conjunction, disjunction, paren, struct, list, wide, marked, merged, shut, selected, called, imported, Declarations, no_declaration, declared, embedded, conditional, Trees, none, more, DefinitionTree}
 use Rattle.cs_grammar.specs.Bodies.{bodies}
 use Rattle.cs_embeddings.specs.Alternatives.{Origin, Alternative, with_declaration, opened_if, meets, meet, embedded_at, referred_at, join_declarations, join_bodies, join_operands, join_all, join_definition, alternatives}
 use Rattle.cs_embeddings.specs.Embedded.{has_operand, all_embedded, embeds_well, declarations_embed_well, can_be_embedded}
@@ -68,6 +68,8 @@ module _ (ds : List DefinitionTree) where
   alternatives_same (suc n) (suc m) p (wide (marked o e)) h k a = refl
   alternatives_same (suc n) (suc m) p (wide (shut o e)) h k a = refl
   alternatives_same (suc n) (suc m) p (wide (selected o s ls)) h k a = refl
+  alternatives_same (suc n) (suc m) p (wide (called o s f z)) h k a = refl
+  alternatives_same (suc n) (suc m) p (wide (imported o s)) h k a = refl
   alternatives_same (suc n) (suc m) p (paren e) h k a = alternatives_same n m p e h k a
   alternatives_same (suc n) (suc m) p (disjunction es) h k a =
       let u = and_parts (has_operand es) (all_embedded (can_be_embedded ds n) es) h in

@@ -12,7 +12,7 @@ use Rattle.cs_document.specs.Document.{Document, Entry, entries, under}
 use Rattle.cs_document.specs.Opened.{opened}
 use Rattle.cs_grammar.specs.declared.ast.FieldMark.{FieldMark}
 use Rattle.cs_grammar.specs.declared.ast.FieldMark.TheVariants.{Regular, Optional, Required}
-use Rattle.cs_grammar.specs.Atom.{Atom, top, bottom, null, boolean, integer, text, bound, not_integer, not_text, not_null}
+use Rattle.cs_grammar.specs.Atom.{Atom, top, bottom, null, boolean, integer, text, bound, not_integer, not_text, not_null, size}
 use Rattle.cs_grammar.specs.Tree as T
 use Rattle.cs_grammar.specs.Tree.{Test, present, truth, equals, compares, Tree, atom, named, disjunction, Trees, DefinitionTree}
 use Rattle.cs_grammar.specs.View.{trees_of}
@@ -142,6 +142,7 @@ module _ (E : Environment) (I : Rule → Document → Bool) (is : IsInstance E I
   bare_own (not_integer z) k = tt
   bare_own (not_text s) k = tt
   bare_own not_null k = tt
+  bare_own (size c b z) k = tt
 
   no_mark : (es : List Tree) → AreBare es → first_mark (trees_of es) ≡ nowhere
   no_mark [] h = refl
@@ -277,6 +278,7 @@ module _ (E : Environment) (I : Rule → Document → Bool) (is : IsInstance E I
   of_another_literal (not_integer z) k o y spelled h = cc
   of_another_literal (not_text s) k o y spelled h = cc
   of_another_literal not_null k o y spelled h = cc
+  of_another_literal (size c b z) k o y spelled h = cc
 
   of_value : (t : Test) (met : Bool) (k : Kinds) (o : ℕ) (y : Document) → is_spelled t ≡ true → is_of_kinds k y ≡ true
       → reads true y (value_where t met k o) ≡ passes t met (literal_read y)

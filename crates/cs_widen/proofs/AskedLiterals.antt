@@ -5,7 +5,7 @@ use Rattle.std.specs.Bool.{beq}
 use Rattle.cs_document.specs.Document as D
 use Rattle.cs_document.specs.Document.{Document}
 use Rattle.cs_document.specs.Opened.{opened}
-use Rattle.cs_grammar.specs.Atom.{Atom, Relation, less, at_most, more, at_least, top, bottom, null, boolean, integer, text, bound, not_integer, not_text, not_null}
+use Rattle.cs_grammar.specs.Atom.{Atom, Relation, less, at_most, more, at_least, top, bottom, null, boolean, integer, text, bound, not_integer, not_text, not_null, size}
 use Rattle.cs_instance.specs.Constraint as asks
 use Rattle.cs_instance.specs.Constraint.{admits, outline}
 use Rattle.cs_conditions.specs.Choice.{is_truth, is_integer, is_same, is_related}
@@ -120,6 +120,7 @@ same_literal (bound r z) h y = cc
 same_literal (not_integer z) h y = cc
 same_literal (not_text s) h y = cc
 same_literal not_null h y = cc
+same_literal (size c b z) h y = cc
 
 pub same_truth : (b : Bool) (y : Document) → admits (boolean b) (outline (opened y)) ≡ is_truth b (literal_read y)
 same_truth b D.null = refl

@@ -7,7 +7,7 @@ use Rattle.std.specs.Str.{bytes_eq}
 use Rattle.cs_document.specs.Document.{Document, object, Entry, Members, entries, under}
 use Rattle.cs_grammar.specs.declared.ast.FieldMark.{FieldMark}
 use Rattle.cs_grammar.specs.declared.ast.FieldMark.TheVariants.{Regular, Optional, Required, Every}
-use Rattle.cs_grammar.specs.Tree.{Tree, atom, named, reference, conjunction, disjunction, paren, struct, list, wide, marked, merged, shut, selected, Trees, none, more, Fields, field, DefinitionTree}
+use Rattle.cs_grammar.specs.Tree.{Tree, atom, named, reference, conjunction, disjunction, paren, struct, list, wide, marked, merged, shut, selected, called, imported, Trees, none, more, Fields, field, DefinitionTree}
 use Rattle.cs_instance.specs.Instance.{Rule, node, IsInstance}
 use Rattle.cs_package.specs.Environment.{Environment}
 use Rattle.cs_package.specs.Expression.{operands}
@@ -80,6 +80,8 @@ module _ (has : List ℕ → Bool) (ds : List DefinitionTree) (v : Option ℕ �
   same_first p (more (wide (merged o cs b)) es) = ap (has_default has) (behind_literals ds v (at p o) (joined_each ds v false p es) (alternatives_of ds p cs b)) ∙ same_first p es
   same_first p (more (wide (shut o e)) es) = same_first p es
   same_first p (more (wide (selected o s ls)) es) = same_first p es
+  same_first p (more (wide (called o s f z)) es) = same_first p es
+  same_first p (more (wide (imported o s)) es) = same_first p es
 
   same_default : (p : Option ℕ) (e : Tree) → has_default has (leading (joined_with ds v true p e)) ≡ has_default has (leading e)
   same_default p (atom a) = refl
@@ -93,6 +95,8 @@ module _ (has : List ℕ → Bool) (ds : List DefinitionTree) (v : Option ℕ �
   same_default p (wide (marked o e)) = refl
   same_default p (wide (shut o e)) = same_default p e
   same_default p (wide (selected o s ls)) = refl
+  same_default p (wide (called o s f z)) = refl
+  same_default p (wide (imported o s)) = refl
   same_default p (wide (merged o cs b)) = ap (has_default has) (literals_lead_nowhere ds v true (at p o) (alternatives_of ds p cs b))
 
 default_stays : (has : List ℕ → Bool) (ds : List DefinitionTree) (n : ℕ) (p : Option ℕ) (e : Tree)

@@ -4,7 +4,7 @@ use Rattle.std.proofs.lemmas.Bool.{cond-true, cond-false}
 use Rattle.std.specs.Prelude.{◌&&◌, ◌||◌, not}
 use Rattle.std.specs.List.{list_all}
 use Rattle.cs_document.specs.Document.{Document}
-use Rattle.cs_grammar.specs.Tree.{Tree, atom, named, reference, conjunction, disjunction, paren, struct, list, wide, marked, merged, shut, selected, Trees, none, more, DefinitionTree}
+use Rattle.cs_grammar.specs.Tree.{Tree, atom, named, reference, conjunction, disjunction, paren, struct, list, wide, marked, merged, shut, selected, called, imported, Trees, none, more, DefinitionTree}
 use Rattle.cs_instance.specs.Instance.{Rule, node, IsInstance}
 use Rattle.cs_package.specs.Environment.{Environment}
 use Rattle.cs_package.specs.Expression as cue
@@ -61,6 +61,8 @@ module _ (has : List ℕ → Bool) (ds : List DefinitionTree) (v : Option ℕ �
   plain_unreferred whole p (wide (merged o cs b)) h = cc
   plain_unreferred whole p (wide (shut o e)) h = plain_unreferred true p e h
   plain_unreferred whole p (wide (selected o s ls)) h = refl
+  plain_unreferred whole p (wide (called o s f z)) h = refl
+  plain_unreferred whole p (wide (imported o s)) h = refl
 
   rest_unreferred : (p : Option ℕ) (es : Trees) → AreUnreferred (unmarked_each has (beside None es (joined_each ds v false p es)))
   rest_unreferred p none = tt

@@ -4,7 +4,7 @@ use Rattle.std.specs.Prelude.{◌≡◌, ℕ, suc, Bool, true, false, not, List,
 use Rattle.std.specs.Bool.{beq}
 use Rattle.cs_document.specs.Document as D
 use Rattle.cs_document.specs.Document.{Document, Members, entries, under}
-use Rattle.cs_grammar.specs.Atom.{Atom, top, bottom, null, boolean, integer, text, bound, not_integer, not_text, not_null}
+use Rattle.cs_grammar.specs.Atom.{Atom, top, bottom, null, boolean, integer, text, bound, not_integer, not_text, not_null, size}
 use Rattle.cs_grammar.specs.Tree.{Test, present, truth, equals, compares, Condition, Tree, DefinitionTree}
 use Rattle.cs_grammar.specs.View.{Seen}
 use Rattle.cs_instance.specs.Instance.{Rule, node}
@@ -69,6 +69,7 @@ is_scalar (bound r z) = false
 is_scalar (not_integer z) = false
 is_scalar (not_text s) = false
 is_scalar not_null = false
+is_scalar (size c b z) = false
 
 -- a test as sources spell it: what is equal is a literal
 abbrev pub is_spelled : Test → Bool

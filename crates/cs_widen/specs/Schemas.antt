@@ -1,5 +1,5 @@
--- Which keywords are taken in a profile, and which schema a schema's text stands for: in the wide one that without its defaults (own rule; JSON
--- Schema Validation 2020-12, section 9.2), which validates the same documents.
+-- Which schema a schema's text stands for in a profile: in the wide one that without its defaults (own rule; JSON Schema Validation 2020-12,
+-- section 9.2), which validates the same documents.
 use Rattle.std.specs.Prelude.{◌≡◌, ◌≤◌, ℕ, List, Option, Some, None, option_map, Vec}
 use Rattle.std.specs.Option.{unwrap_or}
 use Rattle.std.specs.declared.alloc.Global.{Global}
@@ -9,15 +9,9 @@ use Rattle.cs_grammar.specs.declared.profile.Profile.{Profile}
 use Rattle.cs_grammar.specs.declared.profile.Profile.TheVariants as profiles
 use Rattle.cs_json.specs.Texts.{Reads}
 use Rattle.cs_profile.specs.Profile.{IsSchema}
-use Rattle.cs_profile.specs.declared.keyword.Vocabulary.{Vocabulary}
 use Rattle.cs_profile.specs.declared.keyword.Vocabulary.TheVariants as vocabularies
 use Rattle.cs_describe.specs.Meaning.{SameValidity}
 use Rattle.cs_describe.specs.Plain.{without_defaults}
-
--- the keywords that schemas are read by in a profile
-abbrev pub vocabulary_of : Profile → Vocabulary
-vocabulary_of profiles.Default = vocabularies.Default
-vocabulary_of profiles.Wide = vocabularies.Wide
 
 abbrev pub bytes_of : Option (Vec ℕ Global) → Option (List ℕ)
 bytes_of s = option_map (λ v. v.items) s

@@ -1,11 +1,12 @@
 // What holds of what sources stand for.
-ghost use Rattle.std.specs.Prelude.{ℕ, List, [], ◌∷◌, Bool};
+ghost use Rattle.std.specs.Prelude.{◌≡◌, ℕ, List, [], ◌∷◌, Bool, false};
 ghost use Rattle.cs_document.specs.Document.{Document};
 ghost use Rattle.cs_instance.specs.Instance.{Rule, IsInstance};
 ghost use Rattle.cs_grammar.specs.Tree.{FileTree};
 ghost use Rattle.cs_grammar.specs.declared.profile.Profile.{Profile};
 ghost use Rattle.cs_grammar.specs.declared.profile.Profile.TheVariants as profiles;
 ghost use Rattle.cs_package.specs.Environment.{Environment};
+ghost use Rattle.cs_print.specs.Sizes.{have_sizes};
 ghost use Rattle.cs_resolve.specs.Resolved.{IsPackage};
 ghost use Rattle.cs_tool.specs.Accepted.{IsAccepted};
 ghost use Rattle.cs_tool.specs.FilesIn.{AreFiles};
@@ -69,6 +70,8 @@ pub(crate) fn default_packages_are_meant()
         → AreFiles sources fs → IsPackage fs E → AreMeant fs fs }
 {
     cs_print::spelled_files_are_written(); // for the proof: names in them are fields; `&` has two operands; by the opening rule nothing is put together
+    cs_imports::written_files_have_no_imports(); // for the proof: so they have no imports and no calls
+    cs_imports::files_without_imports_stay(); // for the proof: and stand for themselves
     cs_names::written_files_have_no_names(); // for the proof: so they have no names but definitions
     cs_names::files_without_names_stay(); // for the proof: and stand for themselves
     cs_selectors::written_files_have_no_selectors(); // for the proof: they have no selectors
@@ -88,8 +91,10 @@ pub fn wide_law()
     cs_syntax::wide_reads_the_default(); // for the proof: the wide profile reads them as the default one
 }
 
-/// A law: a source that sources mean in a profile declares in the default one what they declare, where it is no longer than sources may be.
+/// A law: a source that sources mean in a profile declares in the default one what they declare, where they limit no length and it is no longer
+/// than sources may be.
 pub fn meant_law()
     ensures { (p : Profile) (sources : List (List ℕ)) (source : List ℕ) (m : IsMeantIn p sources source)
-        → AreTexts (source ∷ []) → IsAccepted profiles.Default (source ∷ []) m.environment }
+        → have_sizes m.accepted.meant ≡ false → AreTexts (source ∷ [])
+        → IsAccepted profiles.Default (source ∷ []) m.environment }
 {}

@@ -1,27 +1,16 @@
-// The keywords that are taken in a profile, and the schema that a schema's text stands for: in the wide one that without its defaults, which an
-// export may have.
+// The schema that a schema's text stands for in a profile: in the wide one that without its defaults, which an export may have.
 ghost use Rattle.std.specs.Prelude.{◌≡◌, ◌⊎◌, IfOk, IfErr, IsOkUnless};
 ghost use Rattle.cs_tool.specs.CallRefusals.{ValidateRefusal};
 ghost use Rattle.cs_tool.specs.Headline.{IsValidated};
 ghost use Rattle.cs_tool.specs.Ready.{IsReadyToValidate};
-ghost use Rattle.cs_widen.specs.Schemas.{bytes_of, vocabulary_of, SchemaStandsForIn, StandsWithoutDefaults, SchemaMeans, AlwaysMeans};
+ghost use Rattle.cs_tool.specs.Vocabularies.{vocabulary_of};
+ghost use Rattle.cs_widen.specs.Schemas.{bytes_of, SchemaStandsForIn, StandsWithoutDefaults, SchemaMeans, AlwaysMeans};
 
 use cs_describe::without_defaults;
 use cs_json::{DocFault, read_doc, write_doc};
-use cs_profile::Vocabulary;
 use cs_syntax::Profile;
-use cs_tool::{Fault, validate_by};
+use cs_tool::{Fault, validate_by, vocabulary_of};
 use std::alloc::Global;
-
-/// The keywords that schemas are read by in a profile.
-pub fn vocabulary_of(profile: Profile) -> Vocabulary
-    ensures { result ≡ vocabulary_of profile }
-{
-    match profile {
-        Profile::Default => Vocabulary::Default,
-        Profile::Wide => Vocabulary::Wide,
-    }
-}
 
 /// The text of the schema that a schema's text stands for in a profile: without the `default` of each schema in it (JSON Schema
 /// Validation 2020-12, section 9.2), which says nothing of validity. `None` where it stands for itself: in the default profile, and where

@@ -22,11 +22,12 @@ pub fn widen(alloc: Global, sources: &[&[u8]]) -> Result<String, Fault>
     ensures only { (E : Environment) → IsAccepted profiles.Default (bytes_in sources.now) E
         → IsOkUnless result Fault.OutOfMemory }
 {
+    cs_print::spelled_files_have_no_sizes(); // for the proof: what they spell limits no length
     widen_in(alloc, Profile::Default, sources)
 }
 
 /// The source of one file that sources stand for in a profile, in one layout: `parse_file` answers for it the definitions that they stand
-/// for, in their order.
+/// for, in their order, where they limit no length. With lengths it calls packages, and so is a source of the wide profile.
 ///
 /// # Errors
 /// Those of `accepted_package`.

@@ -53,7 +53,8 @@ fn is_braced(expr: &Expr) -> bool
         | Expr::Or(_)
         | Expr::Paren(_)
         | Expr::List { .. }
-        | Expr::Wide(Wide::Marked { .. } | Wide::Shut { .. } | Wide::Selected { .. }) => false,
+        | Expr::Wide(Wide::Marked { .. } | Wide::Shut { .. } | Wide::Selected { .. })
+        | Expr::Wide(Wide::Called { .. } | Wide::Imported { .. }) => false,
     }
 }
 

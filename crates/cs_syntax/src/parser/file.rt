@@ -138,17 +138,19 @@ impl Parser<'_, '_> {
     }
 
     /// A file, and the end.
-    #[tactic(auto, unfolding(crate::specs::FileReading::file_with))]
+    #[tactic(auto, using(crate::proofs::Reader::names_of_both), unfolding(crate::specs::FileReading::file_with))]
     fn file(&mut self, wide: bool, depth: usize) -> Result<File, SyntaxFault>
         requires { depth ≤ most_depth }
         ensures { Gives file_view result (file_with wide depth (left self.old)) }
     {
         let package = self.package()?;
-        let (definitions, names) = self.lines(wide, depth)?;
+        let mut names = self.imports(wide)?;
+        let (definitions, mut others) = self.lines(wide, depth)?;
         self.expect(end_kind(wide))?;
         if let Some(token) = self.peek() {
             return Err(fault_of(&token));
         }
+        names.append(&mut others)?;
         Ok(File {
             package,
             definitions,
@@ -212,10 +214,12 @@ fn file_within(alloc: Global, tokens: &[Token<'_>]) -> Result<File, SyntaxFault>
 /// The file that a source spells in a profile (CUE, source file organization). In the wide one an operand of `|` may have the
 /// mark of a default, `*`, before it (CUE, default values), a struct literal may have embeddings (CUE, structs: embedding), literals
 /// under conditions (CUE, comprehensions) and names of its own (CUE, definitions and hidden fields, let clauses), a file other names
-/// than definitions, and a name may have selectors (CUE, selectors).
+/// than definitions and imports before them (CUE, import declarations), and a name may have selectors (CUE, selectors) or be that of a
+/// package that is called (CUE, calls).
 ///
 /// # Errors
 /// Those of `lex_in`. `TooHigh` where the tokens nest deeper than 28, or a body is higher than that.
+/// `IntegerRange` also at the `-` of an argument in the wide profile.
 /// `Syntax` or `LeftOut` where the tokens nest no deeper and spell no file of the profile, at one of them.
 pub fn parse_file_in(alloc: Global, profile: Profile, source: &str) -> Result<File, SyntaxFault>
     // What is answered is spelled by the tokens of the source, as the profile takes them, within the limits.

@@ -41,7 +41,7 @@ fn is_low_wide(wide: &Wide, limit: usize) -> bool
             limit > 0 && are_low_declarations(declarations, limit - 1)
         }
         Wide::Shut { value, .. } => limit > 0 && is_low(value, limit - 1),
-        Wide::Selected { .. } => limit > 0,
+        Wide::Selected { .. } | Wide::Called { .. } | Wide::Imported { .. } => limit > 0,
     }
 }
 

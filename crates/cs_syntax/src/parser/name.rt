@@ -2,7 +2,7 @@
 
 ghost use Rattle.std.specs.Prelude.{◌≡◌};
 ghost use Rattle.cs_grammar.specs.TokenWords.{bare_name};
-ghost use Rattle.cs_grammar.specs.Spells.{is_reserved, is_package, is_string, is_close, is_if, is_let};
+ghost use Rattle.cs_grammar.specs.Spells.{is_reserved, is_package, is_string, is_close, is_if, is_let, is_import, is_function};
 
 /// Whether a name can't be an operand.
 pub(crate) fn is_reserved(text: &str) -> bool
@@ -44,6 +44,23 @@ pub(crate) fn is_let(text: &str) -> bool
     ensures { result ≡ is_let text.now }
 {
     text == "let"
+}
+
+/// Whether a name begins an import.
+pub(crate) fn is_import(text: &str) -> bool
+    ensures { result ≡ is_import text.now }
+{
+    text == "import"
+}
+
+/// Whether a function of a package is taken.
+pub(crate) fn is_function(text: &str) -> bool
+    ensures { result ≡ is_function text.now }
+{
+    matches!(
+        text,
+        "MinRunes" | "MaxRunes" | "MinItems" | "MaxItems" | "MinFields" | "MaxFields"
+    )
 }
 
 /// The name of a definition without its `#`.

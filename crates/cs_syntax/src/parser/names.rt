@@ -30,7 +30,7 @@ fn with_hash(alloc: Global, bare: &str) -> Result<String, AllocError>
 impl Parser<'_, '_> {
     /// A name of any kind, as it is written.
     #[tactic(auto, unfolding(crate::specs::Reading::name_at))]
-    fn name(&mut self) -> Result<String, SyntaxFault>
+    pub(crate) fn name(&mut self) -> Result<String, SyntaxFault>
         ensures { Reads string_bytes result self.new (name_at (left self.old)) }
     {
         let Some(token) = self.take() else {
@@ -123,11 +123,18 @@ impl Parser<'_, '_> {
         Ok(Expr::Wide(Wide::Selected { at, name, labels }))
     }
 
-    /// An operand without brackets, with the selectors behind it.
-    #[tactic(auto, unfolding(crate::specs::Reading::leaf_at))]
+    /// An operand without brackets, with the selectors behind it, or a call of a package.
+    #[tactic(auto, using(crate::proofs::CallsRead::undotted), unfolding(crate::specs::Reading::leaf_at))]
     pub(crate) fn leaf(&mut self) -> Result<Expr, SyntaxFault>
         ensures { Reads expr_view result self.new (leaf_at (left self.old)) }
     {
+        // Most operands have no selector, and are known by one token.
+        if !self.is_behind(Kind::Dot) {
+            return self.unbracketed();
+        }
+        if self.begins_called() {
+            return self.called();
+        }
         if self.begins_selected() {
             return self.selected();
         }
@@ -170,9 +177,9 @@ impl Parser<'_, '_> {
         self.begins_binding() || self.begins_declared()
     }
 
-    /// The name that `let` binds.
+    /// The name that `let` or an import binds.
     #[tactic(auto, unfolding(crate::specs::Reading::bound_name_at))]
-    fn bound_name(&mut self) -> Result<String, SyntaxFault>
+    pub(crate) fn bound_name(&mut self) -> Result<String, SyntaxFault>
         ensures { Reads string_bytes result self.new (bound_name_at (left self.old)) }
     {
         let Some(token) = self.take() else {

@@ -3,7 +3,7 @@
 ghost use Rattle.std.specs.Prelude.{◌≡◌};
 ghost use Rattle.cs_grammar.specs.Values.{integer_value};
 ghost use Rattle.cs_syntax.specs.Left.{left, Reads};
-ghost use Rattle.cs_syntax.specs.Reading.{number_at, signed};
+ghost use Rattle.cs_syntax.specs.Reading.{number_at, count_at, signed};
 
 use crate::parser::kind::kind_of;
 use crate::parser::place::{Parser, fault_of};
@@ -48,6 +48,27 @@ impl Parser<'_, '_> {
                 Some(number) => Ok(number),
                 None => Err(fault_of(&token)),
             },
+            _ => Err(fault_of(&token)),
+        }
+    }
+
+    /// An integer of at least 0: a `-` is out of its range.
+    #[tactic(auto, using(crate::proofs::WordKinds::count_other), unfolding(crate::specs::Reading::count_at))]
+    pub(crate) fn count(&mut self) -> Result<i64, SyntaxFault>
+        ensures { Reads (λ z. z) result self.new (count_at (left self.old)) }
+    {
+        let Some(token) = self.take() else {
+            return Err(self.fault());
+        };
+        match kind_of(&token) {
+            Kind::Integer => match signed_value(false, token.text) {
+                Some(count) => Ok(count),
+                None => Err(fault_of(&token)),
+            },
+            Kind::Minus => {
+                let offset = token.start;
+                Err(SyntaxFault::IntegerRange { offset })
+            }
             _ => Err(fault_of(&token)),
         }
     }

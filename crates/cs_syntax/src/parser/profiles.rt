@@ -13,7 +13,7 @@ ghost use Rattle.cs_syntax.specs.AnswerIn.{IsSpelledIn};
 use cs_grammar::{Profile, Sort, Token};
 
 /// The sort of a token in the wide profile: `*`, `==`, `.` and `=` are marks of the grammar, `{` opens a literal that may have embeddings or
-/// conditions, `(` may stand behind `close`, names that begin with `_` are read, and the end says that a file may have names.
+/// conditions, `(` may stand behind `close`, a function of a package and `import`, names that begin with `_` are read, and the end says that a file may have names.
 fn wide_sort(sort: Sort, text: &str) -> Sort
     ensures { result ≡ wide_sort sort text.now }
 {

@@ -3,7 +3,7 @@ use Rattle.cs_document.specs.Document.{object, no_members}
 use Rattle.cs_guard.specs.Guarded.{IsGuarded}
 use Rattle.cs_profile.specs.Profile.{IsSchema}
 use Rattle.cs_profile.specs.SchemaDocument.{SchemaValue, schema_view, present, document_of}
-use Rattle.cs_profile.specs.declared.keyword.Vocabulary.TheVariants as vocabularies
+use Rattle.cs_compile.specs.Sizes.{vocabulary_for}
 use Rattle.cs_compile.specs.Whole.{CompilesAll}
 use Rattle.cs_compile.proofs.Bare.{all_in_profile, whole_all, compiles_all}
 use Rattle.cs_compile.proofs.complete.compile_all.Goals as goal
@@ -29,5 +29,5 @@ returns-in-Ok c =
     let profile = all_in_profile E c.in_ok-definitions.ensures.resolved guarded s root each c.in_ok-definitions.ensures.nothing_else in
     record {
       found = subst (λ F. CompilesAll F c.in-Ok.schema) kept (subst (CompilesAll E) (sym c.in-Ok.ensures.found) made);
-      profile = subst (λ v. IsSchema vocabularies.Default (document_of v)) (sym c.in-Ok.ensures.found) profile;
+      profile = subst (λ F. IsSchema (vocabulary_for F) (document_of c.in-Ok.schema)) kept (subst (λ v. IsSchema (vocabulary_for E) (document_of v)) (sym c.in-Ok.ensures.found) profile);
     }

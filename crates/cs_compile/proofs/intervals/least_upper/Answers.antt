@@ -4,7 +4,7 @@ use Rattle.std.proofs.lemmas.List.{take_all}
 use Rattle.std.specs.List.{filter_map}
 use Rattle.cs_package.specs.View.{expression_of}
 use Rattle.cs_compile.specs.Translation.{upper_limit, least_of}
-use Rattle.cs_compile.proofs.Limits.{least-last, limits-more, high-least}
+use Rattle.cs_compile.proofs.Limits.{least-last, limits-more, some-least}
 use Rattle.cs_compile.proofs.intervals.least_upper.Goals as goal
 
 pub loop-operand-preserved : goal.loop-operand-preserved
@@ -16,7 +16,7 @@ loop-operand-preserved c =
           c.lesser-least.ensures ∙ ap₂ (λ a b. least_of (option_to_list a ++ option_to_list b)) (l.invariant.limit ns) (c.upper_limit.ensures.limit ns)
           ∙ least-last (filter_map upper_limit (map (expression_of ns) (take l.operand-index xs))) (upper_limit (expression_of ns x))
           ∙ ap least_of (sym (limits-more upper_limit (expression_of ns) xs l.operand-index x c.loop-operand-test.true c.operand-item.is));
-      high = subst (λ o. IfSome o (λ k. k <ℤ pos (2 ^ 63))) (sym c.lesser-least.ensures) (high-least l.least c.upper_limit.result (pos (2 ^ 63)) l.invariant.high c.upper_limit.ensures.high);
+      high = subst (λ o. IfSome o (λ k. k <ℤ pos (2 ^ 63))) (sym c.lesser-least.ensures) (some-least (λ k. k <ℤ pos (2 ^ 63)) l.least c.upper_limit.result l.invariant.high c.upper_limit.ensures.high);
     }
 
 pub returns-clause-limit : goal.returns-clause-limit

@@ -1,7 +1,7 @@
-use Rattle.std.proofs.Common.{◌≡◌, [], ◌∷◌, ◌++◌, map, take, length, true, false, Some, None, option_map, string_bytes, rules, sym, ap, ◌∙◌, subst}
+use Rattle.std.proofs.Common.{◌≡◌, [], ◌∷◌, ◌++◌, map, take, length, true, Some, None, option_map, string_bytes, rules, sym, ap, ◌∙◌, subst}
 use Rattle.std.proofs.lemmas.Bool.{and_parts}
 use Rattle.std.proofs.lemmas.Simd.{map-map}
-use Rattle.std.specs.List.{list_all, filter_map}
+use Rattle.std.specs.List.{list_all}
 use Rattle.std.specs.Result.{IfOk}
 use Rattle.cs_document.specs.Document.{object}
 use Rattle.cs_document.specs.View.{documents_of}
@@ -13,9 +13,9 @@ use Rattle.cs_package.proofs.Views.{of-Definition, of-And, of-Or, of-Struct, of-
 use Rattle.cs_package.specs.declared.shape.Shape.{Shape, the_lemmas}
 use Rattle.cs_profile.specs.SchemaDocument.{schema_view, schemas_view}
 use Rattle.cs_compile.specs.Grouped.{declared, with_schema, declarations_at, AreValues}
-use Rattle.cs_compile.specs.Translation.{schema_of, schemas_of, rest_schema, all_of, any_of, enumeration, list_schema, literals, struct_schema, is_interval, lower_limit, upper_limit, greatest_of, least_of, interval_schema}
+use Rattle.cs_compile.specs.Translation.{schema_of, schemas_of, rest_schema, all_of, any_of, enumeration, list_schema, literals, struct_schema, folded}
 use Rattle.cs_compile.proofs.Enumerations.{enumerated, not_enumerated}
-use Rattle.cs_compile.proofs.Limits.{folded, unfolded}
+use Rattle.cs_compile.proofs.Limits.{is_folded, is_unfolded}
 use Rattle.cs_compile.proofs.Parts.{declared_is, declarations-more, named_at}
 use Rattle.cs_compile.proofs.Slots.{operands_seen}
 use Rattle.cs_compile.proofs.translate.+translate.Goals as goal
@@ -25,12 +25,12 @@ use Rattle.cs_compile.proofs.translate.+translate.Goals as goal
 pub schema_of-schemas_of-requires : goal.schema_of-schemas_of-requires
 schema_of-schemas_of-requires t c =
     let n = length c.args.package.now in
-    (search (rules, the_lemmas), subst (λ xs. list_all (is_known n) xs ≡ true) (sym c.deref-in-And-2.ensures.value) (sym (known-And n c.in-And.operands) ∙ ap (is_known n) (sym c.in-And.is) ∙ c.requires))
+    (search (rules, the_lemmas), subst (λ xs. list_all (is_known n) xs ≡ true) (sym c.deref-in-None.ensures.value) (sym (known-And n c.in-And.operands) ∙ ap (is_known n) (sym c.in-And.is) ∙ c.requires))
 
-pub schema_of-schemas_of-requires-in-None : goal.schema_of-schemas_of-requires-in-None
-schema_of-schemas_of-requires-in-None t c =
+pub schema_of-schemas_of-requires-in-None-2 : goal.schema_of-schemas_of-requires-in-None-2
+schema_of-schemas_of-requires-in-None-2 t c =
     let n = length c.args.package.now in
-    (search (rules, the_lemmas), subst (λ xs. list_all (is_known n) xs ≡ true) (sym c.deref-in-None.ensures.value) (sym (known-Or n c.in-Or.operands) ∙ ap (is_known n) (sym c.in-Or.is) ∙ c.requires))
+    (search (rules, the_lemmas), subst (λ xs. list_all (is_known n) xs ≡ true) (sym c.deref-in-None-2.ensures.value) (sym (known-Or n c.in-Or.operands) ∙ ap (is_known n) (sym c.in-Or.is) ∙ c.requires))
 
 pub schema_of-values_of-requires : goal.schema_of-values_of-requires
 schema_of-values_of-requires t c =
@@ -53,42 +53,42 @@ schema_of-returns-in-Definition t c =
     ap (expression_of (declared_names E)) c.in-Definition.is ∙ of-Definition (declared_names E) i ∙ ap (λ n. cue.reference n) (named_at E i _ c.bare_name.ensures.at) in
     rw seen c.reference.ensures
 
-pub schema_of-returns-then-is_interval : goal.schema_of-returns-then-is_interval
-schema_of-returns-then-is_interval t c =
-    let ns = declared_names c.args.package.now in
-    let view = expression_of ns in
-    let seen = ap view c.in-And.is ∙ of-And ns c.in-And.operands in
-    let is : is_interval (map view c.in-And.operands.items) ≡ true = ap (λ xs. is_interval (map view xs)) (sym c.deref-in-And.ensures.value) ∙ sym (c.is_interval.ensures ns) ∙ c.if-is_interval.true in
-    rw seen (subst (λ d. IfOk c.interval.result (λ s. schema_view s ≡ d)) (sym (folded (map view c.in-And.operands.items) is))
-    (subst (λ xs. IfOk c.interval.result (λ s. schema_view s ≡ interval_schema (greatest_of (filter_map lower_limit (map view xs))) (least_of (filter_map upper_limit (map view xs))))) c.deref-then-is_interval.ensures.value (c.interval.ensures ns)))
-
-pub schema_of-returns-in_ok-schemas_of-in-And : goal.schema_of-returns-in_ok-schemas_of-in-And
-schema_of-returns-in_ok-schemas_of-in-And t c =
-    let ns = declared_names c.args.package.now in
-    let view = expression_of ns in
-    let seen = ap view c.in-And.is ∙ of-And ns c.in-And.operands in
-    let none : is_interval (map view c.in-And.operands.items) ≡ false = ap (λ xs. is_interval (map view xs)) (sym c.deref-in-And.ensures.value) ∙ sym (c.is_interval.ensures ns) ∙ c.if-is_interval.false in
-    let made = operands_seen view _ _ c.in_ok-schemas_of-in-And.ensures ∙ ap (λ xs. schemas_of (expressions_of (map view xs))) c.deref-in-And-2.ensures.value in
-    rw seen (subst (λ d. IfOk c.all_of.result (λ s. schema_view s ≡ d)) (sym (unfolded (map view c.in-And.operands.items) none))
-    (subst (λ ds. IfOk c.all_of.result (λ s. schema_view s ≡ object (all_of ds))) made c.all_of.ensures))
-
 pub schema_of-returns-in-Some : goal.schema_of-returns-in-Some
 schema_of-returns-in-Some t c =
     let ns = declared_names c.args.package.now in
     let view = expression_of ns in
-    let seen = ap view c.in-Or.is ∙ of-Or ns c.in-Or.operands in
-    let found : Some (schema_view c.in-Some.schema) ≡ option_map enumeration (literals (map view c.in-Or.operands.items)) =
-    sym (ap (option_map schema_view) c.in-Some.is) ∙ c.in_ok-schema-in-Or.ensures ns ∙ ap (λ xs. option_map enumeration (literals (map view xs))) c.deref-in-Or.ensures.value in
-    rw seen (enumerated (map view c.in-Or.operands.items) (schema_view c.in-Some.schema) found)
+    let seen = ap view c.in-And.is ∙ of-And ns c.in-And.operands in
+    let found : Some (schema_view c.in-Some.schema) ≡ folded (map view c.in-And.operands.items) =
+    sym (ap (option_map schema_view) c.in-Some.is) ∙ c.in_ok-schema-in-And.ensures ns ∙ ap (λ xs. folded (map view xs)) c.deref-in-And.ensures.value in
+    rw seen (is_folded (map view c.in-And.operands.items) (schema_view c.in-Some.schema) found)
 
 pub schema_of-returns-in_ok-schemas_of-in-None : goal.schema_of-returns-in_ok-schemas_of-in-None
 schema_of-returns-in_ok-schemas_of-in-None t c =
     let ns = declared_names c.args.package.now in
     let view = expression_of ns in
+    let seen = ap view c.in-And.is ∙ of-And ns c.in-And.operands in
+    let found : None ≡ folded (map view c.in-And.operands.items) =
+    sym (ap (option_map schema_view) c.in-None.is) ∙ c.in_ok-schema-in-And.ensures ns ∙ ap (λ xs. folded (map view xs)) c.deref-in-And.ensures.value in
+    let made = operands_seen view _ _ c.in_ok-schemas_of-in-None.ensures ∙ ap (λ xs. schemas_of (expressions_of (map view xs))) c.deref-in-None.ensures.value in
+    rw seen (subst (λ d. IfOk c.all_of.result (λ s. schema_view s ≡ d)) (ap (λ ds. object (all_of ds)) made ∙ is_unfolded (map view c.in-And.operands.items) found) c.all_of.ensures)
+
+pub schema_of-returns-in-Some-2 : goal.schema_of-returns-in-Some-2
+schema_of-returns-in-Some-2 t c =
+    let ns = declared_names c.args.package.now in
+    let view = expression_of ns in
+    let seen = ap view c.in-Or.is ∙ of-Or ns c.in-Or.operands in
+    let found : Some (schema_view c.in-Some-2.schema) ≡ option_map enumeration (literals (map view c.in-Or.operands.items)) =
+    sym (ap (option_map schema_view) c.in-Some-2.is) ∙ c.in_ok-schema-in-Or.ensures ns ∙ ap (λ xs. option_map enumeration (literals (map view xs))) c.deref-in-Or.ensures.value in
+    rw seen (enumerated (map view c.in-Or.operands.items) (schema_view c.in-Some-2.schema) found)
+
+pub schema_of-returns-in_ok-schemas_of-in-None-2 : goal.schema_of-returns-in_ok-schemas_of-in-None-2
+schema_of-returns-in_ok-schemas_of-in-None-2 t c =
+    let ns = declared_names c.args.package.now in
+    let view = expression_of ns in
     let seen = ap view c.in-Or.is ∙ of-Or ns c.in-Or.operands in
     let found : None ≡ option_map enumeration (literals (map view c.in-Or.operands.items)) =
-    sym (ap (option_map schema_view) c.in-None.is) ∙ c.in_ok-schema-in-Or.ensures ns ∙ ap (λ xs. option_map enumeration (literals (map view xs))) c.deref-in-Or.ensures.value in
-    let made = operands_seen view _ _ c.in_ok-schemas_of-in-None.ensures ∙ ap (λ xs. schemas_of (expressions_of (map view xs))) c.deref-in-None.ensures.value in
+    sym (ap (option_map schema_view) c.in-None-2.is) ∙ c.in_ok-schema-in-Or.ensures ns ∙ ap (λ xs. option_map enumeration (literals (map view xs))) c.deref-in-Or.ensures.value in
+    let made = operands_seen view _ _ c.in_ok-schemas_of-in-None-2.ensures ∙ ap (λ xs. schemas_of (expressions_of (map view xs))) c.deref-in-None-2.ensures.value in
     rw seen (subst (λ d. IfOk c.any_of.result (λ s. schema_view s ≡ d)) (ap any_of made ∙ not_enumerated (map view c.in-Or.operands.items) found) c.any_of.ensures)
 
 pub schema_of-returns-in_ok-values-in-Struct : goal.schema_of-returns-in_ok-values-in-Struct

@@ -5,9 +5,9 @@ use Rattle.cs_guard.specs.Numbered.{name_of}
 use Rattle.cs_instance.proofs.Verdicts.{one_name}
 use Rattle.cs_profile.specs.Profile.{IsSchema}
 use Rattle.cs_profile.specs.SchemaDocument.{schema_view, document_of}
-use Rattle.cs_profile.specs.declared.keyword.Vocabulary.TheVariants as vocabularies
 use Rattle.cs_compile.specs.Translation.{IsTranslation}
 use Rattle.cs_profile.specs.Root.{reference_to}
+use Rattle.cs_compile.specs.Sizes.{vocabulary_for}
 use Rattle.cs_compile.specs.Whole.{Compiles}
 use Rattle.cs_compile.proofs.Compiled.{in_profile, whole, translates, compiles}
 use Rattle.cs_compile.proofs.whole.compile.Goals as goal
@@ -52,4 +52,4 @@ returns-in-Ok-clause-profile c =
     let there = ap (λ (o : Option (List ℕ)). unwrap_or o []) c.bare_name.ensures.at in
     let root : schema_view c.in_ok-root.root ≡ reference_to (name_of E i) = c.in_ok-root.ensures ∙ ap reference_to (sym there) in
     let made = in_profile E (name_of E i) (record { root = c.in_ok-root.root; definitions = c.in_ok-definitions.definitions.entries }) root c.in_ok-definitions.ensures.each c.in_ok-definitions.ensures.nothing_else (subst IsGuarded (sym c.package-package.ensures.kept) c.package-package.ensures.guarded) in
-    subst (λ v. IsSchema vocabularies.Default (document_of v)) (sym c.in-Ok.ensures.found) made
+    subst (λ F. IsSchema (vocabulary_for F) (document_of c.in-Ok.schema)) c.package-package.ensures.kept (subst (λ v. IsSchema (vocabulary_for E) (document_of v)) (sym c.in-Ok.ensures.found) made)

@@ -6,7 +6,11 @@ use Rattle.cs_document.specs.Document.{depth}
 use Rattle.cs_schema.specs.Root.{with_definitions}
 use Rattle.cs_schema.specs.SchemaDocument.{document_of, definitions_view, unless_no_map}
 use Rattle.cs_schema.specs.Trim.{with_dialect}
+use Rattle.cs_schema.specs.Profile.{IsSchema}
+use Rattle.cs_tool.specs.Given.{bytes_in}
+use Rattle.cs_tool.specs.Vocabularies.{exported_vocabulary}
 use Rattle.cs_tool.proofs.Low.{low_accepted}
+use Rattle.cs_tool.proofs.Lengths.{same_vocabulary}
 use Rattle.cs_export.specs.Components.{components_of}
 use Rattle.cs_export.specs.Shaped.{asked_for, IsShaped, IsRootSchema}
 use Rattle.cs_export.proofs.Deep.{asked_deep, deeper_within}
@@ -19,8 +23,10 @@ returns-clause-found c =
     let one = c.one_meaning-2.ensures in
     let schema = document_of c.in_ok-schema.schema in
     let ds = unless_no_map (definitions_view c.in_ok-schema.schema.definitions) in
+    let taken = exported_vocabulary c.args.profile c.in_ok-package.«package» in
+    let profile = subst (λ v. IsSchema v schema) (same_vocabulary c.default_sources_have_no_lengths.ensures c.args.profile (bytes_in c.args.sources.now) _ at.1.accepted) c.in_ok-schema.ensures.profile in
     let nested : depth schema ≤ 114 = made.2.nested (low_accepted _ _ _ at.1.accepted) in
-    IfOk-weaker _ (λ (v : Vec ℕ Global). IsShaped c.args.layout schema v.items)
+    IfOk-weaker _ (λ (v : Vec ℕ Global). IsShaped taken c.args.layout schema v.items)
     (λ (v : Vec ℕ Global). IsRootSchema _ _ c.args.root.now c.args.layout v.items)
     (λ v shaped.
     let document = shaped.document in
@@ -49,7 +55,7 @@ returns-clause-found c =
             written = shaped.bare b;
             nested = nested;
             read = subst (Reads v.items) same read;
-            profile = c.in_ok-schema.ensures.profile;
+            profile = profile;
             trimmed = c.shaped_text.ensures.trimmed;
             refers = (ds, ap (λ root. with_dialect (with_definitions ds root)) made.2.root);
             definitions = made.2.definitions;
@@ -58,4 +64,4 @@ returns-clause-found c =
             admits = made.2.meaning;
           };
       admits = λ V I g h x is. sym (shaped.same_schema.validity one.some.0 V one.some.1 g x) ∙ made.2.meaning one.some.0 I one.some.1 h x is;
-    }) c.shaped_text.ensures.shaped
+    }) (c.shaped_text.ensures.shaped taken profile)

@@ -3,11 +3,11 @@ use Rattle.std.proofs.lemmas.Result.{on_ok_weaker}
 use Rattle.cs_package.specs.View.{expression_of}
 use Rattle.cs_instance.specs.Steps.{test_of}
 use Rattle.cs_instance.specs.Told.{IsTold}
-use Rattle.cs_instance.proofs.AlikeScalars.{nothing_compared, integer_compared, text_compared, range_compared, more_integers, more_texts}
+use Rattle.cs_instance.proofs.AlikeScalars.{integer_compared, text_compared, range_compared, more_integers, more_texts}
 use Rattle.cs_instance.proofs.marks.mark_test.Goals as goal
 
-pub returns-in-Nothing-clause-told : goal.returns-in-Nothing-clause-told
-returns-in-Nothing-clause-told c = nothing_compared (expression_of [] c.args.shape.now) c.args.marks.now (c.in-Nothing.ensures [])
+pub mark_limit-requires : goal.mark_limit-requires
+mark_limit-requires c = c.in-Nothing.ensures []
 
 pub returns-in-Text-clause-told : goal.returns-in-Text-clause-told
 returns-in-Text-clause-told c =

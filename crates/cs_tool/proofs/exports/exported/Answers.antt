@@ -5,6 +5,7 @@ use Rattle.cs_grammar.specs.declared.profile.Profile.{Profile}
 use Rattle.cs_document.specs.Document.{Document, depth}
 use Rattle.cs_json.specs.Texts.{Reads, text_of}
 use Rattle.cs_package.specs.Environment.{Environment, Names}
+use Rattle.cs_schema.specs.Profile.{IsSchema}
 use Rattle.cs_schema.specs.SchemaDocument.{document_of, definitions_view, unless_no_map}
 use Rattle.cs_schema.specs.Root.{with_definitions}
 use Rattle.cs_schema.specs.Trim.{with_dialect}
@@ -15,6 +16,7 @@ use Rattle.cs_tool.specs.Headline.{IsExport}
 use Rattle.cs_tool.proofs.Low.{low_accepted}
 use Rattle.cs_tool.proofs.Declared.{one_environment}
 use Rattle.cs_tool.proofs.Texts.{one_document}
+use Rattle.cs_tool.proofs.Lengths.{same_vocabulary}
 use Rattle.cs_tool.proofs.exports.exported.Goals as goal
 
 pub returns-clause-found : goal.returns-clause-found
@@ -33,7 +35,7 @@ returns-clause-found c = λ p sources accepted.
       written = h.0;
       nested = nested;
       read = h.1 (omega (arith, nested));
-      profile = c.in_ok-schema.ensures.profile;
+      profile = subst (λ v. IsSchema v schema) (same_vocabulary c.default_sources_have_no_lengths.ensures p sources c.args.guarded.now accepted) c.in_ok-schema.ensures.profile;
       trimmed = c.text_of_schema.ensures.trimmed;
       refers = (ds, ap (λ root. with_dialect (with_definitions ds root)) made.2.root);
       definitions = made.2.definitions;

@@ -4,13 +4,13 @@ use Rattle.cs_grammar.specs.declared.profile.Profile.{Profile}
 use Rattle.cs_json.specs.ReadAs.{read_as}
 use Rattle.cs_document.specs.Document.{Document}
 use Rattle.cs_package.specs.Environment.{Environment}
-use Rattle.cs_profile.specs.declared.keyword.Vocabulary.TheVariants as vocabularies
 use Rattle.cs_tool.specs.Headline.{IsExport, IsVerdict, IsValidated}
 use Rattle.cs_tool.specs.Agreement.{IsAgreement}
 use Rattle.cs_tool.specs.Ready.{IsReady, ExportHasManyPairs, SchemaHasManyPairs, IsReadyToAgree}
 use Rattle.cs_tool.specs.CallRefusals.{AgreeRefusal}
 use Rattle.cs_tool.specs.Sides.{AreSidesOf}
 use Rattle.cs_tool.specs.Translated.{IsTranslated}
+use Rattle.cs_tool.specs.Vocabularies.{vocabulary_of}
 use Rattle.cs_tool.specs.declared.fault.Fault.{Fault}
 use Rattle.cs_tool.specs.declared.fault.Fault.TheVariants.{OutOfMemory, NotJson, NotInteger, TooManyPairs}
 use Rattle.cs_tool.proofs.Judging.{Refuses, ManyOfBoth, memory_alone, by_text, by_root, by_schema, few_of_agree, verdict, validated}
@@ -30,7 +30,7 @@ module _ (p : Profile) (sources : List (List ℕ)) (root text : List ℕ) where
   only : IsReadyToAgree p sources root text → (e : Fault) → Refuses text (ManyOfBoth p sources root text) e → e ≡ OutOfMemory
   only ready = memory_alone text _ ready.vetted.input.document ready.vetted.input.read (few_of_agree p sources root text ready)
 
-  by_export : {E : Environment} {n : List ℕ} {S : Document} (is : AreSidesOf p sources root E n S) (i r : ℕ) → SchemaHasManyPairs vocabularies.Default is.schema_text text i r → ExportHasManyPairs p sources root text i r
+  by_export : {E : Environment} {n : List ℕ} {S : Document} (is : AreSidesOf p sources root E n S) (i r : ℕ) → SchemaHasManyPairs (vocabulary_of p) is.schema_text text i r → ExportHasManyPairs p sources root text i r
   by_export is i r many = record { schema_text = is.schema_text; exported = is.exported; translated = is.translated; many = many }
 
 pub returns-in_err-doc : goal.returns-in_err-doc
@@ -70,10 +70,10 @@ returns-in_err-is_valid c =
     })
 
 -- both sides answer, and so the same
-agreement : (p : Profile) (sources : List (List ℕ)) (root schema_text text : List ℕ) (a b : Bool) → IsExport p sources root schema_text → IsTranslated p sources root schema_text → IsVerdict p sources root text a → IsValidated vocabularies.Default schema_text text b → IsAgreement p sources root text a
+agreement : (p : Profile) (sources : List (List ℕ)) (root schema_text text : List ℕ) (a b : Bool) → IsExport p sources root schema_text → IsTranslated p sources root schema_text → IsVerdict p sources root text a → IsValidated (vocabulary_of p) schema_text text b → IsAgreement p sources root text a
 agreement p sources root schema_text text a b exported translated verdict validated =
     let same = vet-and-validate-agree p sources root schema_text text a b exported verdict validated in
-    record { verdict = verdict; schema_text = schema_text; exported = exported; translated = translated; validated = subst (IsValidated vocabularies.Default schema_text text) (sym same) validated }
+    record { verdict = verdict; schema_text = schema_text; exported = exported; translated = translated; validated = subst (IsValidated (vocabulary_of p) schema_text text) (sym same) validated }
 
 pub returns-clause-found : goal.returns-clause-found
 returns-clause-found c = λ p ss r is.

@@ -5,7 +5,8 @@ use Rattle.cs_tool.specs.Headline.{IsValidated}
 use Rattle.cs_tool.specs.Ready.{IsReadyToValidate}
 use Rattle.cs_tool.specs.declared.fault.Fault.{Fault}
 use Rattle.cs_tool.specs.declared.fault.Fault.TheVariants.{OutOfMemory}
-use Rattle.cs_widen.specs.Schemas.{bytes_of, vocabulary_of, SchemaStandsForIn, SchemaMeans}
+use Rattle.cs_tool.specs.Vocabularies.{vocabulary_of}
+use Rattle.cs_widen.specs.Schemas.{bytes_of, SchemaStandsForIn, SchemaMeans}
 use Rattle.cs_widen.proofs.schema.validate_in.Goals as goal
 
 pub returns-in-Some-clause-found : goal.returns-in-Some-clause-found

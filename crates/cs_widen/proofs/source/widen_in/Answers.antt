@@ -1,10 +1,12 @@
-use Rattle.std.proofs.Common.{map, string_bytes, sym, ap, subst}
+use Rattle.std.proofs.Common.{◌≡◌, false, map, string_bytes, sym, ap, subst}
 use Rattle.std.proofs.lemmas.Result.{err_from_is_err_and}
 use Rattle.std.specs.List.{AllByRecursion}
 use Rattle.cs_grammar.specs.DefaultForms.{IsDefaultFile}
 use Rattle.cs_grammar.specs.View.{file_view}
 use Rattle.cs_grammar.specs.Written.{IsWrittenFile}
+use Rattle.cs_print.specs.LaidOut.{IsLaidOut}
 use Rattle.cs_print.specs.Printed.{IsPrinted}
+use Rattle.cs_print.specs.Sizes.{have_sizes}
 use Rattle.cs_tool.specs.Conversions.{of_resolve, of_guard}
 use Rattle.cs_tool.specs.Given.{bytes_in}
 use Rattle.cs_tool.proofs.Declared.{are_package, is_guarded}
@@ -59,7 +61,8 @@ returns-clause-found c =
     let s = string_bytes c.in_ok-source.source in
     let gs = map file_view c.in_ok-meant.meant.items in
     let m = c.in_ok-meant.ensures.found in
-    let printed = subst (λ xs. IsPrinted s (map file_view xs)) c.deref.ensures.value c.in_ok-source.ensures in
+    let laid_out = subst (λ xs. IsLaidOut s (map file_view xs)) c.deref.ensures.value c.in_ok-source.ensures.laid_out in
+    let printed = subst (λ xs. have_sizes (map file_view xs) ≡ false → IsPrinted s (map file_view xs)) c.deref.ensures.value c.in_ok-source.ensures.printed in
     record {
       environment = c.in_ok-resolve_written.field-0;
       accepted = record {
@@ -71,5 +74,6 @@ returns-clause-found c =
         one_package = c.in_ok-resolve_written.ensures.found;
         guarded = c.in_ok-package.ensures.guarded;
       };
-      read = c.printed_sources_are_read.ensures s gs printed (meant_low c.args.profile (bytes_in c.args.sources.now) m.files gs m.spelled m.stand_for);
+      laid_out = laid_out;
+      read = λ none. c.printed_sources_are_read.ensures s gs (printed none) (meant_low c.args.profile (bytes_in c.args.sources.now) m.files gs m.spelled m.stand_for);
     }

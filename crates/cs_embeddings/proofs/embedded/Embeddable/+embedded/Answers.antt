@@ -149,6 +149,13 @@ can_embed-returns-in-Top-13 t c ds most told tells low =
     let less : left ≤ most = omega arith in
     stepped ds c.args.steps left (expr_view c.args.expr.now) false one (search (rules, Exprs.the_lemmas))
 
+pub can_embed-returns-in-Top-14 : goal.can_embed-returns-in-Top-14
+can_embed-returns-in-Top-14 t c ds most told tells low =
+    let left = c.in-Some.left in
+    let one : c.args.steps ≡ suc left = omega (arith, c.in-Some.ensures) in
+    let less : left ≤ most = omega arith in
+    stepped ds c.args.steps left (expr_view c.args.expr.now) false one (search (rules, Exprs.the_lemmas))
+
 pub can_embed_all-returns-then-not-can_embed : goal.can_embed_all-returns-then-not-can_embed
 can_embed_all-returns-then-not-can_embed t c ds most told tells low =
     one_ill (λ xs. all_embedded (can_be_embedded ds c.args.steps) (exprs_view xs)) (λ e. can_be_embedded ds c.args.steps (expr_view e)) (λ e es. refl) c.args.exprs.now c.loop-expr.expr-index (c.loop-expr.invariant ds most told tells low)

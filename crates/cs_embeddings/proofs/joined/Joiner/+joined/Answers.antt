@@ -10,7 +10,7 @@ use Rattle.cs_grammar.specs.declared.ast.Expr as Exprs
 use Rattle.cs_grammar.specs.declared.ast.Wide as Wides
 use Rattle.cs_embeddings.proofs.WellAlternatives.{alternatives_embed_well, united_embed_well}
 use Rattle.cs_embeddings.proofs.BroughtValues.{brought_unmade_one, brought_made_one, value_well, gathered_as, same_field}
-use Rattle.cs_embeddings.proofs.JoinedForms.{inner, IsUnmade, IsMadeOf, united_can, united_unmade, united_makes, and_unmade, or_unmade, and_made, or_made, beside_unmade, beside_made, front_unmade, end_unmade, list_made, marked_unmade, marked_made}
+use Rattle.cs_embeddings.proofs.JoinedForms.{inner, IsUnmade, IsMadeOf, united_can, united_unmade, united_makes, and_unmade, or_unmade, and_made, or_made, beside_unmade, beside_made, front_unmade, end_unmade, list_made, marked_unmade, marked_made, paren_made}
 use Rattle.cs_embeddings.proofs.JoinedParts.{standing_well, own_operand, operand_clashes, operands_made, operands_unmade, IsWellExpr, exprs_well, of_map, own, own_clashes, each_made, each_unmade, brought_seen, brought_clashes, brought_made, brought_unmade, own_literal, literal_clashes, literals_made, literals_unmade}
 use Rattle.cs_embeddings.proofs.Literals.{bottom_view, too_much, MakesLiteral, no_alternative, sole, whole_several, kept_too_high, kept_unmade, kept_made}
 use Rattle.cs_embeddings.proofs.Marked.{no_mark, falls}
@@ -59,6 +59,20 @@ joined-returns-in_ok-joined_each-in-Or t c ds n tells well embeds deep =
     or_made ds n c.args.room c.in_ok-inside-in-Or.field-0 c.args.nodes.now c.inside.new.nodes c.in_ok-inside-in-Or.ensures deep
     (expr_view c.args.expr.now) (exprs_view c.deref-in-Or.result.now) embeds c.is_whole-inside.result c.is_whole-inside.ensures
     c.joined_each.new.nodes (exprs_view v.items) (expr_view (Exprs.Or v)) (c.in_ok-joined_each-in-Or.ensures ds n tells well) is (view-Or v)
+
+pub joined-returns-in_ok-new-in-Paren : goal.joined-returns-in_ok-new-in-Paren
+joined-returns-in_ok-new-in-Paren t c ds n tells well embeds deep =
+    let b = c.in-Paren.kept in let room = c.args.room in let r = c.is_whole.result in
+    let nodes = c.args.nodes.now in let rest = c.joined.new.nodes in
+    let x = c.in_ok-kept-in-Paren.kept in let v = c.in_ok-new-in-Paren.field-0 in
+    let is = ap expr_view c.in-Paren.is ∙ view-Paren b in
+    let boxed : v.value ≡ x = search (rules, c.in_ok-new-in-Paren.ensures.ok) in
+    let inside = subst (λ w. embeds_well (inner ds n) w ≡ true) is embeds in
+    subst (IsMadeOf ds n room nodes rest (expr_view (Exprs.Paren v))) (sym is)
+    (paren_made ds n room c.in_ok-below-in-Paren.field-0 r c.in_ok-below-in-Paren.ensures c.is_whole.ensures deep (expr_view b.value) nodes rest (expr_view x)
+    (expr_view (Exprs.Paren v)) (view-Paren v ∙ ap (λ y. T.paren (expr_view y)) boxed)
+    (subst (λ w. embeds_well (inner ds n) w ≡ true → r.levels ≤ n → IsMadeOf ds n r nodes rest (expr_view x) w) (ap expr_view c.deref-in-Paren.ensures)
+    (c.in_ok-kept-in-Paren.ensures ds n tells well) inside))
 
 pub joined-returns-in-List : goal.joined-returns-in-List
 joined-returns-in-List t c ds n tells well embeds deep =

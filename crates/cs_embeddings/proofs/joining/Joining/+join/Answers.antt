@@ -19,7 +19,7 @@ use Rattle.cs_embeddings.proofs.NarrowedSteps.{next_can}
 use Rattle.cs_embeddings.proofs.Walks.{declaration_well, declaration_parts}
 use Rattle.cs_embeddings.proofs.Weights.{alternatives_grow}
 use Rattle.cs_embeddings.proofs.joining.Joining.+join.Goals as goal
-use Rattle.cs_embeddings.proofs.joining.Joining.+join.Goals.{join-in-Wide+in-Marked-1, join-in-Top-1, join-in-Bottom-1, join-in-Null-1, join-in-Bool-1, join-in-Int-1, join-in-Text-1, join-in-Name-1, join-in-Bound-1, join-in-NotInt-1, join-in-NotText-1, join-in-NotNull-1, join-in-List-1}
+use Rattle.cs_embeddings.proofs.joining.Joining.+join.Goals.{join-in-Wide+in-Marked-1, join-in-Top-1, join-in-Bottom-1, join-in-Null-1, join-in-Bool-1, join-in-Int-1, join-in-Text-1, join-in-Name-1, join-in-Bound-1, join-in-NotInt-1, join-in-NotText-1, join-in-NotNull-1, join-in-Size-1, join-in-List-1}
 use Rattle.cs_embeddings.proofs.joining.Joining.+join.Goals.{join_declarations-in-Field+in_ok-found-in-Field, join_declarations-in-Embedded+in_ok-found-in-Embedded, join_declarations-in-Conditional}
 
 -- ---- an expression
@@ -44,6 +44,7 @@ join-returns-in-Top t c ds tells can =
       | join-in-NotInt-1 w ↦ search (rules, Exprs.the_lemmas)
       | join-in-NotText-1 w ↦ search (rules, Exprs.the_lemmas)
       | join-in-NotNull-1 w ↦ search (rules, Exprs.the_lemmas)
+      | join-in-Size-1 w ↦ search (rules, Exprs.the_lemmas)
       | join-in-List-1 w ↦ search (rules, Exprs.the_lemmas)
     ] in
     absurd (no_form ds c.args.steps (expr_view c.args.expr.now) no can)

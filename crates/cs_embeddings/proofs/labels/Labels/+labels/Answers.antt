@@ -178,6 +178,11 @@ add-returns-in-Top-13 t c ds told row can =
     adds_nothing ds c.args.steps c.in-Some.left (expr_view c.args.expr.now) c.args.numbers.now c.args.row.now.items (omega (arith, c.in-Some.ensures))
     (λ s. search (rules, Exprs.the_lemmas)) row
 
+pub add-returns-in-Top-14 : goal.add-returns-in-Top-14
+add-returns-in-Top-14 t c ds told row can =
+    adds_nothing ds c.args.steps c.in-Some.left (expr_view c.args.expr.now) c.args.numbers.now c.args.row.now.items (omega (arith, c.in-Some.ensures))
+    (λ s. search (rules, Exprs.the_lemmas)) row
+
 -- ---- parts one after another
 
 pub add_all-loop-operand-init : goal.add_all-loop-operand-init

@@ -175,3 +175,10 @@ joins_well-returns-in-Top-14 t c ds told can =
     let one : c.args.steps ≡ suc left = omega (arith, c.in-Some.ensures) in
     let all : true ≡ joins_step ds left (expr_view c.args.expr.now) = search (rules, Exprs.the_lemmas) in
     all ∙ joins_stepped ds c.args.steps left (expr_view c.args.expr.now) one
+
+pub joins_well-returns-in-Top-15 : goal.joins_well-returns-in-Top-15
+joins_well-returns-in-Top-15 t c ds told can =
+    let left = c.in-Some.left in
+    let one : c.args.steps ≡ suc left = omega (arith, c.in-Some.ensures) in
+    let all : true ≡ joins_step ds left (expr_view c.args.expr.now) = search (rules, Exprs.the_lemmas) in
+    all ∙ joins_stepped ds c.args.steps left (expr_view c.args.expr.now) one

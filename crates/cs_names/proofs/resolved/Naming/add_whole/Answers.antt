@@ -1,4 +1,4 @@
-use Rattle.std.proofs.Common.{◌≡◌, List, [], ◌∷◌, ◌++◌, map, sym, ap, ap₂, ◌∙◌, append_assoc, string_bytes}
+use Rattle.std.proofs.Common.{◌≡◌, List, [], ◌∷◌, ◌++◌, map, ap, ◌∙◌, append_assoc, string_bytes}
 use Rattle.cs_grammar.specs.Tree.{DefinitionTree, definition}
 use Rattle.cs_grammar.specs.View.{definition_view, expr_view}
 use Rattle.cs_names.specs.Checks.{TellsLifts, TellScopes}

@@ -1,8 +1,8 @@
 use Rattle.std.proofs.Common.{◌≡◌, map, sym, ap, ap₂, subst, ◌∙◌, IfOk}
 use Rattle.std.proofs.lemmas.List.{take_all}
-use Rattle.cs_grammar.specs.Tree.{conjunction, paren, struct, list, wide, marked, merged, shut}
-use Rattle.cs_grammar.specs.View.{expr_view, exprs_view, trees_of, fields_of, fields_view, declarations_of, wide_view, field_view, declaration_view, declarations_view, condition_view, field_seen, embedding_seen, conditional_seen}
-use Rattle.cs_grammar.proofs.Views.{view-And, view-Paren, view-Struct, view-List, view-Wide, view-Marked, view-Merged, view-Shut, view-declared-field, view-embedded, view-conditional}
+use Rattle.cs_grammar.specs.Tree.{reference, conjunction, paren, struct, list, wide, marked, merged, shut}
+use Rattle.cs_grammar.specs.View.{expr_view, exprs_view, trees_of, fields_of, fields_view, declarations_of, wide_view, field_view, declaration_view, declarations_view, selector_view, condition_view, field_seen, embedding_seen, conditional_seen}
+use Rattle.cs_grammar.proofs.Views.{view-Reference, view-And, view-Paren, view-Struct, view-List, view-Wide, view-Marked, view-Merged, view-Shut, view-Selected, view-declared-field, view-embedded, view-conditional}
 use Rattle.cs_plain.specs.Selecting as Spec
 use Rattle.cs_plain.proofs.Walks.{map_pushed}
 use Rattle.cs_selectors.specs.Checks.{referring_field_seen, referring_seen, referring_wide}
@@ -65,6 +65,13 @@ referring_form-returns-in_ok-declarations-in-Merged t c by tells =
     let made = c.in_ok-declarations-in-Merged.ensures by tells ∙ ap (λ ds. Spec.referring_declarations by (declarations_view ds)) c.deref-in-Merged.ensures.value in
     let is = ap (referring_wide by) (ap wide_view c.in-Merged.is ∙ view-Merged o c.in-Merged.declarations opened) in
     view-Wide _ ∙ ap wide (view-Merged o c.in_ok-declarations-in-Merged.declarations opened) ∙ ap (λ ds. wide (merged o ds opened)) made ∙ sym is
+
+pub referring_form-returns-in_ok-text-in-Selected : goal.referring_form-returns-in_ok-text-in-Selected
+referring_form-returns-in_ok-text-in-Selected t c by tells =
+    let o = c.in-Selected.at in
+    let is = ap (referring_wide by) (ap wide_view c.in-Selected.is ∙ view-Selected o c.in-Selected.name c.in-Selected.labels) in
+    let made = c.in_ok-text-in-Selected.ensures by tells ∙ ap₂ (λ s ls. by s (map selector_view ls)) c.deref-in-Selected.ensures c.deref-in-Selected-2.ensures.value in
+    view-Reference c.in_ok-text-in-Selected.text o ∙ ap (λ s. reference s o) made ∙ sym is
 
 -- ---- lists
 

@@ -1,0 +1,134 @@
+// Whether files have imports, or calls.
+ghost use Rattle.std.specs.Prelude.{◌≡◌, map};
+ghost use Rattle.std.specs.List.{list_any};
+ghost use Rattle.cs_grammar.specs.Tree.{NameTree, body};
+ghost use Rattle.cs_grammar.specs.View.{expr_view, exprs_view, fields_view, declaration_view, declarations_view, end_view, wide_view, definition_view, name_view, file_view};
+ghost use Rattle.cs_imports.specs.Calls as Spec;
+ghost use Rattle.cs_imports.specs.Calls.{has_import, wide_has, some_has, fields_have, declarations_have, end_has, file_has};
+ghost use Rattle.cs_imports.specs.Checks.{seen_has};
+
+use cs_grammar::{Declaration, Definition, Expr, Field, File, ListEnd, Name, Wide, atom};
+
+/// Whether files import a package, or call a function of one, at any depth.
+pub fn have_imports(files: &[File]) -> bool
+    ensures { result ≡ Spec.have_imports (map file_view files.now) }
+{
+    for file in files {
+        if file_has(file) {
+            return true;
+        }
+    }
+    false
+}
+
+fn file_has(file: &File) -> bool
+    ensures { result ≡ file_has (file_view file.now) }
+{
+    names_have(&file.names) || definitions_have(&file.definitions)
+}
+
+fn names_have(names: &[Name]) -> bool
+    ensures { result ≡ list_any (λ (n : NameTree). has_import n.value) (map name_view names.now) }
+{
+    for name in names {
+        if has_import(&name.value) {
+            return true;
+        }
+    }
+    false
+}
+
+fn definitions_have(definitions: &[Definition]) -> bool
+    ensures { result ≡ list_any (λ d. has_import (body d)) (map definition_view definitions.now) }
+{
+    for definition in definitions {
+        if has_import(&definition.body) {
+            return true;
+        }
+    }
+    false
+}
+
+#[cycle(has)]
+fn has_import(expr: &Expr) -> bool
+    ensures { result ≡ has_import (expr_view expr.now) }
+{
+    match expr {
+        Expr::And(operands) | Expr::Or(operands) => some_has(operands),
+        Expr::Paren(inside) => has_import(inside),
+        Expr::Struct { fields, .. } => fields_have(fields),
+        Expr::List { front, end } => some_has(front) || end_has(end),
+        Expr::Wide(form) => wide_has(form),
+        atom!() | Expr::Name { .. } | Expr::Reference { .. } => false,
+    }
+}
+
+#[cycle(has)]
+fn wide_has(form: &Wide) -> bool
+    ensures { result ≡ wide_has (wide_view form.now) }
+{
+    match form {
+        Wide::Marked { value, .. } | Wide::Shut { value, .. } => has_import(value),
+        Wide::Merged { declarations, .. } => declarations_have(declarations),
+        Wide::Selected { .. } => false,
+        Wide::Called { .. } | Wide::Imported { .. } => true,
+    }
+}
+
+#[cycle(has)]
+fn some_has(exprs: &[Expr]) -> bool
+    ensures { result ≡ some_has (exprs_view exprs.now) }
+{
+    for expr in exprs {
+        if has_import(expr) {
+            return true;
+        }
+    }
+    false
+}
+
+#[cycle(has)]
+fn fields_have(fields: &[Field]) -> bool
+    ensures { result ≡ fields_have (fields_view fields.now) }
+{
+    for field in fields {
+        if has_import(&field.value) {
+            return true;
+        }
+    }
+    false
+}
+
+#[cycle(has)]
+fn declarations_have(declarations: &[Declaration]) -> bool
+    ensures { result ≡ declarations_have (declarations_view declarations.now) }
+{
+    for declaration in declarations {
+        if declaration_has(declaration) {
+            return true;
+        }
+    }
+    false
+}
+
+#[cycle(has)]
+fn declaration_has(declaration: &Declaration) -> bool
+    ensures { result ≡ seen_has (declaration_view declaration.now) }
+{
+    match declaration {
+        Declaration::Field(field) => has_import(&field.value),
+        Declaration::Embedded { value, .. } | Declaration::Conditional { value, .. } => {
+            has_import(value)
+        }
+    }
+}
+
+#[cycle(has)]
+fn end_has(end: &ListEnd) -> bool
+    ensures { result ≡ end_has (end_view end.now) }
+{
+    match end {
+        ListEnd::Closed | ListEnd::Any => false,
+        ListEnd::Each(each) => has_import(each),
+    }
+}
